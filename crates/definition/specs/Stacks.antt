@@ -1,0 +1,161 @@
+-- Section 3: the two stacks and what each ordinary opcode does to them, over items of any type, so that the marker
+-- (Walk) and a replay (Replay) share it: "A step does what section 3 says with real bytes" (Section 5).
+use mathlib.Core.Bool.{Bool}
+use mathlib.Core.List.{List, [], _∷_, _++_}
+use mathlib.Core.Option.{Option, none, some}
+use Prim.Native.Nat.{ℕ, _+_, _-_}
+use lib.Dec.{leb, eqb}
+use lib.ListN.{length, take, drop}
+use Rattle.definition.specs.Basics.{Bytes, pick}
+use Rattle.definition.specs.Decoding.{Instruction, serialize, plus, Index, notKnown, noNumber, negative, index, indexOf}
+use Rattle.definition.specs.Classes.{Class, Ordinary, unmodelled, push, nothing, TOALT, FROMALT, DEPTH, SIZE, NIP, TUCK, PICK, ROLL, ZK, copies, rotates, drops, makes, classOf}
+use Rattle.definition.specs.Refusals.{Refusal, stacksFull, mainDry, altDry, badIndex, badTag, isUnmodelled}
+
+-- what the marker and a replay go by: the class of each opcode, and the limit of both stacks together
+pub record Rules : Type 0 where
+  pub classOf : ℕ → Class
+  pub limit : ℕ
+
+-- the classes of Section 2, and "Main and alt hold at most 244 items together"
+abbrev pub builtIn : Rules
+builtIn = record { classOf = classOf; limit = 244 }
+
+-- a stack is a list, its top first
+pub record Stacks (A : Type 0) : Type 0 where
+  pub main : List A
+  pub alt : List A
+
+-- "each stack operation yields the changed stacks or a refusal"
+pub data Outcome (A : Type 0) : Type 0 where
+  done : Stacks A → Outcome A
+  refused : Refusal → Outcome A
+
+-- what items can do
+pub record Items (A : Type 0) : Type 0 where
+  -- the item of these bytes
+  pub literal : Bytes → A
+  -- what is known of an item's bytes
+  pub bytes : A → Option Bytes
+  -- the result of a plain class
+  pub result : A
+
+-- "ZK pops a tag, one exact byte": 20 or 21
+pub data Tag : Type 0 where
+  noTag groth16 r0Succinct : Tag
+
+abbrev pub tagOf : Option Bytes → Tag
+tagOf none = noTag
+tagOf (some []) = noTag
+tagOf (some (b ∷ [])) = pick (eqb b 0x20) groth16 (pick (eqb b 0x21) r0Succinct noTag)
+tagOf (some (b ∷ c ∷ l)) = noTag
+
+module _ {A : Type 0} where
+  abbrev pub total : Stacks A → ℕ
+  total s = length (s .main) + length (s .alt)
+
+  -- the stacks with another main
+  abbrev pub withMain : Stacks A → List A → Stacks A
+  withMain s l = record { main = l; alt = s .alt }
+
+  -- the outcome, where main has k items
+  abbrev pub needs : ℕ → Stacks A → Outcome A → Outcome A
+  needs k s outcome = pick (leb k (length (s .main))) outcome (refused (mainDry k (length (s .main))))
+
+  -- the outcome, where there is room for k items more
+  abbrev pub room : ℕ → ℕ → Stacks A → Outcome A → Outcome A
+  room limit k s outcome = pick (leb (total s + k) limit) outcome (refused (stacksFull (total s + k) limit))
+
+  -- one operation after another
+  abbrev pub andThen : Outcome A → (Stacks A → Outcome A) → Outcome A
+  andThen (done s) next = next s
+  andThen (refused r) next = refused r
+
+  unfoldable pub pushItem : ℕ → A → Stacks A → Outcome A
+  pushItem limit x s = room limit 1 s (done (withMain s (x ∷ s .main)))
+
+  -- needs 1, and goes on with the top and the stacks without it
+  abbrev pub popFrom : List A → List A → (A → Stacks A → Outcome A) → Outcome A
+  popFrom [] alt next = refused (mainDry 1 0)
+  popFrom (x ∷ l) alt next = next x (record { main = l; alt = alt })
+
+  abbrev pub pop : Stacks A → (A → Stacks A → Outcome A) → Outcome A
+  pop s next = popFrom (s .main) (s .alt) next
+
+  unfoldable pub dropItems : ℕ → Stacks A → Outcome A
+  dropItems k s = needs k s (done (withMain s (drop k (s .main))))
+
+  -- "copy (depth, count): needs depth items, appends the lowest count of them"
+  unfoldable pub copyItems : ℕ → ℕ → ℕ → Stacks A → Outcome A
+  copyItems limit depth count s =
+      needs depth s (room limit count s (done (withMain s (drop (depth - count) (take depth (s .main)) ++ s .main))))
+
+  -- "Rotation: needs count, puts the lowest shift of them on top"
+  unfoldable pub rotateItems : ℕ → ℕ → Stacks A → Outcome A
+  rotateItems count shift s =
+      needs count s (done (withMain s (drop (count - shift) (take count (s .main)) ++ take (count - shift) (s .main) ++ drop count (s .main))))
+
+  -- "TUCK needs 1, then 2, then room; puts a copy of the top under the top two"
+  unfoldable pub tuckTop : ℕ → Stacks A → Outcome A
+  tuckTop limit s =
+      needs 1 s (needs 2 s (room limit 1 s (done (withMain s (take 2 (s .main) ++ take 1 (s .main) ++ drop 2 (s .main))))))
+
+  -- "NIP removes the second, needs 2"
+  unfoldable pub nipSecond : Stacks A → Outcome A
+  nipSecond s = needs 2 s (done (withMain s (take 1 (s .main) ++ drop 2 (s .main))))
+
+  -- "Alt transfers need no room"
+  unfoldable pub moveToAlt : Stacks A → Outcome A
+  moveToAlt s = needs 1 s (done (record { main = drop 1 (s .main); alt = take 1 (s .main) ++ s .alt }))
+
+  unfoldable pub moveFromAlt : Stacks A → Outcome A
+  moveFromAlt s =
+      pick (leb 1 (length (s .alt))) (done (record { main = take 1 (s .alt) ++ s .main; alt = drop 1 (s .alt) })) (refused altDry)
+
+module _ {A : Type 0} (I : Items A) where
+  -- DEPTH, SIZE and ZK push a number
+  abbrev pub numberItem : ℕ → A
+  numberItem n = I .literal (serialize (plus n))
+
+  -- "pushes the top's length if exact, else unknown"
+  abbrev pub sizeItem : Option Bytes → A
+  sizeItem none = I .result
+  sizeItem (some l) = numberItem (length l)
+
+  -- an index "readable, not negative"
+  abbrev pub readable : Index → (ℕ → Outcome A) → Outcome A
+  readable notKnown next = refused badIndex
+  readable noNumber next = refused badIndex
+  readable negative next = refused badIndex
+  readable (index n) next = next n
+
+  abbrev pub popIndex : Stacks A → (ℕ → Stacks A → Outcome A) → Outcome A
+  popIndex s next = pop s (λ x t. readable (indexOf (I .bytes x)) (λ n. next n t))
+
+  -- "It pushes 1", after dropping this many
+  abbrev pub zkDrop : ℕ → ℕ → Stacks A → Outcome A
+  zkDrop limit n s = andThen (dropItems n s) (pushItem limit (numberItem 1))
+
+  -- "20 pops key, proof and a count read as an index, one by one, then drops that many; 21 drops 8"
+  abbrev pub zkBy : ℕ → Tag → Stacks A → Outcome A
+  zkBy limit noTag s = refused badTag
+  zkBy limit groth16 s = pop s (λ key t. pop t (λ proof u. popIndex u (λ n v. zkDrop limit n v)))
+  zkBy limit r0Succinct s = zkDrop limit 8 s
+
+  -- what an instruction of an ordinary class does
+  unfoldable pub step : Rules → Instruction → Ordinary → Stacks A → Outcome A
+  step R i unmodelled s = refused (isUnmodelled (i .opcode))
+  step R i push s = pushItem (R .limit) (I .literal (i .literal)) s
+  step R i nothing s = done s
+  step R i TOALT s = moveToAlt s
+  step R i FROMALT s = moveFromAlt s
+  step R i DEPTH s = pushItem (R .limit) (numberItem (length (s .main))) s
+  step R i SIZE s = pop s (λ x t. pushItem (R .limit) (sizeItem (I .bytes x)) s)
+  step R i NIP s = nipSecond s
+  step R i TUCK s = tuckTop (R .limit) s
+  step R i PICK s = popIndex s (λ n t. copyItems (R .limit) (n + 1) 1 t)
+  step R i ROLL s = popIndex s (λ n t. rotateItems (n + 1) 1 t)
+  step R i ZK s = pop s (λ x t. zkBy (R .limit) (tagOf (I .bytes x)) t)
+  step R i (copies depth count) s = copyItems (R .limit) depth count s
+  step R i (rotates count shift) s = rotateItems count shift s
+  step R i (drops k) s = dropItems k s
+  step R i (makes k) s = andThen (dropItems k s) (pushItem (R .limit) (I .result))

@@ -1,0 +1,287 @@
+-- Section 4: the walk, the log and the verdict of an analysis.
+use mathlib.Core.Bool.{Bool, true, false, _&&_}
+use mathlib.Core.List.{List, [], _∷_}
+use mathlib.Core.Option.{Option, none, some}
+use Prim.Native.Nat.{ℕ, _+_, _*_, max}
+use lib.Dec.{ltb, leb, eqb}
+use lib.ListN.{length, set, replicate}
+use Rattle.definition.specs.Basics.{Bytes, pick}
+use Rattle.definition.specs.Decoding.{Instruction, Code, decode, instructions, malformedAt}
+use Rattle.definition.specs.Classes.{Class, Ordinary, IF, NOTIF, ELSE, ENDIF, RETURN, ordinary}
+use Rattle.definition.specs.Refusals.{Refusal, Answer, accepted, refusedAt, longFragment, maxFragment, startTooLarge, isMalformed, shortLog, nesting, maxOpen, armsDiffer, strayElse, secondElse, strayEndif, openIf}
+use Rattle.definition.specs.Stacks.{Rules, Stacks, Outcome, done, refused, Items, total, dropItems, step}
+
+-- What the marker knows of an item
+
+pub data Item : Type 0 where
+  unknown : Item
+  exact : Bytes → Item
+
+-- Section 1, "Data of 0 to 8 bytes is exact, 9 or more unknown"
+abbrev pub known : Bytes → Item
+known l = pick (leb (length l) 8) (exact l) unknown
+
+abbrev pub bytesKnown : Item → Option Bytes
+bytesKnown unknown = none
+bytesKnown (exact l) = some l
+
+-- Section 3, "the plain classes push unknown items"
+abbrev pub marking : Items Item
+marking = record { literal = known; bytes = bytesKnown; result = unknown }
+
+-- Arms and conditionals
+
+-- an arm: dead, or live with its stacks
+pub data Arm : Type 0 where
+  dead : Arm
+  live : Stacks Item → Arm
+
+-- the first arm of an open conditional is still walked, or has ended at its ELSE
+pub data First : Type 0 where
+  walked : First
+  ended : Arm → First
+
+-- an open conditional: where its second arm starts, and its first arm
+pub record Frame : Type 0 where
+  pub start : Arm
+  pub first : First
+
+-- what an instruction does: the arm after it with the open conditionals, innermost first, or a refusal
+pub data Move : Type 0 where
+  moves : Arm → List Frame → Move
+  refuses : Refusal → Move
+
+-- "an item stays exact only if both sides have the same bytes"
+abbrev pub sameBytes : Bytes → Bytes → Bool
+sameBytes [] [] = true
+sameBytes [] (b ∷ m) = false
+sameBytes (a ∷ l) [] = false
+sameBytes (a ∷ l) (b ∷ m) = eqb a b && sameBytes l m
+
+abbrev pub joinItem : Item → Item → Item
+joinItem unknown y = unknown
+joinItem (exact l) unknown = unknown
+joinItem (exact l) (exact m) = pick (sameBytes l m) (exact l) unknown
+
+abbrev pub joinItems : List Item → List Item → List Item
+joinItems [] m = []
+joinItems (x ∷ l) [] = []
+joinItems (x ∷ l) (y ∷ m) = joinItem x y ∷ joinItems l m
+
+-- "heights must be equal"
+unfoldable pub joinStacks : Stacks Item → Stacks Item → Outcome Item
+joinStacks s t =
+    pick (eqb (length (s .main)) (length (t .main)) && eqb (length (s .alt)) (length (t .alt)))
+    (done (record { main = joinItems (s .main) (t .main); alt = joinItems (s .alt) (t .alt) }))
+    (refused armsDiffer)
+
+-- on from an outcome
+abbrev pub moved : Outcome Item → List Frame → Move
+moved (done s) fs = moves (live s) fs
+moved (refused r) fs = refuses r
+
+-- "ENDIF joins: if one side is dead the other stands"
+abbrev pub join : Arm → Arm → List Frame → Move
+join dead b fs = moves b fs
+join (live s) dead fs = moves (live s) fs
+join (live s) (live t) fs = moved (joinStacks s t) fs
+
+-- a conditional opens: both of its arms start from here
+abbrev pub opens : Arm → List Frame → Move
+opens c fs = moves c (record { start = c; first = walked } ∷ fs)
+
+abbrev pub opened : Outcome Item → List Frame → Move
+opened (done s) fs = opens (live s) fs
+opened (refused r) fs = refuses r
+
+-- "IF and NOTIF pop one item; the second arm, or the empty one if there is no ELSE, starts from there"
+abbrev pub onIf : Arm → List Frame → Move
+onIf dead fs = opens dead fs
+onIf (live s) fs = opened (dropItems 1 s) fs
+
+-- "IF or NOTIF, live or dead, with 24 open"; "at 5 nothing is popped yet"
+abbrev pub conditional : Arm → List Frame → Move
+conditional c fs = pick (ltb (length fs) maxOpen) (onIf c fs) (refuses nesting)
+
+-- at ELSE the first arm, c, has ended, and the second starts where the conditional opened
+abbrev pub onElse : Arm → Arm → First → List Frame → Move
+onElse c start walked fs = moves start (record { start = start; first = ended c } ∷ fs)
+onElse c start (ended a) fs = refuses secondElse
+
+-- at ENDIF the arm c joins the other one: the empty one "if there is no ELSE"
+abbrev pub onEndif : Arm → Arm → First → List Frame → Move
+onEndif c start walked fs = join c start fs
+onEndif c start (ended a) fs = join a c fs
+
+-- one instruction, by its class. "While dead, ordinary opcodes are skipped, unmodelled ones too, and conditionals are
+-- still matched."
+abbrev pub move : Rules → Instruction → Class → Arm → List Frame → Move
+move R i IF c fs = conditional c fs
+move R i NOTIF c fs = conditional c fs
+move R i ELSE c [] = refuses strayElse
+move R i ELSE c (f ∷ fs) = onElse c (f .start) (f .first) fs
+move R i ENDIF c [] = refuses strayEndif
+move R i ENDIF c (f ∷ fs) = onEndif c (f .start) (f .first) fs
+move R i RETURN c fs = moves dead fs
+move R i (ordinary o) dead fs = moves dead fs
+move R i (ordinary o) (live s) fs = moved (step marking R i o s) fs
+
+-- The log
+
+-- "main height, alt height just before it, or 65,535 twice if dead"
+abbrev pub mainHeight : Arm → ℕ
+mainHeight dead = 65535
+mainHeight (live s) = length (s .main)
+
+abbrev pub altHeight : Arm → ℕ
+altHeight dead = 65535
+altHeight (live s) = length (s .alt)
+
+-- "three to an instruction": row k of the log
+unfoldable pub logRow : ℕ → ℕ → Arm → List ℕ → List ℕ
+logRow k offset c log = set (set (set log (3 * k) offset) (3 * k + 1) (mainHeight c)) (3 * k + 2) (altHeight c)
+
+-- The walk
+
+-- where the walk stands
+pub record State : Type 0 where
+  pub arm : Arm
+  pub frames : List Frame
+  -- the offset of the instruction met last
+  pub offset : ℕ
+  pub rows : ℕ
+  pub peak : ℕ
+  pub log : List ℕ
+
+-- an instruction is met: its row is written
+abbrev pub met : Instruction → State → State
+met i s = record {
+  arm = s .arm;
+  frames = s .frames;
+  offset = i .offset;
+  rows = s .rows + 1;
+  peak = s .peak;
+  log = logRow (s .rows) (i .offset) (s .arm) (s .log);
+}
+
+abbrev pub totalOf : Arm → ℕ
+totalOf dead = 0
+totalOf (live s) = total s
+
+-- it leads on to the arm c: "greatest total at the start or after any live instruction"
+abbrev pub onward : Arm → List Frame → State → State
+onward c fs s = record {
+  arm = c;
+  frames = fs;
+  offset = s .offset;
+  rows = s .rows;
+  peak = max (s .peak) (totalOf c);
+  log = s .log;
+}
+
+-- how a walk ends: it was accepted, or refused, where it then stands
+pub data Walked : Type 0 where
+  passed : State → Walked
+  stopped : Refusal → State → Walked
+
+abbrev pub follow : Move → State → (State → Walked) → Walked
+follow (moves c fs) s next = next (onward c fs s)
+follow (refuses r) s next = stopped r s
+
+-- past the last instruction: "open IF, at the last instruction"
+abbrev pub atEnd : List Frame → State → Walked
+atEnd [] s = passed s
+atEnd (f ∷ fs) s = stopped openIf s
+
+unfoldable pub walk : Rules → List Instruction → State → Walked
+walk R [] s = atEnd (s .frames) s
+walk R (i ∷ is) s = follow (move R i (R .classOf (i .opcode)) (s .arm) (s .frames)) (met i s) (λ t. walk R is t)
+
+-- The verdict
+
+-- "The verdict carries number, offset, two figures of 64 bits, rows written, peak and end stacks or none"; a dead arm is none
+pub record Verdict : Type 0 where
+  pub answer : Answer
+  pub rows : ℕ
+  pub peak : ℕ
+  pub end : Arm
+
+-- a verdict, and the lent log afterwards
+pub record Marked : Type 0 where
+  pub verdict : Verdict
+  pub log : List ℕ
+
+-- Section 7, "Refusals carry peak 0 and end none"
+abbrev pub refusedVerdict : ℕ → Refusal → ℕ → Verdict
+refusedVerdict offset r rows = record { answer = refusedAt offset r; rows = rows; peak = 0; end = dead }
+
+-- Section 7, "1 to 4 leave the log as lent and count 0 rows"
+abbrev pub refusedEarly : ℕ → Refusal → List ℕ → Marked
+refusedEarly offset r log = record { verdict = refusedVerdict offset r 0; log = log }
+
+-- Section 7, "5 to 16 leave rows up to and with the refused instruction; acceptance leaves a row for every instruction"
+abbrev pub marked : Walked → Marked
+marked (passed s) = record { verdict = record { answer = accepted; rows = s .rows; peak = s .peak; end = s .arm }; log = s .log }
+marked (stopped r s) = record { verdict = refusedVerdict (s .offset) r (s .rows); log = s .log }
+
+-- the walk's beginning, from any stacks
+abbrev pub begin : Stacks Item → List ℕ → State
+begin s log = record { arm = live s; frames = []; offset = 0; rows = 0; peak = total s; log = log }
+
+-- "fewer than 3 numbers an instruction; needed, lent", then the walk
+abbrev pub walkAll : Rules → List Instruction → Stacks Item → List ℕ → Marked
+walkAll R is s log =
+    pick (leb (3 * length is) (length log)) (marked (walk R is (begin s log))) (refusedEarly 0 (shortLog (3 * length is) (length log)) log)
+
+abbrev pub wellFormed : Rules → Option ℕ → List Instruction → Stacks Item → List ℕ → Marked
+wellFormed R (some offset) is s log = refusedEarly offset isMalformed log
+wellFormed R none is s log = walkAll R is s log
+
+-- the analysis of decoded code, from any stacks
+unfoldable pub analysisOf : Rules → Code → Stacks Item → List ℕ → Marked
+analysisOf R code s log = wellFormed R (malformedAt code) (instructions code) s log
+
+-- so many unknown items on each stack
+abbrev pub unknowns : ℕ → ℕ → Stacks Item
+unknowns main alt = record { main = replicate main unknown; alt = replicate alt unknown }
+
+-- Section 7, "Analysis tests 1, 2, 3, 4, then walks"
+unfoldable pub analysis : Rules → Bytes → ℕ → ℕ → List ℕ → Marked
+analysis R fragment main alt log =
+    pick (ltb maxFragment (length fragment)) (refusedEarly 0 (longFragment (length fragment)) log)
+    (pick (ltb (R .limit) (main + alt)) (refusedEarly 0 (startTooLarge (main + alt) (R .limit)) log)
+    (analysisOf R (decode fragment) (unknowns main alt) log))
+
+-- The bench tally
+
+-- "fragments, accepted, rows, greatest peak, each 32 bits wide"
+pub record Tally : Type 0 where
+  pub fragments : ℕ
+  pub accepts : ℕ
+  pub rows : ℕ
+  pub peak : ℕ
+
+-- the answer, 0 or 22, and the tally afterwards
+pub record Tallied : Type 0 where
+  pub number : ℕ
+  pub tally : Tally
+
+-- the tally with one verdict more, of which `accepts`, 0 or 1, are accepted
+abbrev pub gained : Tally → ℕ → ℕ → ℕ → Tally
+gained t accepts rows peak = record {
+  fragments = t .fragments + 1;
+  accepts = t .accepts + accepts;
+  rows = t .rows + rows;
+  peak = max (t .peak) peak;
+}
+
+-- no sum passes 4,294,967,295
+abbrev pub fits : Tally → Bool
+fits t = leb (t .fragments) 4294967295 && leb (t .accepts) 4294967295 && leb (t .rows) 4294967295
+
+abbrev pub tallied : Tally → Tally → Tallied
+tallied t new = pick (fits new) (record { number = 0; tally = new }) (record { number = 22; tally = t })
+
+-- "gains one verdict a call": its number, its rows and its peak
+unfoldable pub tally : Tally → ℕ → ℕ → ℕ → Tallied
+tally t number rows peak = tallied t (gained t (pick (eqb number 0) 1 0) rows peak)
