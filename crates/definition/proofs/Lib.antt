@@ -1,2 +1,8 @@
 -- What is proved of the definitions.
 pub mod MarkedPapers
+pub mod Related
+pub mod Arms
+pub mod Sound
+pub mod Complete
+pub mod TrueOfEveryReplay
+pub mod Witnesses

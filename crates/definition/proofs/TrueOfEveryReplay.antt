@@ -1,0 +1,238 @@
+-- Demand 3, "True of every replay", proved of the definitions: `trueOfEveryReplay` in the words of document 01, and before it
+-- the general form, for every map of classes, every limit that the log's 16 bits can tell from dead, and every start stacks.
+use mathlib.Core.Bool.{Bool, true, false}
+use mathlib.Core.List.{List, [], _∷_}
+use mathlib.Core.Logic.{_⊎_, inl, inr, ⊎-elim}
+use mathlib.Core.Option.{Option, none, some}
+use mathlib.Core.Path.{_≡_, refl, sym, ap, subst, _∙_}
+use Prim.Native.Nat.{ℕ, zero, suc, _+_, _*_, _≤_, _<_}
+use native.Mathlib.Omega.{arith}
+use borrow.Author.Tests.{leb-true, ltb-false}
+use lib.Dec.{ltb, leb}
+use lib.ListN.{length, getD, drop, replicate, length-drop, length-replicate}
+use Rattle.definition.specs.Basics.{Bytes, pick}
+use Rattle.definition.specs.Decoding.{Instruction, Code, decode, instructions, malformedAt}
+use Rattle.definition.specs.Refusals.{Refusal, isMalformed, nesting, altDry, badIndex, badTag, armsDiffer, strayElse, secondElse, strayEndif, openIf, badHeader, tallyFull, longFragment, isUnmodelled, opcodeCount, scriptSize, longPaper, startTooLarge, shortLog, stacksFull, mainDry, dispatchTooLarge, maxFragment, refusedAt}
+use Rattle.definition.specs.Stacks.{Rules, builtIn, Stacks, total}
+use Rattle.definition.specs.Walk.{Item, unknown, Arm, dead, live, mainHeight, altHeight, State, totalOf, Walked, passed, stopped, walk, Marked, refusedEarly, marked, begin, wellFormed, analysisOf, unknowns, analysis}
+use Rattle.definition.specs.Replay.{Replay, running, Trace, reaches, offEnd, returned, faulted, replay, trace, Reaches, RunsOff, HasTotal, ShowsArm, AreStrings, ReplayOf, LoggedDead, Demand3}
+use Rattle.definition.proofs.Related.{pairedStacks, shownStacks, paired-length, paired-total}
+use Rattle.definition.proofs.Arms.{Accepts, armAt, Alive, Row, Tops, accepts, end-at, row-at, peak-over, peak-at}
+use Rattle.definition.proofs.Sound.{LiveAs, Good, sound, good-faults, good-reaches, good-runsOff, good-total, stays-within}
+use Rattle.definition.proofs.Complete.{stringsFor, ExactBytes, comes}
+
+-- A live arm
+
+live-heights : (c : Arm) (u : Stacks Bytes) → LiveAs c u → (mainHeight c ≡ length (u .main)) × (altHeight c ≡ length (u .alt)) × (totalOf c ≡ total u)
+live-heights dead u h = absurd h
+live-heights (live s) u h = (paired-length (h .main), paired-length (h .alt), paired-total h)
+
+live-shows : (c : Arm) (u : Stacks Bytes) → LiveAs c u → ShowsArm c u
+live-shows dead u h = h
+live-shows (live s) u h = shownStacks h
+
+dead-or-alive : (c : Arm) → (c ≡ dead) ⊎ (Alive c)
+dead-or-alive dead = inl refl
+dead-or-alive (live s) = inr tt
+
+logged-alive : (log : List ℕ) (k : ℕ) (c : Arm) → Row log k c → (LoggedDead k log → ⊥) → Alive c
+logged-alive log k dead h n = absurd (n h)
+logged-alive log k (live s) h n = tt
+
+-- A running replay reaches the next instruction, or runs off the end; either way its total is counted.
+
+reaches-total : (k : ℕ) (u : Stacks Bytes) (t : Trace) → Reaches k u t → HasTotal (total u) t
+reaches-total k u (reaches j v t) h = ⊎-elim (λ e. inl (ap (λ (w : Stacks Bytes). total w) (e .1))) (λ l. inr (reaches-total k u t l)) h
+reaches-total k u (offEnd v) h = absurd h
+reaches-total k u (returned v) h = absurd h
+reaches-total k u faulted h = absurd h
+
+module _ (R : Rules) (k : ℕ) (r : Replay) where
+  first-reached : (is : List Instruction) → 0 < length is → Reaches k (r .stacks) (replay R is k running r)
+  unfolding replay
+  first-reached [] h = absurd (omega arith)
+  first-reached (i ∷ is) h = inl (refl, refl)
+
+  nothing-left : (is : List Instruction) → length is ≡ 0 → RunsOff (r .stacks) (replay R is k running r)
+  unfolding replay
+  nothing-left [] h = refl
+  nothing-left (i ∷ is) h = absurd (omega arith)
+
+  total-here : (is : List Instruction) → HasTotal (total (r .stacks)) (replay R is k running r)
+  unfolding replay
+  total-here [] = refl
+  total-here (i ∷ is) = inl refl
+
+-- The general form, of an accepted walk. The log's numbers have 16 bits, and 65,535 says dead: so the limit is below it.
+
+module _ (R : Rules) (is : List Instruction) (s : Stacks Item) (log : List ℕ) (t : State) (small : R .limit < 65535)
+    (start : total s ≤ R .limit) (exacts : ExactBytes s) (enough : 3 * length is ≤ length log) (accepted : walk R is (begin s log) ≡ passed t) where
+  -- the marker's arm at each place, and past the last instruction
+  abbrev A : ℕ → Arm
+  A j = armAt R is (live s) [] j
+
+  moves-on : Accepts R is (live s) []
+  moves-on = accepts R t is (begin s log) accepted
+
+  -- every replay follows these arms
+  follows : (r : Replay) → ReplayOf is s r → Good R A (length is) (trace R is r)
+  follows r p = sound R A (length is) is 0 (live s) [] running r (λ j. let e : 0 + j ≡ j = omega arith in ap A e) (omega arith) moves-on (pairedStacks (p .start))
+
+  -- and the log tells of them
+  row : (k : ℕ) → k < length is → Row (t .log) k (A k)
+  row k h = subst (λ j. Row (t .log) j (A k)) (omega arith) (row-at R t is (begin s log) accepted (omega arith) k h)
+
+  -- withinLimit
+  within : (r : Replay) → ReplayOf is s r → (n : ℕ) → HasTotal n (trace R is r) → n ≤ R .limit
+  within r p n h = stays-within R n is 0 running r (rw (← paired-total (pairedStacks (p .start))) start) h
+
+  -- heights
+  logged : (r : Replay) → ReplayOf is s r → (k : ℕ) (u : Stacks Bytes) → Reaches k u (trace R is r)
+      → (getD (t .log) (3 * k + 1) 0 ≡ length (u .main)) × (getD (t .log) (3 * k + 2) 0 ≡ length (u .alt))
+  logged r p k u h =
+      let g = good-reaches R A (length is) (trace R is r) (follows r p) k u h in
+      let w = row k (g .0) in
+      let e = live-heights (A k) u (g .1) in
+      (w .0 ∙ e .0, w .1 ∙ e .1)
+
+  -- ending
+  end-live : (r : Replay) → ReplayOf is s r → (u : Stacks Bytes) → RunsOff u (trace R is r) → LiveAs (t .arm) u
+  end-live r p u h = subst (λ c. LiveAs c u) (sym (end-at R t is (begin s log) accepted)) (good-runsOff R A (length is) (trace R is r) (follows r p) u h)
+
+  -- liveness: a row that is not dead is reached ..
+  reached : (k : ℕ) → k < length is → (LoggedDead k (t .log) → ⊥) → (r : Replay) × (u : Stacks Bytes) × (ReplayOf is s r) × (Reaches k u (trace R is r))
+  reached k lt h =
+      let c = comes R is s exacts moves-on k (logged-alive (t .log) k (A k) (row k lt) h) (λ z. (u : Stacks Bytes) × (Reaches k u z)) (λ j v z q. (q .0, inr (q .1)))
+      (λ r l. (r .stacks, first-reached R k r (drop k is) (rw length-drop (omega arith)))) in
+      (c .0, c .2 .0, c .1, c .2 .1)
+
+  -- .. and what is reached has a row that is not dead: a height is at most the limit
+  not-dead : (k : ℕ) → ((r : Replay) × (u : Stacks Bytes) × (ReplayOf is s r) × (Reaches k u (trace R is r))) → LoggedDead k (t .log) → ⊥
+  not-dead k q d =
+      let e = logged (q .0) (q .2) k (q .1) (q .3) in
+      let l = within (q .0) (q .2) (total (q .1)) (reaches-total k (q .1) (trace R is (q .0)) (q .3)) in
+      omega (arith, e .0, d .0)
+
+  -- noEnd: where the end is live, some replay runs off the end
+  runs-off : Alive (t .arm) → ((r : Replay) → ReplayOf is s r → (u : Stacks Bytes) → RunsOff u (trace R is r) → ⊥) → ⊥
+  runs-off a f =
+      let c = comes R is s exacts moves-on (length is) (subst Alive (end-at R t is (begin s log) accepted) a) (λ z. (u : Stacks Bytes) × (RunsOff u z)) (λ j v z q. q)
+      (λ r l. (r .stacks, nothing-left R (length is) r (drop (length is) is) (rw length-drop (omega arith)))) in
+      f (c .0) (c .1) (c .2 .0) (c .2 .1)
+
+  -- the peak is the total of some live arm
+  peak-place : (j : ℕ) × (Tops (t .peak) (A j))
+  peak-place = ⊎-elim (λ e. (0, (tt, e))) (λ q. (q .0, q .2)) (peak-at R t is (begin s log) accepted)
+
+  -- peakBounds
+  bounded : (r : Replay) → ReplayOf is s r → (n : ℕ) → HasTotal n (trace R is r) → n ≤ t .peak
+  bounded r p n h =
+      let g = good-total R A (length is) (trace R is r) (follows r p) n h in
+      let e = live-heights (A (g .0)) (g .1) (g .3) in
+      let q = peak-over R t is (begin s log) accepted (omega arith) (g .0) (g .2) in
+      omega (arith, e .2, g .4)
+
+  -- peakReached: a replay comes to that arm's place, and there its total is counted
+  peaked : (r : Replay) × (ReplayOf is s r) × (HasTotal (t .peak) (trace R is r))
+  peaked =
+      let p = peak-place in
+      comes R is s exacts moves-on (p .0) (p .1 .0) (λ z. HasTotal (t .peak) z) (λ j v z q. inr q)
+      (λ r l. subst (λ n. HasTotal n (replay R (drop (p .0) is) (p .0) running r)) (sym (live-heights (A (p .0)) (r .stacks) l .2) ∙ sym (p .1 .1))
+      (total-here R (p .0) r (drop (p .0) is)))
+
+  pub trueOfWalk : Demand3 R is s (marked (passed t))
+  trueOfWalk = record {
+    noFault = λ r p h. good-faults R A (length is) (trace R is r) (follows r p) h;
+    withinLimit = within;
+    heights = logged;
+    ending = λ r p u h. live-shows (t .arm) u (end-live r p u h);
+    liveness = λ k lt. (reached k lt, not-dead k);
+    noEnd = ((λ e r p u h. subst (λ c. LiveAs c u) e (end-live r p u h)), (λ f. ⊎-elim (λ e. e) (λ a. absurd (runs-off a f)) (dead-or-alive (t .arm))));
+    peakBounds = bounded;
+    peakReached = peaked;
+  }
+
+-- The analysis
+
+-- no refusal has the number 0
+refused-number : (at : ℕ) (r : Refusal) → refusedAt at r .number ≡ 0 → ⊥
+refused-number at isMalformed h = omega (arith, h)
+refused-number at nesting h = omega (arith, h)
+refused-number at altDry h = omega (arith, h)
+refused-number at badIndex h = omega (arith, h)
+refused-number at badTag h = omega (arith, h)
+refused-number at armsDiffer h = omega (arith, h)
+refused-number at strayElse h = omega (arith, h)
+refused-number at secondElse h = omega (arith, h)
+refused-number at strayEndif h = omega (arith, h)
+refused-number at openIf h = omega (arith, h)
+refused-number at badHeader h = omega (arith, h)
+refused-number at tallyFull h = omega (arith, h)
+refused-number at (longFragment n) h = omega (arith, h)
+refused-number at (isUnmodelled n) h = omega (arith, h)
+refused-number at (opcodeCount n) h = omega (arith, h)
+refused-number at (scriptSize n) h = omega (arith, h)
+refused-number at (longPaper n) h = omega (arith, h)
+refused-number at (startTooLarge n m) h = omega (arith, h)
+refused-number at (shortLog n m) h = omega (arith, h)
+refused-number at (stacksFull n m) h = omega (arith, h)
+refused-number at (mainDry n m) h = omega (arith, h)
+refused-number at (dispatchTooLarge n m) h = omega (arith, h)
+
+module _ (R : Rules) (small : R .limit < 65535) where
+  -- of decoded code, from any stacks within the limit whose exact items are byte strings
+  pub trueOfCode : (code : Code) (s : Stacks Item) (log : List ℕ) → total s ≤ R .limit → ExactBytes s
+      → analysisOf R code s log .verdict .answer .number ≡ 0 → Demand3 R (instructions code) s (analysisOf R code s log)
+  unfolding analysisOf
+  trueOfCode code s log start exacts h = whole (malformedAt code) h
+    where
+      is : List Instruction
+      is = instructions code
+
+      ended : 3 * length is ≤ length log → (w : Walked) → walk R is (begin s log) ≡ w → marked w .verdict .answer .number ≡ 0 → Demand3 R is s (marked w)
+      ended l (passed t) e h = trueOfWalk R is s log t small start exacts l e
+      ended l (stopped r t) e h = absurd (refused-number (t .offset) r h)
+
+      lent : (b : Bool) → leb (3 * length is) (length log) ≡ b
+          → pick b (marked (walk R is (begin s log))) (refusedEarly 0 (shortLog (3 * length is) (length log)) log) .verdict .answer .number ≡ 0
+          → Demand3 R is s (pick b (marked (walk R is (begin s log))) (refusedEarly 0 (shortLog (3 * length is) (length log)) log))
+      lent true e h = ended (leb-true (3 * length is) (length log) e) (walk R is (begin s log)) refl h
+      lent false e h = absurd (omega (arith, h))
+
+      whole : (m : Option ℕ) → wellFormed R m is s log .verdict .answer .number ≡ 0 → Demand3 R is s (wellFormed R m is s log)
+      whole (some offset) h = absurd (omega (arith, h))
+      whole none h = lent (leb (3 * length is) (length log)) refl h
+
+  unknown-strings : (n : ℕ) → AreStrings (stringsFor (replicate n unknown))
+  unknown-strings zero = tt
+  unknown-strings (suc n) = (tt, unknown-strings n)
+
+  -- of a fragment, from so many unknown items, for any rules with a limit below 65,535
+  pub trueOfAnalysis : (fragment : Bytes) (main alt : ℕ) (log : List ℕ) → analysis R fragment main alt log .verdict .answer .number ≡ 0
+      → Demand3 R (instructions (decode fragment)) (unknowns main alt) (analysis R fragment main alt log)
+  unfolding analysis
+  trueOfAnalysis fragment main alt log h = long (ltb maxFragment (length fragment)) h
+    where
+      is : List Instruction
+      is = instructions (decode fragment)
+
+      large : (b : Bool) → ltb (R .limit) (main + alt) ≡ b
+          → pick b (refusedEarly 0 (startTooLarge (main + alt) (R .limit)) log) (analysisOf R (decode fragment) (unknowns main alt) log) .verdict .answer .number ≡ 0
+          → Demand3 R is (unknowns main alt) (pick b (refusedEarly 0 (startTooLarge (main + alt) (R .limit)) log) (analysisOf R (decode fragment) (unknowns main alt) log))
+      large true e h = absurd (omega (arith, h))
+      large false e h =
+          trueOfCode (decode fragment) (unknowns main alt) log (simp length-replicate (ltb-false (R .limit) (main + alt) e))
+          (record { main = unknown-strings main; alt = unknown-strings alt }) h
+
+      tested : Marked
+      tested = pick (ltb (R .limit) (main + alt)) (refusedEarly 0 (startTooLarge (main + alt) (R .limit)) log) (analysisOf R (decode fragment) (unknowns main alt) log)
+
+      long : (b : Bool) → pick b (refusedEarly 0 (longFragment (length fragment)) log) tested .verdict .answer .number ≡ 0
+          → Demand3 R is (unknowns main alt) (pick b (refusedEarly 0 (longFragment (length fragment)) log) tested)
+      long true h = absurd (omega (arith, h))
+      long false h = large (ltb (R .limit) (main + alt)) refl h
+
+-- Demand 3: of every fragment, start heights and log, if the analysis accepts, what it answers is true of every replay.
+pub trueOfEveryReplay : (fragment : Bytes) (main alt : ℕ) (log : List ℕ) → analysis builtIn fragment main alt log .verdict .answer .number ≡ 0
+    → Demand3 builtIn (instructions (decode fragment)) (unknowns main alt) (analysis builtIn fragment main alt log)
+trueOfEveryReplay fragment main alt log h = trueOfAnalysis builtIn (omega arith) fragment main alt log h
