@@ -115,6 +115,11 @@ module _ (R : Rules) (t : State) where
   keeps (i ∷ is) s h j lt = goes-on i is s h
       (λ c fs e g. keeps is (onward c fs (met i s)) g j (omega arith) ∙ row-before (s .rows) (i .offset) (s .arm) (s .log) j lt)
 
+  -- the log keeps its length
+  pub log-length : (is : List Instruction) (s : State) → walk R is s ≡ passed t → length (t .log) ≡ length (s .log)
+  log-length [] s h = ap (λ (u : State). length (u .log)) (sym (at-end s h .1))
+  log-length (i ∷ is) s h = goes-on i is s h (λ c fs e g. log-length is (onward c fs (met i s)) g ∙ row-length (s .rows) (i .offset) (s .arm) (s .log))
+
   -- each instruction's row is that of the arm before it
   pub row-at : (is : List Instruction) (s : State) → walk R is s ≡ passed t → 3 * (s .rows + length is) ≤ length (s .log)
       → (j : ℕ) → j < length is → Row (t .log) (s .rows + j) (armAt R is (s .arm) (s .frames) j)

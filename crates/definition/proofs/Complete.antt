@@ -13,7 +13,7 @@ use Rattle.definition.specs.Decoding.{Instruction}
 use Rattle.definition.specs.Classes.{Class, IF, NOTIF, ELSE, ENDIF, RETURN, ordinary, Ordinary}
 use Rattle.definition.specs.Refusals.{nesting, maxOpen}
 use Rattle.definition.specs.Stacks.{Rules, Stacks, Outcome, done, refused, dropItems, step}
-use Rattle.definition.specs.Walk.{Item, unknown, exact, marking, Arm, dead, live, First, walked, ended, Frame, Move, moves, refuses, moved, join, opened, onIf, conditional, onElse, onEndif, move}
+use Rattle.definition.specs.Walk.{Item, unknown, exact, marking, Arm, dead, live, First, notEnded, ended, Frame, Move, moves, refuses, moved, join, opened, onIf, conditional, onElse, onEndif, move}
 use Rattle.definition.specs.Replay.{Replay, replaying, resultsAfter, Mode, running, toElse, toEndif, Carried, goesOn, halts, faults, carriedOut, chosen, branches, carry, pastElse, pastEndif, Trace, reaches, traced, replay, trace, ShowsAll, ShowsStacks, AreStrings, ReplayOf}
 use Rattle.definition.proofs.Related.{pairedStacks}
 use Rattle.definition.proofs.Arms.{Goes, Accepts, after, armAt, Alive}
@@ -53,11 +53,11 @@ Route R (i ∷ is) m choices (suc j) = Then (steer (R .classOf (i .opcode)) m ch
 
 -- a replay could be in this mode
 abbrev Opening : First → Arm → Type 0
-Opening walked s = Alive s
+Opening notEnded s = Alive s
 Opening (ended a) s = ⊥
 
 abbrev Closing : First → Type 0
-Closing walked = ⊥
+Closing notEnded = ⊥
 Closing (ended a) = Alive a
 
 abbrev May : Mode → Arm → List Frame → Type 0
@@ -94,7 +94,7 @@ Opener k = ((choices : List Bool) → carried k choices ≡ turn (chosen (getD c
     × ((n : ℕ) → pastElse k n ≡ toElse (suc n)) × ((n : ℕ) → pastEndif k n ≡ toEndif (suc n))
 
 -- the next choice, true or false, leads to the first arm or to the second
-open-back : (k : Class) → Opener k → (c c′ : Arm) (fs : List Frame) → (Alive c′ → Alive c) → BackFrom k c fs c′ (record { start = c′; first = walked } ∷ fs)
+open-back : (k : Class) → Opener k → (c c′ : Arm) (fs : List Frame) → (Alive c′ → Alive c) → BackFrom k c fs c′ (record { start = c′; first = notEnded } ∷ fs)
 open-back k q c c′ fs a running choices h = (running, true ∷ choices, a h, q .0 (true ∷ choices), omega arith)
 open-back k q c c′ fs a (toElse zero) choices h = (running, false ∷ choices, a h, q .0 (false ∷ choices), omega arith)
 open-back k q c c′ fs a (toElse (suc n)) choices h = (toElse n, choices, h, ap (λ m. turn m choices) (q .1 n), omega arith)
@@ -119,7 +119,7 @@ if-back k q c fs = nested (ltb (length fs) maxOpen)
 -- the second arm is reached by a jump; what waits past the ENDIF ran to the ELSE
 else-back : (c : Arm) (f : Frame) (fs : List Frame) (t : First) → f .first ≡ t → Leads (onElse c (f .start) t fs) (BackFrom ELSE c (f ∷ fs))
 else-back c f fs (ended a) e = tt
-else-back c f fs walked e = back
+else-back c f fs notEnded e = back
   where
     back : BackFrom ELSE c (f ∷ fs) (f .start) (record { start = f .start; first = ended c } ∷ fs)
     back running choices h = (toElse 0, choices, rw e h, refl, omega arith)
@@ -143,7 +143,7 @@ joins-back c f fs a b g = leads (join a b fs) (join-leads a b fs)
     leads (refuses x) j = tt
 
 endif-back : (c : Arm) (f : Frame) (fs : List Frame) (t : First) → f .first ≡ t → Leads (onEndif c (f .start) t fs) (BackFrom ENDIF c (f ∷ fs))
-endif-back c f fs walked e = joins-back c f fs c (f .start)
+endif-back c f fs notEnded e = joins-back c f fs c (f .start)
     (λ l choices. ⊎-elim (λ h. (running, choices, h, refl, omega arith)) (λ h. (toElse 0, choices, rw e h, refl, omega arith)) l)
 endif-back c f fs (ended a) e = joins-back c f fs a c
     (λ l choices. ⊎-elim (λ h. (toEndif 0, choices, rw e h, refl, omega arith)) (λ h. (running, choices, h, refl, omega arith)) l)

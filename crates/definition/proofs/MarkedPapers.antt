@@ -1,10 +1,10 @@
 -- Section 8, "Prove these 16 together, each with a log long enough, as a single fact about the definitions": `sixteen`.
 -- Beside it the paper of Section 6, and one whose initialiser is accepted only from the greater parameters.
-use mathlib.Core.List.{List, [], _∷_, _++_, map}
+use mathlib.Core.List.{List, [], _∷_, map}
 use mathlib.Core.Path.{_≡_, refl}
 use Prim.Native.Nat.{ℕ}
 use lib.ListN.{length, replicate}
-use Rattle.definition.specs.Basics.{Bytes, pick}
+use Rattle.definition.specs.Basics.{Bytes}
 use Rattle.definition.specs.Decoding.{front, decode, serialize, deserialize}
 use Rattle.definition.specs.Classes.{classNumber, classOf}
 use Rattle.definition.specs.Stacks.{builtIn, pushItem, dropItems, copyItems, rotateItems, tuckTop, nipSecond, moveToAlt, moveFromAlt, step}
@@ -71,7 +71,7 @@ samplePaper =
 
 -- what is said of a paper: its entry and verdict, and below it each accepted fragment's verdict
 pub paperSaid : PaperMarked → List (List ℕ)
-paperSaid m = (m .paper .entry ∷ written (m .paper .verdict)) ∷ map written (m .fragments)
+paperSaid m = (m .paper .entry ∷ written (m .paper .verdict)) ∷ map written (m .verdicts)
 
 pub sample : (paperSaid (markPaper builtIn samplePaper (replicate 20 9)) ≡ ((0 ∷ accepts 2 []) ∷ accepts 2 (1 ∷ 0 ∷ []) ∷ []))
     × (markPaper builtIn samplePaper (replicate 20 9) .log

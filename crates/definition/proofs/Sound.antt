@@ -14,7 +14,7 @@ use Rattle.definition.specs.Decoding.{Instruction}
 use Rattle.definition.specs.Classes.{Class, IF, NOTIF, ELSE, ENDIF, RETURN, ordinary}
 use Rattle.definition.specs.Refusals.{maxOpen, nesting, armsDiffer}
 use Rattle.definition.specs.Stacks.{Rules, Stacks, Outcome, done, refused, total, dropItems, step}
-use Rattle.definition.specs.Walk.{Item, unknown, exact, marking, Arm, dead, live, First, walked, ended, Frame, Move, moves, refuses, sameBytes, joinItem, joinItems, joinStacks, moved, join, opened, onIf, conditional, onElse, onEndif, move}
+use Rattle.definition.specs.Walk.{Item, unknown, exact, marking, Arm, dead, live, First, notEnded, ended, Frame, Move, moves, refuses, sameBytes, joinItem, joinItems, joinStacks, moved, join, opened, onIf, conditional, onElse, onEndif, move}
 use Rattle.definition.specs.Replay.{Replay, replaying, resultsAfter, Mode, running, toElse, toEndif, Carried, goesOn, halts, faults, carriedOut, chosen, branches, carry, pastElse, pastEndif, Trace, reaches, offEnd, returned, faulted, traced, replay, Reaches, Faults, RunsOff, HasTotal, Shows}
 use Rattle.definition.proofs.Related.{Paired, bottom, above, PairedStacks, Agree, agree, stops, dropItems-agrees, step-agrees, Within, dropItems-within, step-within}
 use Rattle.definition.proofs.Arms.{Goes, Accepts, after, armAt, Alive}
@@ -110,12 +110,12 @@ Waits (suc n) P (f ∷ fs) = Waits n P fs
 
 -- its second arm, still to come, starts with these stacks
 abbrev Opens : Stacks Bytes → First → Arm → Type 0
-Opens u walked s = LiveAs s u
+Opens u notEnded s = LiveAs s u
 Opens u (ended a) s = ⊥
 
 -- its first arm has ended with these stacks
 abbrev Ended : Stacks Bytes → First → Type 0
-Ended u walked = ⊥
+Ended u notEnded = ⊥
 Ended u (ended a) = LiveAs a u
 
 -- A running replay is in the marker's arm; one that jumps waits for the start of a second arm, or past the end of a first
@@ -154,7 +154,7 @@ module _ (R : Rules) (i : Instruction) (r : Replay) where
   nested false mv a h = tt
 
   chosen-next : (b : Bool) {s : Stacks Item} {t : Stacks Bytes} (fs : List Frame) → PairedStacks s t
-      → Inv (chosen b) t (live s) (record { start = live s; first = walked } ∷ fs)
+      → Inv (chosen b) t (live s) (record { start = live s; first = notEnded } ∷ fs)
   chosen-next true fs h = h
   chosen-next false fs h = h
 
@@ -170,28 +170,28 @@ module _ (R : Rules) (i : Instruction) (r : Replay) where
   if-waits m c fs h = nested (ltb (length fs) maxOpen) (onIf c fs) (goesOn m r) (open-waits c)
     where
       opened-waits : (o : Outcome Item) → Next (opened o fs) (goesOn m r)
-      opened-waits (done s) = h (live s) (record { start = live s; first = walked })
+      opened-waits (done s) = h (live s) (record { start = live s; first = notEnded })
       opened-waits (refused x) = tt
 
       open-waits : (c : Arm) → Next (onIf c fs) (goesOn m r)
-      open-waits dead = h dead (record { start = dead; first = walked })
+      open-waits dead = h dead (record { start = dead; first = notEnded })
       open-waits (live s) = opened-waits (dropItems 1 s)
 
   -- ELSE: met in the first arm, jumped to, met in the second arm, and met further in
   else-next : (c s : Arm) (t : First) (fs : List Frame) → LiveAs c (r .stacks) → Next (onElse c s t fs) (goesOn (toEndif 0) r)
-  else-next c s walked fs h = h
+  else-next c s notEnded fs h = h
   else-next c s (ended a) fs h = tt
 
   else-opens : (c s : Arm) (t : First) (fs : List Frame) → Opens (r .stacks) t s → Next (onElse c s t fs) (goesOn running r)
-  else-opens c s walked fs h = h
+  else-opens c s notEnded fs h = h
   else-opens c s (ended a) fs h = tt
 
   else-past : (c s : Arm) (t : First) (fs : List Frame) → Ended (r .stacks) t → Next (onElse c s t fs) (goesOn (toEndif 0) r)
-  else-past c s walked fs h = absurd h
+  else-past c s notEnded fs h = absurd h
   else-past c s (ended a) fs h = tt
 
   else-waits : (m : Mode) (c s : Arm) (t : First) (fs : List Frame) → ((c : Arm) (f : Frame) → Inv m (r .stacks) c (f ∷ fs)) → Next (onElse c s t fs) (goesOn m r)
-  else-waits m c s walked fs h = h s (record { start = s; first = ended c })
+  else-waits m c s notEnded fs h = h s (record { start = s; first = ended c })
   else-waits m c s (ended a) fs h = tt
 
   -- ENDIF
@@ -210,19 +210,19 @@ module _ (R : Rules) (i : Instruction) (r : Replay) where
       leads (refuses x) j = tt
 
   endif-next : (c s : Arm) (t : First) (fs : List Frame) → LiveAs c (r .stacks) → Next (onEndif c s t fs) (goesOn running r)
-  endif-next c s walked fs h = joins-next c s fs (inl h)
+  endif-next c s notEnded fs h = joins-next c s fs (inl h)
   endif-next c s (ended a) fs h = joins-next a c fs (inr h)
 
   endif-opens : (c s : Arm) (t : First) (fs : List Frame) → Opens (r .stacks) t s → Next (onEndif c s t fs) (goesOn running r)
-  endif-opens c s walked fs h = joins-next c s fs (inr h)
+  endif-opens c s notEnded fs h = joins-next c s fs (inr h)
   endif-opens c s (ended a) fs h = absurd h
 
   endif-past : (c s : Arm) (t : First) (fs : List Frame) → Ended (r .stacks) t → Next (onEndif c s t fs) (goesOn running r)
-  endif-past c s walked fs h = absurd h
+  endif-past c s notEnded fs h = absurd h
   endif-past c s (ended a) fs h = joins-next a c fs (inl h)
 
   endif-waits : (m : Mode) (c s : Arm) (t : First) (fs : List Frame) → ((c : Arm) → Inv m (r .stacks) c fs) → Next (onEndif c s t fs) (goesOn m r)
-  endif-waits m c s walked fs h = joins-waits m c s fs h
+  endif-waits m c s notEnded fs h = joins-waits m c s fs h
   endif-waits m c s (ended a) fs h = joins-waits m a c fs h
 
   -- one instruction of any class, in any mode

@@ -1,4 +1,4 @@
--- Demand 3, "True of every replay", proved of the definitions: `trueOfEveryReplay` in the words of document 01, and before it
+-- Demand 3 proved of the definitions: `trueOfEveryReplay` in the words of document 01, and before it
 -- the general form, for every map of classes, every limit that the log's 16 bits can tell from dead, and every start stacks.
 use mathlib.Core.Bool.{Bool, true, false}
 use mathlib.Core.List.{List, [], _∷_}
@@ -9,15 +9,15 @@ use Prim.Native.Nat.{ℕ, zero, suc, _+_, _*_, _≤_, _<_}
 use native.Mathlib.Omega.{arith}
 use borrow.Author.Tests.{leb-true, ltb-false}
 use lib.Dec.{ltb, leb}
-use lib.ListN.{length, getD, drop, replicate, length-drop, length-replicate}
+use lib.ListN.{length, getD, take, drop, replicate, length-drop, length-replicate}
 use Rattle.definition.specs.Basics.{Bytes, pick}
 use Rattle.definition.specs.Decoding.{Instruction, Code, decode, instructions, malformedAt}
-use Rattle.definition.specs.Refusals.{Refusal, isMalformed, nesting, altDry, badIndex, badTag, armsDiffer, strayElse, secondElse, strayEndif, openIf, badHeader, tallyFull, longFragment, isUnmodelled, opcodeCount, scriptSize, longPaper, startTooLarge, shortLog, stacksFull, mainDry, dispatchTooLarge, maxFragment, refusedAt}
+use Rattle.definition.specs.Refusals.{Refusal, malformedFragment, nesting, altDry, badIndex, badTag, armsDiffer, strayElse, secondElse, strayEndif, openIf, badHeader, tallyFull, longFragment, unmodelledOpcode, opcodeCount, scriptSize, longPaper, startTooLarge, shortLog, stacksFull, mainDry, dispatchTooLarge, maxFragment, refusedAt}
 use Rattle.definition.specs.Stacks.{Rules, builtIn, Stacks, total}
-use Rattle.definition.specs.Walk.{Item, unknown, Arm, dead, live, mainHeight, altHeight, State, totalOf, Walked, passed, stopped, walk, Marked, refusedEarly, marked, begin, wellFormed, analysisOf, unknowns, analysis}
-use Rattle.definition.specs.Replay.{Replay, running, Trace, reaches, offEnd, returned, faulted, replay, trace, Reaches, RunsOff, HasTotal, ShowsArm, AreStrings, ReplayOf, LoggedDead, Demand3}
+use Rattle.definition.specs.Walk.{Item, unknown, Arm, dead, live, mainHeight, altHeight, State, totalOf, Walked, passed, stopped, walk, Marked, refusedEarly, marked, begin, tested, analysisOf, unknowns, analysis}
+use Rattle.definition.specs.Replay.{Replay, running, Trace, reaches, offEnd, returned, faulted, replay, trace, Reaches, RunsOff, HasTotal, ShowsArm, AreStrings, ReplayOf, heightsAt, Demand3, TrueOfEveryReplay}
 use Rattle.definition.proofs.Related.{pairedStacks, shownStacks, paired-length, paired-total}
-use Rattle.definition.proofs.Arms.{Accepts, armAt, Alive, Row, Tops, accepts, end-at, row-at, peak-over, peak-at}
+use Rattle.definition.proofs.Arms.{Accepts, armAt, Alive, Row, Tops, accepts, end-at, log-length, row-at, peak-over, peak-at}
 use Rattle.definition.proofs.Sound.{LiveAs, Good, sound, good-faults, good-reaches, good-runsOff, good-total, stays-within}
 use Rattle.definition.proofs.Complete.{stringsFor, ExactBytes, comes}
 
@@ -35,7 +35,26 @@ dead-or-alive : (c : Arm) → (c ≡ dead) ⊎ (Alive c)
 dead-or-alive dead = inl refl
 dead-or-alive (live s) = inr tt
 
-logged-alive : (log : List ℕ) (k : ℕ) (c : Arm) → Row log k c → (LoggedDead k log → ⊥) → Alive c
+-- A row of the log
+
+-- the two heights of a row that is there
+two-at : (l : List ℕ) (j i : ℕ) → i ≡ suc j → i < length l → take 2 (drop j l) ≡ (getD l j 0 ∷ getD l i 0 ∷ [])
+two-at [] j i e h = absurd (omega arith)
+two-at (x ∷ []) zero i e h = absurd (omega arith)
+two-at (x ∷ y ∷ l) zero i e h = rw e
+two-at (x ∷ []) (suc j) i e h = absurd (omega arith)
+two-at (x ∷ y ∷ l) (suc j) i e h = rw e (two-at (y ∷ l) j (suc j) refl (omega arith))
+
+heights-there : (log : List ℕ) (k : ℕ) → 3 * k + 2 < length log → heightsAt k log ≡ (getD log (3 * k + 1) 0 ∷ getD log (3 * k + 2) 0 ∷ [])
+heights-there log k h = two-at log (3 * k + 1) (3 * k + 2) (omega arith) h
+
+two-same : (a b c d : ℕ) → (a ∷ b ∷ []) ≡ (c ∷ d ∷ []) → (a ≡ c) × (b ≡ d)
+two-same a b c d e = (ap (λ (l : List ℕ). getD l 0 0) e, ap (λ (l : List ℕ). getD l 1 0) e)
+
+row-heights : (log : List ℕ) (k : ℕ) (c : Arm) → 3 * k + 2 < length log → Row log k c → heightsAt k log ≡ (mainHeight c ∷ altHeight c ∷ [])
+row-heights log k c h r = rw (heights-there log k h, r .0, r .1)
+
+logged-alive : (log : List ℕ) (k : ℕ) (c : Arm) → heightsAt k log ≡ (mainHeight c ∷ altHeight c ∷ []) → (heightsAt k log ≡ (65535 ∷ 65535 ∷ []) → ⊥) → Alive c
 logged-alive log k dead h n = absurd (n h)
 logged-alive log k (live s) h n = tt
 
@@ -79,8 +98,10 @@ module _ (R : Rules) (is : List Instruction) (s : Stacks Item) (log : List ℕ) 
   follows r p = sound R A (length is) is 0 (live s) [] running r (λ j. let e : 0 + j ≡ j = omega arith in ap A e) (omega arith) moves-on (pairedStacks (p .start))
 
   -- and the log tells of them
-  row : (k : ℕ) → k < length is → Row (t .log) k (A k)
-  row k h = subst (λ j. Row (t .log) j (A k)) (omega arith) (row-at R t is (begin s log) accepted (omega arith) k h)
+  row : (k : ℕ) → k < length is → heightsAt k (t .log) ≡ (mainHeight (A k) ∷ altHeight (A k) ∷ [])
+  row k h =
+      row-heights (t .log) k (A k) (omega (arith, log-length R t is (begin s log) accepted))
+      (subst (λ j. Row (t .log) j (A k)) (omega arith) (row-at R t is (begin s log) accepted (omega arith) k h))
 
   -- withinLimit
   within : (r : Replay) → ReplayOf is s r → (n : ℕ) → HasTotal n (trace R is r) → n ≤ R .limit
@@ -88,30 +109,29 @@ module _ (R : Rules) (is : List Instruction) (s : Stacks Item) (log : List ℕ) 
 
   -- heights
   logged : (r : Replay) → ReplayOf is s r → (k : ℕ) (u : Stacks Bytes) → Reaches k u (trace R is r)
-      → (getD (t .log) (3 * k + 1) 0 ≡ length (u .main)) × (getD (t .log) (3 * k + 2) 0 ≡ length (u .alt))
+      → heightsAt k (t .log) ≡ (length (u .main) ∷ length (u .alt) ∷ [])
   logged r p k u h =
       let g = good-reaches R A (length is) (trace R is r) (follows r p) k u h in
-      let w = row k (g .0) in
       let e = live-heights (A k) u (g .1) in
-      (w .0 ∙ e .0, w .1 ∙ e .1)
+      row k (g .0) ∙ rw (e .0, e .1)
 
   -- ending
   end-live : (r : Replay) → ReplayOf is s r → (u : Stacks Bytes) → RunsOff u (trace R is r) → LiveAs (t .arm) u
   end-live r p u h = subst (λ c. LiveAs c u) (sym (end-at R t is (begin s log) accepted)) (good-runsOff R A (length is) (trace R is r) (follows r p) u h)
 
   -- liveness: a row that is not dead is reached ..
-  reached : (k : ℕ) → k < length is → (LoggedDead k (t .log) → ⊥) → (r : Replay) × (u : Stacks Bytes) × (ReplayOf is s r) × (Reaches k u (trace R is r))
+  reached : (k : ℕ) → k < length is → (heightsAt k (t .log) ≡ (65535 ∷ 65535 ∷ []) → ⊥) → (r : Replay) × (u : Stacks Bytes) × (ReplayOf is s r) × (Reaches k u (trace R is r))
   reached k lt h =
       let c = comes R is s exacts moves-on k (logged-alive (t .log) k (A k) (row k lt) h) (λ z. (u : Stacks Bytes) × (Reaches k u z)) (λ j v z q. (q .0, inr (q .1)))
       (λ r l. (r .stacks, first-reached R k r (drop k is) (rw length-drop (omega arith)))) in
       (c .0, c .2 .0, c .1, c .2 .1)
 
   -- .. and what is reached has a row that is not dead: a height is at most the limit
-  not-dead : (k : ℕ) → ((r : Replay) × (u : Stacks Bytes) × (ReplayOf is s r) × (Reaches k u (trace R is r))) → LoggedDead k (t .log) → ⊥
+  not-dead : (k : ℕ) → ((r : Replay) × (u : Stacks Bytes) × (ReplayOf is s r) × (Reaches k u (trace R is r))) → heightsAt k (t .log) ≡ (65535 ∷ 65535 ∷ []) → ⊥
   not-dead k q d =
       let e = logged (q .0) (q .2) k (q .1) (q .3) in
       let l = within (q .0) (q .2) (total (q .1)) (reaches-total k (q .1) (trace R is (q .0)) (q .3)) in
-      omega (arith, e .0, d .0)
+      omega (arith, two-same _ _ _ _ (sym e ∙ d) .0)
 
   -- noEnd: where the end is live, some replay runs off the end
   runs-off : Alive (t .arm) → ((r : Replay) → ReplayOf is s r → (u : Stacks Bytes) → RunsOff u (trace R is r) → ⊥) → ⊥
@@ -156,7 +176,7 @@ module _ (R : Rules) (is : List Instruction) (s : Stacks Item) (log : List ℕ) 
 
 -- no refusal has the number 0
 refused-number : (at : ℕ) (r : Refusal) → refusedAt at r .number ≡ 0 → ⊥
-refused-number at isMalformed h = omega (arith, h)
+refused-number at malformedFragment h = omega (arith, h)
 refused-number at nesting h = omega (arith, h)
 refused-number at altDry h = omega (arith, h)
 refused-number at badIndex h = omega (arith, h)
@@ -169,7 +189,7 @@ refused-number at openIf h = omega (arith, h)
 refused-number at badHeader h = omega (arith, h)
 refused-number at tallyFull h = omega (arith, h)
 refused-number at (longFragment n) h = omega (arith, h)
-refused-number at (isUnmodelled n) h = omega (arith, h)
+refused-number at (unmodelledOpcode n) h = omega (arith, h)
 refused-number at (opcodeCount n) h = omega (arith, h)
 refused-number at (scriptSize n) h = omega (arith, h)
 refused-number at (longPaper n) h = omega (arith, h)
@@ -199,7 +219,7 @@ module _ (R : Rules) (small : R .limit < 65535) where
       lent true e h = ended (leb-true (3 * length is) (length log) e) (walk R is (begin s log)) refl h
       lent false e h = absurd (omega (arith, h))
 
-      whole : (m : Option ℕ) → wellFormed R m is s log .verdict .answer .number ≡ 0 → Demand3 R is s (wellFormed R m is s log)
+      whole : (m : Option ℕ) → tested R m is s log .verdict .answer .number ≡ 0 → Demand3 R is s (tested R m is s log)
       whole (some offset) h = absurd (omega (arith, h))
       whole none h = lent (leb (3 * length is) (length log)) refl h
 
@@ -208,8 +228,7 @@ module _ (R : Rules) (small : R .limit < 65535) where
   unknown-strings (suc n) = (tt, unknown-strings n)
 
   -- of a fragment, from so many unknown items, for any rules with a limit below 65,535
-  pub trueOfAnalysis : (fragment : Bytes) (main alt : ℕ) (log : List ℕ) → analysis R fragment main alt log .verdict .answer .number ≡ 0
-      → Demand3 R (instructions (decode fragment)) (unknowns main alt) (analysis R fragment main alt log)
+  pub trueOfAnalysis : (fragment : Bytes) (main alt : ℕ) (log : List ℕ) → TrueOfEveryReplay R fragment main alt log
   unfolding analysis
   trueOfAnalysis fragment main alt log h = long (ltb maxFragment (length fragment)) h
     where
@@ -224,15 +243,14 @@ module _ (R : Rules) (small : R .limit < 65535) where
           trueOfCode (decode fragment) (unknowns main alt) log (simp length-replicate (ltb-false (R .limit) (main + alt) e))
           (record { main = unknown-strings main; alt = unknown-strings alt }) h
 
-      tested : Marked
-      tested = pick (ltb (R .limit) (main + alt)) (refusedEarly 0 (startTooLarge (main + alt) (R .limit)) log) (analysisOf R (decode fragment) (unknowns main alt) log)
+      rest : Marked
+      rest = pick (ltb (R .limit) (main + alt)) (refusedEarly 0 (startTooLarge (main + alt) (R .limit)) log) (analysisOf R (decode fragment) (unknowns main alt) log)
 
-      long : (b : Bool) → pick b (refusedEarly 0 (longFragment (length fragment)) log) tested .verdict .answer .number ≡ 0
-          → Demand3 R is (unknowns main alt) (pick b (refusedEarly 0 (longFragment (length fragment)) log) tested)
+      long : (b : Bool) → pick b (refusedEarly 0 (longFragment (length fragment)) log) rest .verdict .answer .number ≡ 0
+          → Demand3 R is (unknowns main alt) (pick b (refusedEarly 0 (longFragment (length fragment)) log) rest)
       long true h = absurd (omega (arith, h))
       long false h = large (ltb (R .limit) (main + alt)) refl h
 
 -- Demand 3: of every fragment, start heights and log, if the analysis accepts, what it answers is true of every replay.
-pub trueOfEveryReplay : (fragment : Bytes) (main alt : ℕ) (log : List ℕ) → analysis builtIn fragment main alt log .verdict .answer .number ≡ 0
-    → Demand3 builtIn (instructions (decode fragment)) (unknowns main alt) (analysis builtIn fragment main alt log)
+pub trueOfEveryReplay : (fragment : Bytes) (main alt : ℕ) (log : List ℕ) → TrueOfEveryReplay builtIn fragment main alt log
 trueOfEveryReplay fragment main alt log h = trueOfAnalysis builtIn (omega arith) fragment main alt log h

@@ -1,5 +1,5 @@
 -- Section 2: the class of each opcode.
-use mathlib.Core.Bool.{Bool, _&&_}
+use mathlib.Core.Bool.{_&&_}
 use mathlib.Core.List.{List, [], _∷_}
 use Prim.Native.Nat.{ℕ}
 use lib.Dec.{leb}
@@ -30,6 +30,7 @@ classes =
     ordinary (drops 1) ∷ ordinary (drops 2) ∷ ordinary (makes 0) ∷
     ordinary (makes 1) ∷ ordinary (makes 3) ∷ ordinary (makes 2) ∷ []
 
+-- the class of a class number; unmodelled above 31
 abbrev pub classAt : ℕ → Class
 classAt n = getD classes n (ordinary unmodelled)
 
@@ -71,8 +72,10 @@ abbrev pub numberIn : List Range → ℕ → ℕ
 numberIn [] opcode = 0
 numberIn (range from to class ∷ l) opcode = pick (leb from opcode && leb opcode to) class (numberIn l opcode)
 
+-- the class number of an opcode
 unfoldable pub classNumber : ℕ → ℕ
 classNumber opcode = numberIn ranges opcode
 
+-- the class of an opcode
 unfoldable pub classOf : ℕ → Class
 classOf opcode = classAt (classNumber opcode)

@@ -1,5 +1,5 @@
 -- Section 1: decoding and the number form.
-use mathlib.Core.Bool.{Bool, true, false, _&&_, _||_, not}
+use mathlib.Core.Bool.{Bool, true, _&&_, _||_, not}
 use mathlib.Core.List.{List, [], _∷_}
 use mathlib.Core.Option.{Option, none, some}
 use Prim.Native.Nat.{ℕ, zero, suc, _+_, _-_, _*_, _/_, _%_, _^_}
@@ -14,20 +14,20 @@ abbrev pub number : Bytes → ℕ
 number [] = 0
 number (b ∷ l) = b + 256 * number l
 
--- Section 1, "An instruction is its opcode, its offset and a literal": here the literal is all the bytes that the
--- instruction pushes, none for one that pushes no literal. Which of them the marker knows, Walk's `known` says.
+-- "To the marker an instruction is its opcode, its offset and a literal, unknown or exact". Here the literal is all the
+-- bytes that the instruction pushes, none for one that pushes no literal; what the marker knows of it is `known` of Walk.
 pub record Instruction : Type 0 where
   pub opcode : ℕ
   pub offset : ℕ
   pub literal : Bytes
 
--- What stands at the front: a whole instruction, by the count of its bytes after the opcode and its literal, or one
--- whose length or data bytes are missing.
+-- what stands at the front: a whole instruction (how many bytes follow its opcode; its literal), or one whose length or
+-- data bytes are missing
 pub data Front : Type 0 where
   whole : ℕ → Bytes → Front
   short : Front
 
--- "4f pushes 81, 51 to 60 push one byte, 01 to 10"; all other codes that stand alone push no bytes here
+-- "00 pushes no bytes, 4f pushes 81, 51 to 60 push one byte, 01 to 10"; other codes that stand alone push no literal
 abbrev pub alone : ℕ → Bytes
 alone opcode =
     pick (eqb opcode 0x4f) (0x81 ∷ [])
@@ -57,6 +57,7 @@ pub data Code : Type 0 where
   malformed : ℕ → Code
   then : Instruction → Code → Code
 
+-- "Missing length or data bytes make the fragment malformed"; else the code goes on behind the instruction
 abbrev pub onFront : Front → ℕ → ℕ → (ℕ → Code) → Code
 onFront (whole after literal) opcode offset rest = then (record { opcode = opcode; offset = offset; literal = literal }) (rest after)
 onFront short opcode offset rest = malformed offset
@@ -67,6 +68,7 @@ decodeFrom passing offset [] = ends
 decodeFrom zero offset (b ∷ rest) = onFront (front b rest) b offset (λ after. decodeFrom after (offset + 1) rest)
 decodeFrom (suc passing) offset (b ∷ rest) = decodeFrom passing (offset + 1) rest
 
+-- the code of a fragment
 unfoldable pub decode : Bytes → Code
 decode fragment = decodeFrom 0 0 fragment
 
@@ -85,9 +87,9 @@ malformedAt (then i code) = malformedAt code
 -- Number form
 
 -- a whole number: n, or n below zero
-pub data Whole : Type 0 where
-  plus : ℕ → Whole
-  minus : ℕ → Whole
+pub data Integer : Type 0 where
+  plus : ℕ → Integer
+  minus : ℕ → Integer
 
 -- n in bytes, lowest first, with no 00 at the end; zero is empty. `most` counts down: n itself is always enough.
 abbrev pub digits : ℕ → ℕ → Bytes
@@ -102,10 +104,11 @@ signed sign (b ∷ []) = pick (ltb b 0x80) ((b + sign) ∷ []) (b ∷ sign ∷ [
 signed sign (b ∷ c ∷ l) = b ∷ signed sign (c ∷ l)
 
 -- `serialize_i64`, of any whole number
-unfoldable pub serialize : Whole → Bytes
+unfoldable pub serialize : Integer → Bytes
 serialize (plus n) = signed 0x00 (digits n n)
 serialize (minus n) = signed 0x80 (digits n n)
 
+-- the last byte, 0 if there is none
 abbrev pub last : Bytes → ℕ
 last [] = 0
 last (b ∷ []) = b
@@ -118,12 +121,12 @@ minimal (b ∷ []) = not (eqb b 0x00 || eqb b 0x80)
 minimal (b ∷ c ∷ []) = leb 0x80 b || not (eqb c 0x00 || eqb c 0x80)
 minimal (b ∷ c ∷ d ∷ l) = minimal (c ∷ d ∷ l)
 
--- what these bytes, in number form, stand for
-abbrev pub value : Bytes → Whole
+-- what these bytes, in number form, stand for; the sign bit, 80 in the last byte, is taken off
+abbrev pub value : Bytes → Integer
 value l = pick (ltb (last l) 0x80) (plus (number l)) (minus (number l - 0x80 * 256 ^ (length l - 1)))
 
 -- `deserialize_i64`: "Reading refuses over 8 bytes", and what is not minimal
-unfoldable pub deserialize : Bytes → Option Whole
+unfoldable pub deserialize : Bytes → Option Integer
 deserialize l = pick (leb (length l) 8 && minimal l) (some (value l)) none
 
 -- Reading an item as an index. The three that are none are one refusal, 9.
@@ -133,7 +136,8 @@ pub data Index : Type 0 where
   negative : Index
   index : ℕ → Index
 
-abbrev pub indexRead : Option Whole → Index
+-- a number that is not negative is an index
+abbrev pub indexRead : Option Integer → Index
 indexRead none = noNumber
 indexRead (some (plus n)) = index n
 indexRead (some (minus n)) = negative

@@ -6,8 +6,8 @@ use Prim.Native.Nat.{ℕ, zero, suc, _+_, _*_, min, max}
 use lib.Dec.{ltb, leb, eqb}
 use lib.ListN.{length, take, drop}
 use Rattle.definition.specs.Basics.{Bytes, pick}
-use Rattle.definition.specs.Decoding.{Instruction, number, Front, whole, short, front, Code, decode, instructions, malformedAt}
-use Rattle.definition.specs.Refusals.{Refusal, Answer, accepted, refusedAt, isMalformed, maxFragment, maxOperations, opcodeCount, scriptSize, maxPaper, badHeader, dispatchTooLarge, longPaper}
+use Rattle.definition.specs.Decoding.{Instruction, number, Front, whole, short, front, decode, instructions, malformedAt}
+use Rattle.definition.specs.Refusals.{Refusal, Answer, accepted, refusedAt, malformedFragment, maxFragment, maxOperations, opcodeCount, scriptSize, maxPaper, badHeader, dispatchTooLarge, longPaper}
 use Rattle.definition.specs.Stacks.{Rules}
 use Rattle.definition.specs.Walk.{dead, Verdict, refusedVerdict, Marked, analysis}
 
@@ -20,7 +20,7 @@ operations (i ∷ is) = pick (ltb 0x60 (i .opcode)) 1 0 + operations is
 
 -- "malformed; then opcodes above 60 number over 201; then over 10,000 bytes"
 abbrev pub limitsOf : Option ℕ → ℕ → ℕ → Answer
-limitsOf (some offset) count size = refusedAt offset isMalformed
+limitsOf (some offset) count size = refusedAt offset malformedFragment
 limitsOf none count size =
     pick (ltb maxOperations count) (refusedAt 0 (opcodeCount count))
     (pick (ltb maxFragment size) (refusedAt 0 (scriptSize size)) accepted)
@@ -40,9 +40,11 @@ pub record Part : Type 0 where
   pub offset : ℕ
   pub size : ℕ
 
+-- the part whose offset and length stand here
 abbrev pub partAt : Bytes → ℕ → Part
 partAt paper offset = record { offset = field paper offset; size = field paper (offset + 2) }
 
+-- the bytes of a part
 abbrev pub bytesOf : Bytes → Part → Bytes
 bytesOf paper p = take (p .size) (drop (p .offset) paper)
 
@@ -57,19 +59,23 @@ entriesAt paper offset zero = []
 entriesAt paper offset (suc n) =
     record { parameters = field paper offset; body = partAt paper (offset + 2) } ∷ entriesAt paper (offset + 6) n
 
--- "entries E (1 to 32), state fields F, initialiser offset and length; per entry .."
+-- "entries E (1 to 32), state fields F, initialiser offset and length; per entry ..": E
 abbrev pub entryCount : Bytes → ℕ
 entryCount paper = field paper 0
 
+-- F
 abbrev pub stateFields : Bytes → ℕ
 stateFields paper = field paper 2
 
+-- where the initialiser lies
 abbrev pub initialiser : Bytes → Part
 initialiser paper = partAt paper 4
 
+-- all the entries
 abbrev pub entries : Bytes → List Entry
 entries paper = entriesAt paper 8 (entryCount paper)
 
+-- where the header ends
 abbrev pub headerSize : Bytes → ℕ
 headerSize paper = 8 + 6 * entryCount paper
 
@@ -77,10 +83,11 @@ headerSize paper = 8 + 6 * entryCount paper
 abbrev pub within : ℕ → ℕ → Part → Bool
 within from to p = leb from (p .offset) && leb (p .offset + p .size) to
 
--- a byte is in both: "an empty one shares none"
+-- a byte is in both, the later start lies before the earlier end: "an empty one shares none"
 abbrev pub share : Part → Part → Bool
 share p q = ltb (max (p .offset) (q .offset)) (min (p .offset + p .size) (q .offset + q .size))
 
+-- p shares a byte with none of these
 abbrev pub sharesNone : Part → List Part → Bool
 sharesNone p [] = true
 sharesNone p (q ∷ qs) = not (share p q) && sharesNone p qs
@@ -90,6 +97,7 @@ abbrev pub goodParts : ℕ → ℕ → List Part → Bool
 goodParts from to [] = true
 goodParts from to (p ∷ ps) = within from to p && (sharesNone p ps && goodParts from to ps)
 
+-- where the bodies lie
 abbrev pub bodies : List Entry → List Part
 bodies [] = []
 bodies (e ∷ es) = e .body ∷ bodies es
@@ -114,6 +122,7 @@ bodyFragments paper [] = []
 bodyFragments paper (e ∷ es) =
     record { bytes = bytesOf paper (e .body); main = e .parameters + stateFields paper; alt = 0 } ∷ bodyFragments paper es
 
+-- "the parameters of the entry with most"
 abbrev pub mostParameters : List Entry → ℕ
 mostParameters [] = 0
 mostParameters (e ∷ es) = max (e .parameters) (mostParameters es)
@@ -124,6 +133,7 @@ stateFragments paper =
     pick (eqb (initialiser paper .size) 0) []
     (record { bytes = bytesOf paper (initialiser paper); main = mostParameters (entries paper); alt = 1 } ∷ [])
 
+-- all that is marked, in its order
 unfoldable pub fragments : Bytes → List Fragment
 fragments paper = bodyFragments paper (entries paper) ++ stateFragments paper
 
@@ -136,45 +146,42 @@ pub record PaperVerdict : Type 0 where
 -- with it the verdicts of the fragments accepted, in order, and the lent log afterwards
 pub record PaperMarked : Type 0 where
   pub paper : PaperVerdict
-  pub fragments : List Verdict
+  pub verdicts : List Verdict
   pub log : List ℕ
 
+-- Section 7, "19 to 21 leave the log as lent and count 0 rows"
 abbrev pub refusedPaper : ℕ → Refusal → List ℕ → PaperMarked
-refusedPaper entry r log = record { paper = record { entry = entry; verdict = refusedVerdict 0 r 0 }; fragments = []; log = log }
+refusedPaper entry r log = record { paper = record { entry = entry; verdict = refusedVerdict 0 r 0 }; verdicts = []; log = log }
 
--- one accepted fragment before what comes after it
+-- the same, with v in front of the accepted verdicts
 abbrev pub after : Verdict → PaperMarked → PaperMarked
-after v m = record { paper = m .paper; fragments = v ∷ m .fragments; log = m .log }
+after v m = record { paper = m .paper; verdicts = v ∷ m .verdicts; log = m .log }
 
--- Fragment k and those after it: so many rows stand in the log, the greatest peak is so far this. "Rows of all fragments
--- follow one another; 4 weighs each fragment against what the log has left."
+-- Marks fragment k and those after it; rows and peak are those of the fragments before. "Rows of all fragments follow one
+-- another; 4 weighs each fragment against what the log has left."
 unfoldable pub markFrom : Rules → ℕ → ℕ → ℕ → List Fragment → List ℕ → PaperMarked
 markFrom R k rows peak [] log =
-    record { paper = record { entry = 0; verdict = record { answer = accepted; rows = rows; peak = peak; end = dead } }; fragments = []; log = log }
+    record { paper = record { entry = 0; verdict = record { answer = accepted; rows = rows; peak = peak; end = dead } }; verdicts = []; log = log }
 markFrom R k rows peak (f ∷ fs) log =
     let m : Marked = analysis R (f .bytes) (f .main) (f .alt) (drop (3 * rows) log) in
     let v : Verdict = m .verdict in
     let out : List ℕ = take (3 * rows) log ++ m .log in
-    elim (eqb (v .answer .number) 0) [
-      | true ↦ after v (markFrom R (k + 1) (rows + v .rows) (max peak (v .peak)) fs out)
-      | false ↦ record {
-        paper = record { entry = k; verdict = record { answer = v .answer; rows = rows + v .rows; peak = 0; end = dead } };
-        fragments = [];
-        log = out;
-      }
-    ]
+    pick (eqb (v .answer .number) 0)
+    (after v (markFrom R (k + 1) (rows + v .rows) (max peak (v .peak)) fs out))
+    (record {
+      paper = record { entry = k; verdict = record { answer = v .answer; rows = rows + v .rows; peak = 0; end = dead } };
+      verdicts = [];
+      log = out;
+    })
 
 -- "dispatch check of each entry (parameters + F + 3 over 244)", from entry k on; then the fragments
 unfoldable pub dispatch : Rules → Bytes → ℕ → List Entry → List ℕ → PaperMarked
 dispatch R paper k [] log = markFrom R 0 0 0 (fragments paper) log
 dispatch R paper k (e ∷ es) log =
     let sum : ℕ = e .parameters + stateFields paper + 3 in
-    elim (ltb (R .limit) sum) [
-      | true ↦ refusedPaper k (dispatchTooLarge sum (R .limit)) log
-      | false ↦ dispatch R paper (k + 1) es log
-    ]
+    pick (ltb (R .limit) sum) (refusedPaper k (dispatchTooLarge sum (R .limit)) log) (dispatch R paper (k + 1) es log)
 
--- "Order: 21, 19, dispatch check of each entry, bodies in order, then an initialiser"
+-- "Order: 21, 19, dispatch check of each entry (..), bodies in order .., then an initialiser"
 unfoldable pub markPaper : Rules → Bytes → List ℕ → PaperMarked
 markPaper R paper log =
     pick (ltb maxPaper (length paper)) (refusedPaper 0 (longPaper (length paper)) log)
@@ -184,11 +191,11 @@ markPaper R paper log =
 
 -- the fragment by its mark, 0 (body) or 1 (initialiser); no bytes for another mark
 abbrev pub byMark : Bytes → Bytes → ℕ → Bytes
-byMark body state zero = body
-byMark body state (suc zero) = state
-byMark body state (suc (suc n)) = []
+byMark body init zero = body
+byMark body init (suc zero) = init
+byMark body init (suc (suc n)) = []
 
--- "the whole instruction, the rest if malformed"
+-- "the whole instruction .., the rest if malformed"
 abbrev pub shownOf : Front → Bytes → Bytes
 shownOf (whole after literal) l = take (1 + after) l
 shownOf short l = l
@@ -200,4 +207,4 @@ shownAt (b ∷ rest) = shownOf (front b rest) (b ∷ rest)
 
 -- "decoded from an offset (also one inside a push), .. an empty part if the offset is at or past the end"
 unfoldable pub display : Bytes → Bytes → ℕ → ℕ → Bytes
-display body state offset mark = shownAt (drop offset (byMark body state mark))
+display body init offset mark = shownAt (drop offset (byMark body init mark))

@@ -3,8 +3,8 @@ use Prim.Native.Nat.{ℕ}
 
 -- the word of a refusal, with those of its figures that are not fixed
 pub data Refusal : Type 0 where
-  isMalformed nesting altDry badIndex badTag armsDiffer strayElse secondElse strayEndif openIf badHeader tallyFull : Refusal
-  longFragment isUnmodelled opcodeCount scriptSize longPaper : ℕ → Refusal
+  malformedFragment nesting altDry badIndex badTag armsDiffer strayElse secondElse strayEndif openIf badHeader tallyFull : Refusal
+  longFragment unmodelledOpcode opcodeCount scriptSize longPaper : ℕ → Refusal
   startTooLarge shortLog stacksFull mainDry dispatchTooLarge : ℕ → ℕ → Refusal
 
 -- the greatest counts of sections 4, 6 and 7; the stack limit, 244, is one of the rules (Stacks)
@@ -20,7 +20,7 @@ maxOperations = 201
 abbrev pub maxPaper : ℕ
 maxPaper = 8000
 
--- what every entry point answers: the number, the offset and two figures
+-- number, offset and two figures: what the limit check answers, and part of every verdict
 pub record Answer : Type 0 where
   pub number : ℕ
   pub offset : ℕ
@@ -30,7 +30,7 @@ pub record Answer : Type 0 where
 abbrev pub answer : ℕ → ℕ → ℕ → ℕ → Answer
 answer number offset first second = record { number = number; offset = offset; first = first; second = second }
 
--- "0 accepted: offset and figures 0"
+-- number 0, "accepted": "offset and figures 0"
 abbrev pub accepted : Answer
 accepted = answer 0 0 0 0
 
@@ -38,7 +38,7 @@ accepted = answer 0 0 0 0
 abbrev pub refusedAt : ℕ → Refusal → Answer
 refusedAt at (longFragment length) = answer 1 at length maxFragment
 refusedAt at (startTooLarge sum limit) = answer 2 at sum limit
-refusedAt at isMalformed = answer 3 at 0 0
+refusedAt at malformedFragment = answer 3 at 0 0
 refusedAt at (shortLog needed lent) = answer 4 at needed lent
 refusedAt at nesting = answer 5 at maxOpen maxOpen
 refusedAt at (stacksFull wanted limit) = answer 6 at wanted limit
@@ -46,7 +46,7 @@ refusedAt at (mainDry needed had) = answer 7 at needed had
 refusedAt at altDry = answer 8 at 0 0
 refusedAt at badIndex = answer 9 at 0 0
 refusedAt at badTag = answer 10 at 0 0
-refusedAt at (isUnmodelled opcode) = answer 11 at opcode 0
+refusedAt at (unmodelledOpcode opcode) = answer 11 at opcode 0
 refusedAt at armsDiffer = answer 12 at 0 0
 refusedAt at strayElse = answer 13 at 0 0
 refusedAt at secondElse = answer 14 at 0 0

@@ -5,12 +5,12 @@ use mathlib.Core.Logic.{_⊎_, _↔_}
 use mathlib.Core.Option.{some}
 use mathlib.Core.Path.{_≡_}
 use Prim.Native.Nat.{ℕ, zero, suc, _+_, _*_, _≤_, _<_}
-use lib.ListN.{length, getD, drop}
+use lib.ListN.{length, getD, take, drop}
 use Rattle.definition.specs.Basics.{Bytes}
-use Rattle.definition.specs.Decoding.{Instruction}
+use Rattle.definition.specs.Decoding.{Instruction, instructions, decode}
 use Rattle.definition.specs.Classes.{Class, IF, NOTIF, ELSE, ENDIF, RETURN, ordinary, Ordinary, unmodelled, push, nothing, TOALT, FROMALT, DEPTH, SIZE, NIP, TUCK, PICK, ROLL, ZK, copies, rotates, drops, makes}
 use Rattle.definition.specs.Stacks.{Rules, Stacks, Outcome, done, refused, Items, total, dropItems, step}
-use Rattle.definition.specs.Walk.{Item, unknown, exact, Arm, dead, live, Marked}
+use Rattle.definition.specs.Walk.{Item, unknown, exact, Arm, dead, live, Marked, unknowns, analysis}
 
 -- The replay
 
@@ -20,7 +20,7 @@ pub record Replay : Type 0 where
   pub choices : List Bool
   pub results : List Bytes
 
--- "with real bytes: a literal is pushed whole, SIZE pushes the real length"; `next` is the next of the byte strings
+-- "with real bytes, .. a literal is pushed whole, SIZE pushes the real length"; `next` is the next of the byte strings
 abbrev pub replaying : Bytes → Items Bytes
 replaying next = record { literal = λ l. l; bytes = some; result = next }
 
@@ -43,8 +43,8 @@ resultsAfter PICK results = results
 resultsAfter ROLL results = results
 resultsAfter ZK results = results
 
--- It carries instructions out, or jumps over them, with n conditionals open that it has jumped into: past the ELSE (past
--- ENDIF if none), or past the ENDIF.
+-- It carries instructions out, or jumps over them: past the ELSE (past ENDIF if none), or past the ENDIF, with n
+-- conditionals opened since the jump began.
 pub data Mode : Type 0 where
   running : Mode
   toElse : ℕ → Mode
@@ -56,6 +56,7 @@ pub data Carried : Type 0 where
   halts : Carried
   faults : Carried
 
+-- on from an outcome; a refusal is a fault
 abbrev pub carriedOut : Outcome Bytes → List Bool → List Bytes → Carried
 carriedOut (done s) choices results = goesOn running (record { stacks = s; choices = choices; results = results })
 carriedOut (refused r) choices results = faults
@@ -71,6 +72,7 @@ branches (done s) choices results =
     goesOn (chosen (getD choices 0 true)) (record { stacks = s; choices = drop 1 choices; results = results })
 branches (refused r) choices results = faults
 
+-- one instruction carried out, by its class
 abbrev pub carry : Rules → Instruction → Class → Replay → Carried
 carry R i IF r = branches (dropItems 1 (r .stacks)) (r .choices) (r .results)
 carry R i NOTIF r = branches (dropItems 1 (r .stacks)) (r .choices) (r .results)
@@ -80,7 +82,7 @@ carry R i RETURN r = halts
 carry R i (ordinary o) r =
     carriedOut (step (replaying (getD (r .results) 0 [])) R i o (r .stacks)) (r .choices) (resultsAfter o (r .results))
 
--- jumping over an instruction
+-- the mode after jumping over an instruction, on the way past the ELSE; and past the ENDIF
 abbrev pub pastElse : Class → ℕ → Mode
 pastElse IF n = toElse (suc n)
 pastElse NOTIF n = toElse (suc n)
@@ -108,6 +110,7 @@ pub data Trace : Type 0 where
   returned : Stacks Bytes → Trace
   faulted : Trace
 
+-- on from an instruction carried out
 abbrev pub traced : Carried → Stacks Bytes → (Mode → Replay → Trace) → Trace
 traced (goesOn m r) s next = next m r
 traced halts s next = returned s
@@ -169,6 +172,7 @@ ShowsAll [] (b ∷ m) = ⊥
 ShowsAll (x ∷ l) [] = ⊥
 ShowsAll (x ∷ l) (b ∷ m) = Shows x b × ShowsAll l m
 
+-- of both stacks
 pub record ShowsStacks (s : Stacks Item) (t : Stacks Bytes) : Type 0 where
   pub main : ShowsAll (s .main) (t .main)
   pub alt : ShowsAll (s .alt) (t .alt)
@@ -183,6 +187,7 @@ abbrev pub AreBytes : Bytes → Type 0
 AreBytes [] = Unit {0}
 AreBytes (b ∷ l) = (b < 256) × AreBytes l
 
+-- of each byte string
 abbrev pub AreStrings : List Bytes → Type 0
 AreStrings [] = Unit {0}
 AreStrings (b ∷ l) = AreBytes b × AreStrings l
@@ -199,11 +204,11 @@ pub record ReplayOf (is : List Instruction) (s : Stacks Item) (r : Replay) : Typ
 
 -- Demand 3
 
--- the row of the instruction at place k says dead: 65,535 twice
-abbrev pub LoggedDead : ℕ → List ℕ → Type 0
-LoggedDead k log = (getD log (3 * k + 1) 0 ≡ 65535) × (getD log (3 * k + 2) 0 ≡ 65535)
+-- the two heights in the row of the instruction at place k; fewer than two numbers where the log has no such row
+abbrev pub heightsAt : ℕ → List ℕ → List ℕ
+heightsAt k log = take 2 (drop (3 * k + 1) log)
 
--- "True of every replay", of what the marker answered for these instructions from the stacks s
+-- what the marker answered for these instructions from the stacks s is true of every replay
 pub record Demand3 (R : Rules) (is : List Instruction) (s : Stacks Item) (m : Marked) : Type 0 where
   -- every replay: no fault
   pub noFault : (r : Replay) → ReplayOf is s r → Faults (trace R is r) → ⊥
@@ -211,14 +216,20 @@ pub record Demand3 (R : Rules) (is : List Instruction) (s : Stacks Item) (m : Ma
   pub withinLimit : (r : Replay) → ReplayOf is s r → (n : ℕ) → HasTotal n (trace R is r) → n ≤ R .limit
   -- the logged heights at each instruction reached
   pub heights : (r : Replay) → ReplayOf is s r → (k : ℕ) (t : Stacks Bytes) → Reaches k t (trace R is r)
-      → (getD (m .log) (3 * k + 1) 0 ≡ length (t .main)) × (getD (m .log) (3 * k + 2) 0 ≡ length (t .alt))
+      → heightsAt k (m .log) ≡ (length (t .main) ∷ length (t .alt) ∷ [])
   -- the marker's end stacks at the end: their heights, and the bytes of each exact item
   pub ending : (r : Replay) → ReplayOf is s r → (t : Stacks Bytes) → RunsOff t (trace R is r) → ShowsArm (m .verdict .end) t
-  -- live exactly where some replay comes
+  -- live, not 65,535 twice, exactly where some replay comes
   pub liveness : (k : ℕ) → k < length is
-      → ((LoggedDead k (m .log) → ⊥) ↔ ((r : Replay) × (t : Stacks Bytes) × (ReplayOf is s r) × (Reaches k t (trace R is r))))
+      → ((heightsAt k (m .log) ≡ (65535 ∷ 65535 ∷ []) → ⊥) ↔ ((r : Replay) × (t : Stacks Bytes) × (ReplayOf is s r) × (Reaches k t (trace R is r))))
   -- no end exactly when none runs off the end
   pub noEnd : (m .verdict .end ≡ dead) ↔ ((r : Replay) → ReplayOf is s r → (t : Stacks Bytes) → RunsOff t (trace R is r) → ⊥)
   -- the peak exact: no total of any replay is over it, and one replay comes to it
   pub peakBounds : (r : Replay) → ReplayOf is s r → (n : ℕ) → HasTotal n (trace R is r) → n ≤ m .verdict .peak
   pub peakReached : (r : Replay) × (ReplayOf is s r) × (HasTotal (m .verdict .peak) (trace R is r))
+
+-- Demand 3 as one claim: where the analysis accepts a fragment from these heights, what it answers is true of every replay
+abbrev pub TrueOfEveryReplay : Rules → Bytes → ℕ → ℕ → List ℕ → Type 0
+TrueOfEveryReplay R fragment main alt log =
+    analysis R fragment main alt log .verdict .answer .number ≡ 0
+    → Demand3 R (instructions (decode fragment)) (unknowns main alt) (analysis R fragment main alt log)

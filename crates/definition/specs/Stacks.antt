@@ -1,6 +1,5 @@
 -- Section 3: the two stacks and what each ordinary opcode does to them, over items of any type, so that the marker
 -- (Walk) and a replay (Replay) share it: "A step does what section 3 says with real bytes" (Section 5).
-use mathlib.Core.Bool.{Bool}
 use mathlib.Core.List.{List, [], _∷_, _++_}
 use mathlib.Core.Option.{Option, none, some}
 use Prim.Native.Nat.{ℕ, _+_, _-_}
@@ -9,7 +8,7 @@ use lib.ListN.{length, take, drop}
 use Rattle.definition.specs.Basics.{Bytes, pick}
 use Rattle.definition.specs.Decoding.{Instruction, serialize, plus, Index, notKnown, noNumber, negative, index, indexOf}
 use Rattle.definition.specs.Classes.{Class, Ordinary, unmodelled, push, nothing, TOALT, FROMALT, DEPTH, SIZE, NIP, TUCK, PICK, ROLL, ZK, copies, rotates, drops, makes, classOf}
-use Rattle.definition.specs.Refusals.{Refusal, stacksFull, mainDry, altDry, badIndex, badTag, isUnmodelled}
+use Rattle.definition.specs.Refusals.{Refusal, stacksFull, mainDry, altDry, badIndex, badTag, unmodelledOpcode}
 
 -- what the marker and a replay go by: the class of each opcode, and the limit of both stacks together
 pub record Rules : Type 0 where
@@ -30,7 +29,7 @@ pub data Outcome (A : Type 0) : Type 0 where
   done : Stacks A → Outcome A
   refused : Refusal → Outcome A
 
--- what items can do
+-- what the operations ask of items of type A
 pub record Items (A : Type 0) : Type 0 where
   -- the item of these bytes
   pub literal : Bytes → A
@@ -43,6 +42,7 @@ pub record Items (A : Type 0) : Type 0 where
 pub data Tag : Type 0 where
   noTag groth16 r0Succinct : Tag
 
+-- the tag in what is known of an item's bytes
 abbrev pub tagOf : Option Bytes → Tag
 tagOf none = noTag
 tagOf (some []) = noTag
@@ -50,6 +50,7 @@ tagOf (some (b ∷ [])) = pick (eqb b 0x20) groth16 (pick (eqb b 0x21) r0Succinc
 tagOf (some (b ∷ c ∷ l)) = noTag
 
 module _ {A : Type 0} where
+  -- how many items both hold
   abbrev pub total : Stacks A → ℕ
   total s = length (s .main) + length (s .alt)
 
@@ -70,6 +71,7 @@ module _ {A : Type 0} where
   andThen (done s) next = next s
   andThen (refused r) next = refused r
 
+  -- pushes x, which needs room for 1
   unfoldable pub pushItem : ℕ → A → Stacks A → Outcome A
   pushItem limit x s = room limit 1 s (done (withMain s (x ∷ s .main)))
 
@@ -78,9 +80,11 @@ module _ {A : Type 0} where
   popFrom [] alt next = refused (mainDry 1 0)
   popFrom (x ∷ l) alt next = next x (record { main = l; alt = alt })
 
+  -- pops one item of main
   abbrev pub pop : Stacks A → (A → Stacks A → Outcome A) → Outcome A
   pop s next = popFrom (s .main) (s .alt) next
 
+  -- drops k items of main at once
   unfoldable pub dropItems : ℕ → Stacks A → Outcome A
   dropItems k s = needs k s (done (withMain s (drop k (s .main))))
 
@@ -103,7 +107,7 @@ module _ {A : Type 0} where
   unfoldable pub nipSecond : Stacks A → Outcome A
   nipSecond s = needs 2 s (done (withMain s (take 1 (s .main) ++ drop 2 (s .main))))
 
-  -- "Alt transfers need no room"
+  -- to alt and from alt: "Alt transfers need no room"
   unfoldable pub moveToAlt : Stacks A → Outcome A
   moveToAlt s = needs 1 s (done (record { main = drop 1 (s .main); alt = take 1 (s .main) ++ s .alt }))
 
@@ -128,6 +132,7 @@ module _ {A : Type 0} (I : Items A) where
   readable negative next = refused badIndex
   readable (index n) next = next n
 
+  -- pops an index and goes on with it
   abbrev pub popIndex : Stacks A → (ℕ → Stacks A → Outcome A) → Outcome A
   popIndex s next = pop s (λ x t. readable (indexOf (I .bytes x)) (λ n. next n t))
 
@@ -141,9 +146,9 @@ module _ {A : Type 0} (I : Items A) where
   zkBy limit groth16 s = pop s (λ key t. pop t (λ proof u. popIndex u (λ n v. zkDrop limit n v)))
   zkBy limit r0Succinct s = zkDrop limit 8 s
 
-  -- what an instruction of an ordinary class does
+  -- what an instruction of an ordinary class does. SIZE looks at the top and leaves it: the push is onto s.
   unfoldable pub step : Rules → Instruction → Ordinary → Stacks A → Outcome A
-  step R i unmodelled s = refused (isUnmodelled (i .opcode))
+  step R i unmodelled s = refused (unmodelledOpcode (i .opcode))
   step R i push s = pushItem (R .limit) (I .literal (i .literal)) s
   step R i nothing s = done s
   step R i TOALT s = moveToAlt s

@@ -7,12 +7,13 @@ use lib.Dec.{ltb, leb, eqb}
 use lib.ListN.{length, set, replicate}
 use Rattle.definition.specs.Basics.{Bytes, pick}
 use Rattle.definition.specs.Decoding.{Instruction, Code, decode, instructions, malformedAt}
-use Rattle.definition.specs.Classes.{Class, Ordinary, IF, NOTIF, ELSE, ENDIF, RETURN, ordinary}
-use Rattle.definition.specs.Refusals.{Refusal, Answer, accepted, refusedAt, longFragment, maxFragment, startTooLarge, isMalformed, shortLog, nesting, maxOpen, armsDiffer, strayElse, secondElse, strayEndif, openIf}
+use Rattle.definition.specs.Classes.{Class, IF, NOTIF, ELSE, ENDIF, RETURN, ordinary}
+use Rattle.definition.specs.Refusals.{Refusal, Answer, accepted, refusedAt, longFragment, maxFragment, startTooLarge, malformedFragment, shortLog, nesting, maxOpen, armsDiffer, strayElse, secondElse, strayEndif, openIf, tallyFull}
 use Rattle.definition.specs.Stacks.{Rules, Stacks, Outcome, done, refused, Items, total, dropItems, step}
 
 -- What the marker knows of an item
 
+-- "unknown or exact"
 pub data Item : Type 0 where
   unknown : Item
   exact : Bytes → Item
@@ -21,6 +22,7 @@ pub data Item : Type 0 where
 abbrev pub known : Bytes → Item
 known l = pick (leb (length l) 8) (exact l) unknown
 
+-- "The bytes that the marker knows are those of exact items" (Section 5)
 abbrev pub bytesKnown : Item → Option Bytes
 bytesKnown unknown = none
 bytesKnown (exact l) = some l
@@ -36,9 +38,9 @@ pub data Arm : Type 0 where
   dead : Arm
   live : Stacks Item → Arm
 
--- the first arm of an open conditional is still walked, or has ended at its ELSE
+-- the first arm of an open conditional has not ended, or has ended at its ELSE
 pub data First : Type 0 where
-  walked : First
+  notEnded : First
   ended : Arm → First
 
 -- an open conditional: where its second arm starts, and its first arm
@@ -51,18 +53,20 @@ pub data Move : Type 0 where
   moves : Arm → List Frame → Move
   refuses : Refusal → Move
 
--- "an item stays exact only if both sides have the same bytes"
+-- byte for byte
 abbrev pub sameBytes : Bytes → Bytes → Bool
 sameBytes [] [] = true
 sameBytes [] (b ∷ m) = false
 sameBytes (a ∷ l) [] = false
 sameBytes (a ∷ l) (b ∷ m) = eqb a b && sameBytes l m
 
+-- "an item stays exact only if both sides have the same bytes"
 abbrev pub joinItem : Item → Item → Item
 joinItem unknown y = unknown
 joinItem (exact l) unknown = unknown
 joinItem (exact l) (exact m) = pick (sameBytes l m) (exact l) unknown
 
+-- item for item
 abbrev pub joinItems : List Item → List Item → List Item
 joinItems [] m = []
 joinItems (x ∷ l) [] = []
@@ -88,8 +92,9 @@ join (live s) (live t) fs = moved (joinStacks s t) fs
 
 -- a conditional opens: both of its arms start from here
 abbrev pub opens : Arm → List Frame → Move
-opens c fs = moves c (record { start = c; first = walked } ∷ fs)
+opens c fs = moves c (record { start = c; first = notEnded } ∷ fs)
 
+-- it opens on an outcome
 abbrev pub opened : Outcome Item → List Frame → Move
 opened (done s) fs = opens (live s) fs
 opened (refused r) fs = refuses r
@@ -99,18 +104,18 @@ abbrev pub onIf : Arm → List Frame → Move
 onIf dead fs = opens dead fs
 onIf (live s) fs = opened (dropItems 1 s) fs
 
--- "IF or NOTIF, live or dead, with 24 open"; "at 5 nothing is popped yet"
+-- Section 7: "IF or NOTIF, live or dead, with 24 open"; "at 5 nothing is popped yet"
 abbrev pub conditional : Arm → List Frame → Move
 conditional c fs = pick (ltb (length fs) maxOpen) (onIf c fs) (refuses nesting)
 
 -- at ELSE the first arm, c, has ended, and the second starts where the conditional opened
 abbrev pub onElse : Arm → Arm → First → List Frame → Move
-onElse c start walked fs = moves start (record { start = start; first = ended c } ∷ fs)
+onElse c start notEnded fs = moves start (record { start = start; first = ended c } ∷ fs)
 onElse c start (ended a) fs = refuses secondElse
 
 -- at ENDIF the arm c joins the other one: the empty one "if there is no ELSE"
 abbrev pub onEndif : Arm → Arm → First → List Frame → Move
-onEndif c start walked fs = join c start fs
+onEndif c start notEnded fs = join c start fs
 onEndif c start (ended a) fs = join a c fs
 
 -- one instruction, by its class. "While dead, ordinary opcodes are skipped, unmodelled ones too, and conditionals are
@@ -133,6 +138,7 @@ abbrev pub mainHeight : Arm → ℕ
 mainHeight dead = 65535
 mainHeight (live s) = length (s .main)
 
+-- the same of alt
 abbrev pub altHeight : Arm → ℕ
 altHeight dead = 65535
 altHeight (live s) = length (s .alt)
@@ -143,7 +149,7 @@ logRow k offset c log = set (set (set log (3 * k) offset) (3 * k + 1) (mainHeigh
 
 -- The walk
 
--- where the walk stands
+-- the state of a walk between two instructions
 pub record State : Type 0 where
   pub arm : Arm
   pub frames : List Frame
@@ -164,11 +170,13 @@ met i s = record {
   log = logRow (s .rows) (i .offset) (s .arm) (s .log);
 }
 
+-- the total of an arm; a dead one counts 0
 abbrev pub totalOf : Arm → ℕ
 totalOf dead = 0
 totalOf (live s) = total s
 
--- it leads on to the arm c: "greatest total at the start or after any live instruction"
+-- It leads on to the arm c. "peak (greatest total at the start or after any live instruction)": what stands after a live
+-- RETURN, ELSE or ENDIF was counted before.
 abbrev pub onward : Arm → List Frame → State → State
 onward c fs s = record {
   arm = c;
@@ -179,27 +187,29 @@ onward c fs s = record {
   log = s .log;
 }
 
--- how a walk ends: it was accepted, or refused, where it then stands
+-- how a walk ends: accepted or refused, with the state that it has then
 pub data Walked : Type 0 where
   passed : State → Walked
   stopped : Refusal → State → Walked
 
+-- after the move of the instruction met last
 abbrev pub follow : Move → State → (State → Walked) → Walked
 follow (moves c fs) s next = next (onward c fs s)
 follow (refuses r) s next = stopped r s
 
--- past the last instruction: "open IF, at the last instruction"
+-- past the last instruction: Section 7, 16, "open IF", given "at the last instruction"
 abbrev pub atEnd : List Frame → State → Walked
 atEnd [] s = passed s
 atEnd (f ∷ fs) s = stopped openIf s
 
+-- the walk over these instructions
 unfoldable pub walk : Rules → List Instruction → State → Walked
 walk R [] s = atEnd (s .frames) s
 walk R (i ∷ is) s = follow (move R i (R .classOf (i .opcode)) (s .arm) (s .frames)) (met i s) (λ t. walk R is t)
 
 -- The verdict
 
--- "The verdict carries number, offset, two figures of 64 bits, rows written, peak and end stacks or none"; a dead arm is none
+-- "The verdict carries number, offset, two figures of 64 bits, rows written, peak (..) and end stacks or none"; a dead arm is none
 pub record Verdict : Type 0 where
   pub answer : Answer
   pub rows : ℕ
@@ -215,11 +225,12 @@ pub record Marked : Type 0 where
 abbrev pub refusedVerdict : ℕ → Refusal → ℕ → Verdict
 refusedVerdict offset r rows = record { answer = refusedAt offset r; rows = rows; peak = 0; end = dead }
 
--- Section 7, "1 to 4 leave the log as lent and count 0 rows"
+-- Section 7, "1 to 4 .. leave the log as lent and count 0 rows"
 abbrev pub refusedEarly : ℕ → Refusal → List ℕ → Marked
 refusedEarly offset r log = record { verdict = refusedVerdict offset r 0; log = log }
 
--- Section 7, "5 to 16 leave rows up to and with the refused instruction; acceptance leaves a row for every instruction"
+-- Section 7, "5 to 16 leave rows up to and with the refused instruction, the rest as lent; acceptance leaves a row for every
+-- instruction, the rest as lent"
 abbrev pub marked : Walked → Marked
 marked (passed s) = record { verdict = record { answer = accepted; rows = s .rows; peak = s .peak; end = s .arm }; log = s .log }
 marked (stopped r s) = record { verdict = refusedVerdict (s .offset) r (s .rows); log = s .log }
@@ -228,18 +239,15 @@ marked (stopped r s) = record { verdict = refusedVerdict (s .offset) r (s .rows)
 abbrev pub begin : Stacks Item → List ℕ → State
 begin s log = record { arm = live s; frames = []; offset = 0; rows = 0; peak = total s; log = log }
 
--- "fewer than 3 numbers an instruction; needed, lent", then the walk
-abbrev pub walkAll : Rules → List Instruction → Stacks Item → List ℕ → Marked
-walkAll R is s log =
+-- tests 3 and 4 of Section 7, then the walk: "fewer than 3 numbers an instruction; needed, lent"
+abbrev pub tested : Rules → Option ℕ → List Instruction → Stacks Item → List ℕ → Marked
+tested R (some offset) is s log = refusedEarly offset malformedFragment log
+tested R none is s log =
     pick (leb (3 * length is) (length log)) (marked (walk R is (begin s log))) (refusedEarly 0 (shortLog (3 * length is) (length log)) log)
-
-abbrev pub wellFormed : Rules → Option ℕ → List Instruction → Stacks Item → List ℕ → Marked
-wellFormed R (some offset) is s log = refusedEarly offset isMalformed log
-wellFormed R none is s log = walkAll R is s log
 
 -- the analysis of decoded code, from any stacks
 unfoldable pub analysisOf : Rules → Code → Stacks Item → List ℕ → Marked
-analysisOf R code s log = wellFormed R (malformedAt code) (instructions code) s log
+analysisOf R code s log = tested R (malformedAt code) (instructions code) s log
 
 -- so many unknown items on each stack
 abbrev pub unknowns : ℕ → ℕ → Stacks Item
@@ -263,7 +271,7 @@ pub record Tally : Type 0 where
 
 -- the answer, 0 or 22, and the tally afterwards
 pub record Tallied : Type 0 where
-  pub number : ℕ
+  pub answer : Answer
   pub tally : Tally
 
 -- the tally with one verdict more, of which `accepts`, 0 or 1, are accepted
@@ -279,9 +287,8 @@ gained t accepts rows peak = record {
 abbrev pub fits : Tally → Bool
 fits t = leb (t .fragments) 4294967295 && leb (t .accepts) 4294967295 && leb (t .rows) 4294967295
 
-abbrev pub tallied : Tally → Tally → Tallied
-tallied t new = pick (fits new) (record { number = 0; tally = new }) (record { number = 22; tally = t })
-
--- "gains one verdict a call": its number, its rows and its peak
-unfoldable pub tally : Tally → ℕ → ℕ → ℕ → Tallied
-tally t number rows peak = tallied t (gained t (pick (eqb number 0) 1 0) rows peak)
+-- "gains one verdict a call"; Section 7, "22 leaves the tally unchanged"
+unfoldable pub tally : Tally → Verdict → Tallied
+tally t v =
+    let new : Tally = gained t (pick (eqb (v .answer .number) 0) 1 0) (v .rows) (v .peak) in
+    pick (fits new) (record { answer = accepted; tally = new }) (record { answer = refusedAt 0 tallyFull; tally = t })
