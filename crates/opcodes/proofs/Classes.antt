@@ -1,0 +1,58 @@
+-- What is proved of the class numbers, for a `match` on one.
+use mathlib.Core.Bool.{Bool, true, false, _&&_}
+use mathlib.Core.List.{List, [], _∷_}
+use mathlib.Core.Path.{_≡_, sym, ap, _∙_}
+use Prim.Native.Nat.{ℕ, _-_, _≤_, _<_}
+use native.Mathlib.Omega.{arith}
+use lib.Dec.{T, leb, ltb, ltb→lt}
+use mir.Facts.{and-yes}
+use Rattle.definition.specs.Basics.{pick}
+use Rattle.definition.specs.Classes.{classAt, Range, range, ranges, numberIn, classNumber, classOf, ordinary, unmodelled}
+use Rattle.opcodes.proofs.Every.{every}
+use Rattle.opcodes.proofs.Match.{Rest, gives, below, ranged}
+
+-- the class numbers of the ranges, and unmodelled's, are below n
+abbrev allBelow : ℕ → List Range → Bool
+allBelow n [] = ltb 0 n
+allBelow n (range from to class ∷ l) = ltb class n && allBelow n l
+
+pick-below : (b : Bool) (x y n : ℕ) → x < n → y < n → pick b x y < n
+pick-below true x y n g h = g
+pick-below false x y n g h = h
+
+numberIn-below : (n : ℕ) (l : List Range) (opcode : ℕ) → T (allBelow n l) → numberIn l opcode < n
+numberIn-below n [] opcode t = ltb→lt 0 n t
+numberIn-below n (range from to class ∷ l) opcode t =
+    let both = and-yes (ltb class n) (allBelow n l) t in
+    pick-below (leb from opcode && leb opcode to) class (numberIn l opcode) n (ltb→lt class n (both .0)) (numberIn-below n l opcode (both .1))
+
+-- every class number is below 32
+pub number-below : (opcode : ℕ) → classNumber opcode < 32
+unfolding classNumber
+number-below opcode = numberIn-below 32 ranges opcode tt
+
+-- the class of an opcode whose class number is n
+pub class-is : (opcode n : ℕ) → classNumber opcode ≡ n → classOf opcode ≡ classAt n
+unfolding classOf
+class-is opcode n e = ap classAt e
+
+-- the same by what `class_of` or `class_at` gave, r, where a match on r is at n
+pub class-at-key : (opcode r n : ℕ) → r ≡ classNumber opcode → r ≡ n → classOf opcode ≡ classAt n
+class-at-key opcode r n e k = class-is opcode n (sym e ∙ k)
+
+-- and at its default: r, from lo to below hi, is none of the numbers of the arms, and they are all of that range but 0
+pub class-at-rest : (arms : List (List ℕ)) (opcode r lo hi : ℕ) → r ≡ classNumber opcode → Rest arms r → lo ≤ r → r < hi
+    → T (every (gives (λ n. n) arms 0) (hi - lo) lo) → classOf opcode ≡ ordinary unmodelled
+class-at-rest arms opcode r lo hi e k g h t = class-at-key opcode r 0 e (sym (ranged (λ n. n) arms r 0 lo hi k g h t))
+
+pub result-below : (opcode r : ℕ) → r ≡ classNumber opcode → r < 32
+result-below opcode r e = rw e (number-below opcode)
+
+-- the two ranges of push
+pub push-low : (opcode : ℕ) → opcode ≤ 0x4f → classNumber opcode ≡ 1
+unfolding classNumber
+push-low opcode h = sym (below classNumber [] opcode 1 0x50 tt (omega arith) tt)
+
+pub push-high : (opcode : ℕ) → 0x51 ≤ opcode → opcode ≤ 0x60 → classNumber opcode ≡ 1
+unfolding classNumber
+push-high opcode g h = sym (ranged classNumber [] opcode 1 0x51 0x61 tt g (omega arith) tt)
