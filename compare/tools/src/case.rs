@@ -1,0 +1,148 @@
+//! The protocol: one case a line, one answer a line. README.md describes it.
+
+use std::fmt;
+
+use reference::{fragment, fragment_outside, limits, paper, paper_outside};
+
+#[derive(Clone, Debug, PartialEq, Eq)]
+pub enum Case {
+    Fragment { main: u32, alt: u32, bytes: Vec<u8> },
+    Limits { bytes: Vec<u8> },
+    Paper { bytes: Vec<u8> },
+}
+
+/// The most bytes that the repeat form may stand for.
+const MOST_BYTES: usize = 1_000_000;
+
+/// A tail of equal bytes this long is written in the repeat form.
+const LONG_TAIL: usize = 100;
+
+impl Case {
+    pub fn parse(line: &str) -> Result<Self, String> {
+        let fields: Vec<&str> = line.split(' ').collect();
+        let wanted = match fields[0] {
+            "fragment" => 4,
+            "limits" | "paper" => 2,
+            word => return Err(format!("unknown word {word:?}")),
+        };
+        if fields.len() != wanted {
+            return Err(format!("{} fields, and {:?} has {wanted}", fields.len(), fields[0]));
+        }
+        let bytes = parse_bytes(fields[wanted - 1])?;
+        Ok(match fields[0] {
+            "fragment" => Self::Fragment { main: parse_u32(fields[1])?, alt: parse_u32(fields[2])?, bytes },
+            "limits" => Self::Limits { bytes },
+            _ => Self::Paper { bytes },
+        })
+    }
+
+    pub fn word(&self) -> &'static str {
+        match self {
+            Self::Fragment { .. } => "fragment",
+            Self::Limits { .. } => "limits",
+            Self::Paper { .. } => "paper",
+        }
+    }
+
+    pub fn bytes(&self) -> &[u8] {
+        match self {
+            Self::Fragment { bytes, .. } | Self::Limits { bytes } | Self::Paper { bytes } => bytes,
+        }
+    }
+
+    /// The answer line, and the verdict number unless the case is outside the
+    /// limits that the Rust shares.
+    pub fn answer(&self) -> (Option<u32>, String) {
+        let word = self.word();
+        match self {
+            Self::Fragment { main, alt, bytes } => {
+                if fragment_outside(bytes, *main, *alt) {
+                    return (None, format!("{word} outside"));
+                }
+                let r = fragment(bytes, *main, *alt);
+                (Some(r.number), format!("{word} {} {} {} {}", r.number, r.offset, r.a, r.b))
+            }
+            Self::Limits { bytes } => {
+                let r = limits(bytes);
+                (Some(r.number), format!("{word} {} {} {} {}", r.number, r.offset, r.a, r.b))
+            }
+            Self::Paper { bytes } => {
+                if paper_outside(bytes) {
+                    return (None, format!("{word} outside"));
+                }
+                let r = paper(bytes);
+                (Some(r.number), format!("{word} {} {} {} {} {}", r.number, r.entry, r.offset, r.a, r.b))
+            }
+        }
+    }
+}
+
+impl Case {
+    /// The line with the bytes as hex alone.
+    pub fn plain(&self) -> String {
+        self.line(usize::MAX)
+    }
+
+    /// The line, with a tail of this many equal bytes or more in the repeat form.
+    fn line(&self, long_tail: usize) -> String {
+        let mut line = match self {
+            Self::Fragment { main, alt, .. } => format!("{} {main} {alt} ", self.word()),
+            _ => format!("{} ", self.word()),
+        };
+        let bytes = self.bytes();
+        let Some(last) = bytes.last() else {
+            return line + "-";
+        };
+        let tail = bytes.iter().rev().take_while(|byte| *byte == last).count();
+        let repeat = tail >= long_tail;
+        for byte in &bytes[..bytes.len() - if repeat { tail - 1 } else { 0 }] {
+            line += &format!("{byte:02x}");
+        }
+        if repeat {
+            line += &format!("*{tail}");
+        }
+        line
+    }
+}
+
+impl fmt::Display for Case {
+    fn fmt(&self, f: &mut fmt::Formatter<'_>) -> fmt::Result {
+        f.write_str(&self.line(LONG_TAIL))
+    }
+}
+
+/// `-`, or hex, or hex and `*N`: the last byte stands N times.
+fn parse_bytes(field: &str) -> Result<Vec<u8>, String> {
+    if field == "-" {
+        return Ok(Vec::new());
+    }
+    let (hex, times) = match field.split_once('*') {
+        Some((hex, times)) => (hex, parse_u32(times)? as usize),
+        None => (field, 1),
+    };
+    let digit = |byte: u8| match byte {
+        b'0'..=b'9' => Ok(byte - b'0'),
+        b'a'..=b'f' => Ok(byte - b'a' + 10),
+        _ => Err(format!("bad hex: a byte {byte:#04x}, not one of 0 to 9 and a to f")),
+    };
+    let (pairs, odd) = hex.as_bytes().as_chunks::<2>();
+    let mut bytes = pairs.iter().map(|[high, low]| Ok(digit(*high)? << 4 | digit(*low)?)).collect::<Result<Vec<u8>, String>>()?;
+    if !odd.is_empty() {
+        return Err("bad hex: an odd number of digits".into());
+    }
+    let Some(&last) = bytes.last() else {
+        return Err("bad hex: no digits; no bytes are written -".into());
+    };
+    if times == 0 || bytes.len() - 1 + times > MOST_BYTES.max(bytes.len()) {
+        return Err(format!("bad repeat: {times} times, not from 1 up to {MOST_BYTES} bytes in all"));
+    }
+    bytes.resize(bytes.len() - 1 + times, last);
+    Ok(bytes)
+}
+
+fn parse_u32(field: &str) -> Result<u32, String> {
+    if field.is_empty() || !field.bytes().all(|byte| byte.is_ascii_digit()) {
+        return Err(format!("bad number {field:?}"));
+    }
+    field.parse().map_err(|_| format!("bad number {field}: over 4294967295"))
+}
