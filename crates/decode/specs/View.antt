@@ -1,9 +1,10 @@
 -- What the structs and enums of this crate stand for in the definitions of document 01.
 use mathlib.Core.List.{List, [], _∷_}
+use mathlib.Core.Option.{Option, none, some}
 use Prim.Native.Nat.{ℕ, zero, suc, _+_, _*_, _/_, _%_, _^_, _≤_, _<_}
 use lib.ListN.{length, drop}
 use Rattle.definition.specs.Basics.{Bytes}
-use Rattle.definition.specs.Decoding.{number, Front, whole, short, front}
+use Rattle.definition.specs.Decoding.{number, Front, whole, short, front, Code, decodeFrom}
 use Rattle.definition.specs.Decoding as D
 use Rattle.definition.specs.Walk.{Item, unknown, exact, known}
 use Rattle.decode.specs.declared.Value.{Value}
@@ -11,6 +12,8 @@ use Rattle.decode.specs.declared.Value.the-variants.{Unknown, Exact}
 use Rattle.decode.specs.declared.Instruction.{Instruction}
 use Rattle.decode.specs.declared.Decoded.{Decoded}
 use Rattle.decode.specs.declared.Decoded.the-variants.{At, End, Malformed}
+use Rattle.decode.specs.declared.Counted.{Counted}
+use Rattle.decode.specs.declared.Counted.the-variants as C
 use Rattle.decode.specs.declared.Index.{Index}
 use Rattle.decode.specs.declared.Index.the-variants as I
 
@@ -46,6 +49,15 @@ decodedRest (b ∷ rest) offset = decodedFront (front b rest) b offset
 
 unfoldable pub decodedAt : Bytes → ℕ → Decoded
 decodedAt fragment offset = decodedRest (drop offset fragment) offset
+
+-- the code that a reading head at offset p of a fragment yields from there on
+unfoldable pub codeAt : Bytes → ℕ → Code
+codeAt s p = decodeFrom 0 p (drop p s)
+
+-- how many instructions there are, or where the fragment is malformed
+abbrev pub countedOf : Option ℕ → ℕ → Counted
+countedOf none count = C.Whole count
+countedOf (some offset) count = C.Malformed offset
 
 -- an index as the definition reads it
 abbrev pub indexed : D.Index → Index

@@ -1,4 +1,10 @@
 // Decoding and the number form: document 01, section 1.
+ghost use mathlib.Core.Path.{_≡_};
+ghost use Prim.Native.Nat.{_+_, _-_, _≤_, _<_};
+ghost use lib.ListN.{length, take, drop, getD};
+ghost use Rattle.definition.specs.Decoding.{number, alone, pushes, sized, decode, instructions, malformedAt, plus, serialize, last, minimal, deserialize, indexRead, indexOf};
+ghost use Rattle.definition.specs.Walk.{known, bytesKnown};
+ghost use Rattle.decode.specs.View.{lowBytes, itemOf, valueOf, decodedFront, decodedAt, countedOf, indexed};
 
 // What is known of an item: nothing, or its length and its bytes as one number, the first byte the lowest.
 pub enum Value {
@@ -27,4 +33,265 @@ pub enum Index {
     NoNumber,
     Negative,
     At(u64),
+}
+
+// How many instructions a fragment has, or the offset at which it is malformed.
+pub enum Counted {
+    Whole(usize),
+    Malformed(usize),
+}
+
+fn wide(x: u8) -> u64
+    ensures { λ r. ⌜ r ≡ x ⌝ }
+{
+    x as u64
+}
+
+// The n bytes from start on as one number, the first the lowest.
+fn number(fragment: &[u8], start: usize, n: usize) -> u64
+    requires { ⌜ (n ≤ 8) × (start + n ≤ length (now fragment)) ⌝ }
+    ensures { λ r. ⌜ r ≡ number (take n (drop start (now (fragment .entry)))) ⌝ }
+{
+    let mut v: u64 = 0;
+    let mut k = n;
+    while k > 0 {
+        k -= 1;
+        v = wide(fragment[start + k]) + v * 256;
+    }
+    v
+}
+
+// The instruction with this opcode and `size` bytes of data from start on.
+fn pushes(fragment: &[u8], opcode: u8, offset: usize, start: usize, size: usize) -> Decoded
+    requires { ⌜ (offset < start) × (start ≤ length (now fragment)) ⌝ }
+    ensures { λ r.
+        ⌜
+        r
+        ≡ decodedFront
+        (pushes (start - (offset + 1)) size (drop start (now (fragment .entry))))
+        opcode
+        offset
+        ⌝ }
+{
+    if fragment.len() - start < size {
+        return Decoded::Malformed;
+    }
+    let next = start + size;
+    if size > 8 {
+        return Decoded::At(Instruction {
+            opcode,
+            offset,
+            literal: Value::Unknown,
+            next,
+        });
+    }
+    let bytes = number(fragment, start, size);
+    let literal = Value::Exact {
+        len: size as u8,
+        bytes,
+    };
+    Decoded::At(Instruction {
+        opcode,
+        offset,
+        literal,
+        next,
+    })
+}
+
+// The instruction with this opcode, a length of n bytes behind it, and data of that length.
+fn sized(fragment: &[u8], opcode: u8, offset: usize, n: usize) -> Decoded
+    requires { ⌜ (n ≤ 4) × (offset < length (now fragment)) ⌝ }
+    ensures { λ r. ⌜ r ≡ decodedFront (sized n (drop (offset + 1) (now (fragment .entry)))) opcode offset ⌝ }
+{
+    let start = offset + 1;
+    if fragment.len() - start < n {
+        return Decoded::Malformed;
+    }
+    let size = number(fragment, start, n) as usize;
+    pushes(fragment, opcode, offset, start + n, size)
+}
+
+// What an opcode that stands alone pushes.
+fn alone(opcode: u8) -> Value
+    ensures { λ r. ⌜ r ≡ valueOf (known (alone opcode)) ⌝ }
+{
+    if opcode == 0x4f {
+        return Value::Exact {
+            len: 1,
+            bytes: 0x81,
+        };
+    }
+    if opcode < 0x51 {
+        return Value::Exact { len: 0, bytes: 0 };
+    }
+    if opcode > 0x60 {
+        return Value::Exact { len: 0, bytes: 0 };
+    }
+    Value::Exact {
+        len: 1,
+        bytes: wide(opcode - 0x50),
+    }
+}
+
+// What stands at an offset whose opcode is followed by data or by a length, or is 00.
+fn pushing(fragment: &[u8], opcode: u8, offset: usize) -> Decoded
+    requires { ⌜ offset < length (now fragment) ⌝ }
+    requires { ⌜ (opcode ≡ getD (now fragment) offset 0) × (opcode ≤ 0x4e) ⌝ }
+    ensures { λ r. ⌜ r ≡ decodedAt (now (fragment .entry)) offset ⌝ }
+{
+    if opcode < 0x4c {
+        return pushes(fragment, opcode, offset, offset + 1, opcode as usize);
+    }
+    if opcode == 0x4c {
+        return sized(fragment, opcode, offset, 1);
+    }
+    if opcode == 0x4d {
+        return sized(fragment, opcode, offset, 2);
+    }
+    sized(fragment, opcode, offset, 4)
+}
+
+// What stands at an offset. An opcode that stands alone is answered here, so that the function is short where it is called.
+pub fn decode_at(fragment: &[u8], offset: usize) -> Decoded
+    ensures { λ r. ⌜ r ≡ decodedAt (now (fragment .entry)) offset ⌝ }
+{
+    if fragment.len() <= offset {
+        return Decoded::End;
+    }
+    let opcode = fragment[offset];
+    if opcode > 0x4e {
+        let literal = alone(opcode);
+        return Decoded::At(Instruction {
+            opcode,
+            offset,
+            literal,
+            next: offset + 1,
+        });
+    }
+    pushing(fragment, opcode, offset)
+}
+
+// How many instructions there are, or where the fragment is malformed.
+pub fn count_instructions(fragment: &[u8]) -> Counted
+    ensures { λ r.
+        ⌜
+        r
+        ≡ countedOf (malformedAt (decode (now (fragment .entry)))) (length (instructions (decode (now (fragment .entry)))))
+        ⌝ }
+{
+    let mut offset: usize = 0;
+    let mut count: usize = 0;
+    loop {
+        if fragment.len() <= offset {
+            return Counted::Whole(count);
+        }
+        let opcode = fragment[offset];
+        if opcode > 0x4e {
+            offset += 1;
+            count += 1;
+            continue;
+        }
+        match pushing(fragment, opcode, offset) {
+            Decoded::At(i) => {
+                offset = i.next;
+                count += 1;
+                continue;
+            }
+            Decoded::End => {
+                return Counted::Whole(count);
+            }
+            Decoded::Malformed => {
+                return Counted::Malformed(offset);
+            }
+        }
+    }
+}
+
+// The last of `len` bytes.
+fn last_byte(len: u8, bytes: u64) -> u64
+    requires { ⌜ (1 ≤ len) × (len ≤ 8) ⌝ }
+    ensures { λ r. ⌜ r ≡ last (lowBytes len bytes) ⌝ }
+{
+    (bytes >> ((wide(len) - 1) * 8)) % 256
+}
+
+// Whether the last byte is neither 00 nor 80, or the byte before it has its top bit set.
+fn minimal(len: u8, bytes: u64) -> bool
+    requires { ⌜ (1 ≤ len) × (len ≤ 8) ⌝ }
+    ensures { λ r. ⌜ r ≡ minimal (lowBytes len bytes) ⌝ }
+{
+    if last_byte(len, bytes) % 128 != 0 {
+        return true;
+    }
+    if len == 1 {
+        return false;
+    }
+    if last_byte(len - 1, bytes) < 128 {
+        return false;
+    }
+    true
+}
+
+// `len` bytes in number form, read as an index.
+fn number_index(len: u8, bytes: u64) -> Index
+    ensures { λ r. ⌜ r ≡ indexed (indexRead (deserialize (lowBytes len bytes))) ⌝ }
+{
+    if len == 0 {
+        return Index::At(0);
+    }
+    if len > 8 {
+        return Index::NoNumber;
+    }
+    if !minimal(len, bytes) {
+        return Index::NoNumber;
+    }
+    if last_byte(len, bytes) >= 128 {
+        return Index::Negative;
+    }
+    // the last byte is below 80: 8 * len - 1 bits hold the number
+    Index::At(bytes % (1u64 << (wide(len) * 8 - 1)))
+}
+
+// A value read as an index.
+pub fn read_index(v: Value) -> Index
+    ensures { λ r. ⌜ r ≡ indexed (indexOf (bytesKnown (itemOf v))) ⌝ }
+{
+    match v {
+        Value::Unknown => Index::Unknown,
+        Value::Exact { len, bytes } => number_index(len, bytes),
+    }
+}
+
+// A height or a length as a value, in number form.
+pub fn number_value(n: u64) -> Value
+    ensures { λ r. ⌜ r ≡ valueOf (known (serialize (plus n))) ⌝ }
+{
+    if n == 0 {
+        return Value::Exact { len: 0, bytes: 0 };
+    }
+    if n < 0x80 {
+        return Value::Exact { len: 1, bytes: n };
+    }
+    if n < 0x8000 {
+        return Value::Exact { len: 2, bytes: n };
+    }
+    if n < 0x800000 {
+        return Value::Exact { len: 3, bytes: n };
+    }
+    if n < 0x80000000 {
+        return Value::Exact { len: 4, bytes: n };
+    }
+    if n < 0x8000000000 {
+        return Value::Exact { len: 5, bytes: n };
+    }
+    if n < 0x800000000000 {
+        return Value::Exact { len: 6, bytes: n };
+    }
+    if n < 0x80000000000000 {
+        return Value::Exact { len: 7, bytes: n };
+    }
+    if n < 0x8000000000000000 {
+        return Value::Exact { len: 8, bytes: n };
+    }
+    Value::Unknown
 }

@@ -1,0 +1,22 @@
+use borrow.Author.Needs.{needs}
+use Rattle.decode.proofs.read_index.Statement.{statement}
+use Rattle.decode.proofs.read_index.Tie as tie
+
+enum-told : tie.Need-enum-told
+enum-told c = search needs
+
+enum-known-v : tie.Need-enum-known-v
+enum-known-v c = search needs
+
+number-index-requires : tie.Need-number-index-requires
+number-index-requires c κs = search needs
+
+returns : tie.Need-returns
+returns c = search needs
+
+returns-2 : tie.Need-returns-2
+returns-2 c = cc
+
+pub read-index-spec : {M : Type 1} → statement M
+read-index-spec =
+    tie.close (tie.spec enum-told enum-known-v number-index-requires returns returns-2)
