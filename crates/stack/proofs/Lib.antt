@@ -1,0 +1,10 @@
+pub mod Laws
+pub mod Mains
+pub mod Alts
+pub mod Loops
+pub mod Joins
+pub mod Packs
+pub mod Values
+pub mod Pops
+pub mod Indices
+pub mod OneForm

@@ -1,0 +1,14 @@
+use Rattle.stack.proofs.Packs.{fresh}
+use borrow.Author.Needs.{needs}
+use native.Mathlib.Omega.{arith}
+use Rattle.stack.proofs.Stacks.new.Statement.{statement}
+use Rattle.stack.proofs.Stacks.new.Tie as tie
+use Rattle.stack.proofs.Stacks.new.Reads as reads
+use Rattle.stack.proofs.Stacks.new.Lts as lts
+
+-- src/lib.rt:80:5
+returns : tie.Need-returns
+returns c = search (fresh)
+
+pub new-spec : {M : Type 1} → statement M
+new-spec = tie.close (tie.spec returns)

@@ -1,0 +1,60 @@
+use Rattle.stack.proofs.Indices.{number-held, size-dry, size-unknown, size-done}
+use borrow.Author.Needs.{needs}
+use native.Mathlib.Omega.{arith}
+use Rattle.stack.proofs.Stacks.size.Statement.{statement}
+use Rattle.stack.proofs.Stacks.size.Tie as tie
+use Rattle.stack.proofs.Stacks.size.Reads as reads
+use Rattle.stack.proofs.Stacks.size.Lts as lts
+use Rattle.decode.proofs.number_value.Reads as number-value-reads
+use Rattle.stack.proofs.Stacks.apply_effect.Reads as apply-effect-reads
+use Rattle.stack.proofs.Stacks.push.Reads as push-reads
+
+-- src/lib.rt:714:13
+returns : tie.Need-returns
+returns c = search (size-dry)
+
+-- src/lib.rt:719:17
+cast-i : tie.Need-cast-i
+cast-i c = search needs
+
+-- src/lib.rt:721:19
+array-read-len : tie.Need-array-read-len
+array-read-len c = search needs
+
+-- src/lib.rt:723:13
+apply-effect-requires : tie.Need-apply-effect-requires
+apply-effect-requires c κs = search needs
+
+-- src/lib.rt:723:13
+returns-2 : tie.Need-returns-2
+returns-2 c = search (size-unknown)
+
+-- src/lib.rt:725:30
+cast-number-value : tie.Need-cast-number-value
+cast-number-value c = search needs
+
+-- src/lib.rt:725:13
+number-value-requires : tie.Need-number-value-requires
+number-value-requires c κs = search needs
+
+-- src/lib.rt:726:9
+push-requires : tie.Need-push-requires
+push-requires c κs = (search needs, (search (number-held), search needs))
+
+-- src/lib.rt:707:5
+returns-3 : tie.Need-returns-3
+returns-3 c = search (size-done)
+
+pub size-spec : {M : Type 1} → statement M
+size-spec =
+    tie.close
+    (tie.spec
+    returns
+    cast-i
+    array-read-len
+    apply-effect-requires
+    returns-2
+    cast-number-value
+    number-value-requires
+    push-requires
+    returns-3)

@@ -1,0 +1,122 @@
+-- What the structs and enums of this crate stand for in the definitions of document 01.
+use mathlib.Core.List.{List, [], _∷_, _++_, map, reverse}
+use mathlib.Core.Path.{_≡_}
+use Prim.Native.Nat.{ℕ, zero, suc, _+_, _-_, _^_, _≤_, _<_}
+use lib.Dec.{leb}
+use lib.ListN.{length, getD, replicate}
+use Rattle.definition.specs.Basics.{pick}
+use Rattle.definition.specs.Classes.{Ordinary, drops, makes}
+use Rattle.definition.specs.Decoding.{number, Instruction}
+use Rattle.definition.specs.Refusals as D
+use Rattle.definition.specs.Stacks as S
+use Rattle.definition.specs.Walk.{Item, unknown, exact, marking, unknowns}
+use Rattle.decode.specs.View.{lowBytes}
+use Rattle.stack.specs.declared.Items.{Items}
+use Rattle.stack.specs.declared.Stacks.{Stacks}
+use Rattle.stack.specs.declared.Refusal.{Refusal}
+use Rattle.stack.specs.declared.Refusal.the-variants.{Nesting, StacksFull, MainDry, AltDry, BadIndex, BadTag, Unmodelled, ArmsDiffer, StrayElse, SecondElse, StrayEndif, OpenIf}
+use Rattle.stack.specs.declared.Answer.{Answer}
+use Rattle.stack.specs.declared.Answer.the-variants.{Done, Refused}
+use Rattle.stack.specs.declared.Stepped.{Stepped}
+
+-- Answers
+
+-- a refusal, with its figures
+abbrev pub refusalOf : Refusal → D.Refusal
+refusalOf Nesting = D.nesting
+refusalOf (StacksFull wanted limit) = D.stacksFull wanted limit
+refusalOf (MainDry needed had) = D.mainDry needed had
+refusalOf AltDry = D.altDry
+refusalOf BadIndex = D.badIndex
+refusalOf BadTag = D.badTag
+refusalOf (Unmodelled opcode) = D.unmodelledOpcode opcode
+refusalOf ArmsDiffer = D.armsDiffer
+refusalOf StrayElse = D.strayElse
+refusalOf SecondElse = D.secondElse
+refusalOf StrayEndif = D.strayEndif
+refusalOf OpenIf = D.openIf
+
+-- "each stack operation yields the changed stacks or a refusal"
+abbrev pub outcome : Answer → S.Stacks Item → S.Outcome Item
+outcome Done s = S.done s
+outcome (Refused r) s = S.refused (refusalOf r)
+
+-- Stacks
+
+-- the item in a slot of this length and these bytes: length 9 is unknown
+abbrev pub slotItem : ℕ → ℕ → Item
+slotItem len bytes = pick (leb len 8) (exact (lowBytes len bytes)) unknown
+
+-- the item in slot j, counted from the bottom, and counted from the top end
+abbrev pub cells : Items → ℕ → Item
+cells p j = slotItem (getD (p .lens) j 0) (getD (p .bytes) j 0)
+
+abbrev pub backs : Items → ℕ → Item
+backs p j = cells p (243 - j)
+
+-- f at n - 1, .., 0
+abbrev pub tops : {A : Type 0} → (ℕ → A) → ℕ → List A
+tops f zero = []
+tops f (suc n) = f n ∷ tops f n
+
+-- the stacks, each with its top first: main lies from the bottom up, alt from the top end down
+unfoldable pub view : Stacks → S.Stacks Item
+view s = record { main = tops (cells (s .items)) (s .mains); alt = tops (backs (s .items)) (s .alts) }
+
+-- a slot's length is at most 9, and where it is at most 8, no bit lies above that many bytes
+pub record Canon (len bytes : ℕ) : Type 0 where
+  pub short : len ≤ 9
+  pub held : len ≤ 8 → bytes < 256 ^ len
+
+-- both arrays are whole, and every slot is as above, in use or not
+pub record Sound (p : Items) : Type 0 where
+  pub wholeBytes : length (p .bytes) ≡ 244
+  pub wholeLens : length (p .lens) ≡ 244
+  pub canon : (j : ℕ) → Canon (getD (p .lens) j 0) (getD (p .bytes) j 0)
+
+-- the two stacks do not overlap
+pub record Fit (s : Stacks) : Type 0 where
+  pub room : s .mains + s .alts ≤ 244
+  pub sound : Sound (s .items)
+
+-- the result of a method says the outcome o of the definition, and its stacks fit, after a refusal too
+pub record Says (r : Stepped) (o : S.Outcome Item) : Type 0 where
+  pub fit : Fit (r .stacks)
+  pub same : outcome (r .answer) (view (r .stacks)) ≡ o
+
+-- the same of a step of the class o at this limit, whatever else the rules and the instruction hold
+pub record Steps (r : Stepped) (limit : ℕ) (o : Ordinary) (s : S.Stacks Item) : Type 0 where
+  pub fit : Fit (r .stacks)
+  pub same : (R : S.Rules) (i : Instruction) → R .limit ≡ limit → outcome (r .answer) (view (r .stacks)) ≡ S.step marking R i o s
+
+-- the plain class that pops so many, and pushes no item, or one
+abbrev pub plain : ℕ → ℕ → Ordinary
+plain pops zero = drops pops
+plain pops (suc pushes) = makes pops
+
+-- so many unknown items on each stack
+pub record Fresh (main alt : ℕ) (s : Stacks) : Type 0 where
+  pub fit : Fit s
+  pub same : view s ≡ unknowns main alt
+
+-- The one form of stacks, with nothing left to choose
+
+-- the length and the bytes of an item's slot
+abbrev pub slotLen : Item → ℕ
+slotLen unknown = 9
+slotLen (exact l) = length l
+
+abbrev pub slotBytes : Item → ℕ
+slotBytes unknown = 0
+slotBytes (exact l) = number l
+
+-- all 244 slots from the bottom: main, unknown items in the unused ones, alt
+abbrev pub pool : S.Stacks Item → List Item
+pool s = reverse (s .main) ++ (replicate (244 - S.total s) unknown ++ s .alt)
+
+unfoldable pub packed : S.Stacks Item → Stacks
+packed s = record {
+  items = record { bytes = map slotBytes (pool s); lens = map slotLen (pool s) };
+  mains = length (s .main);
+  alts = length (s .alt);
+}

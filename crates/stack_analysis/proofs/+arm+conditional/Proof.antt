@@ -1,0 +1,384 @@
+use mathlib.Core.Path.{refl}
+use Rattle.stack_analysis.proofs.Cycle.{ready-on, ready-there, ready-second, one-deeper, not-entered, one-arm, two-arms, closed-running, not-else, ifMore, Arming, arming-none, arm-ended, falls-in, ready-in, arm-refused, runs-on, ready-after, arm-again, arm-nearer}
+use lib.ListN.{length}
+use borrow.Author.Needs.{needs}
+use native.Mathlib.Omega.{arith}
+use Prim.Native.Nat.{ℕ, _+_, _-_, _*_, _<_}
+use borrow.Fn.Kinds.{In}
+use borrow.Fn.PlainCycle.{Measures, is, falls, and}
+use Rattle.stack_analysis.proofs.arm.Reads as arm
+use Rattle.stack_analysis.proofs.arm.Kinds as arm-kinds
+use Rattle.stack_analysis.proofs.+arm+conditional.Lts-arm as arm-lts
+use Rattle.stack_analysis.proofs.conditional.Reads as conditional
+use Rattle.stack_analysis.proofs.conditional.Kinds as conditional-kinds
+use Rattle.stack_analysis.proofs.+arm+conditional.Lts-conditional as conditional-lts
+use Rattle.stack_analysis.proofs.enter.Reads as enter-reads
+use Rattle.stack_analysis.proofs.finish.Reads as finish-reads
+use Rattle.stack_analysis.proofs.plain.Reads as plain-reads
+use Rattle.stack_analysis.proofs.+arm+conditional.{statement}
+use Rattle.stack_analysis.proofs.+arm+conditional.Tie.{close}
+
+abbrev μ-arm : Measures 2 arm-kinds.ps ℕ
+μ-arm κs a = 2 * (length (a .0 .now) - a .1 .1 .0 .at) + 1
+
+abbrev μ-conditional : Measures 2 conditional-kinds.ps ℕ
+μ-conditional κs a = 2 * (length (a .0 .now) - a .1 .1 .0 .at) + 2
+
+abbrev arm-at : ℕ → In 2 arm-kinds.ps
+arm-at t = and 2 arm-kinds.ps (is 2 arm-kinds.ps μ-arm t) arm.Pre
+
+abbrev arm-below : ℕ → In 2 arm-kinds.ps
+arm-below t = and 2 arm-kinds.ps (falls 2 arm-kinds.ps _<_ μ-arm t) arm.Pre
+
+abbrev conditional-at : ℕ → In 2 conditional-kinds.ps
+conditional-at t =
+    and 2 conditional-kinds.ps (is 2 conditional-kinds.ps μ-conditional t) conditional.Pre
+
+abbrev conditional-below : ℕ → In 2 conditional-kinds.ps
+conditional-below t =
+    and 2 conditional-kinds.ps (falls 2 conditional-kinds.ps _<_ μ-conditional t) conditional.Pre
+
+abbrev arm-Inv-loop : arm-lts.InvT-loop
+arm-Inv-loop code log₀ depth w₀ log w = Arming code depth w₀ log₀ w log
+
+abbrev arm-μ-loop : arm-lts.MeasureT-loop
+arm-μ-loop code log₀ depth w₀ log w = 2 * (length code - w .at) + ifMore (w .stop)
+
+-- src/lib.rt:268:9
+arm-plain-requires : (t : ℕ) → arm-lts.Need-plain-requires (
+  plain-reads.Asked,
+  plain-reads.Learnt,
+  conditional-below t,
+  conditional.Post,
+) (arm-at t) arm.Post arm-Inv-loop arm-μ-loop
+arm-plain-requires t c κs = c .before .before .before .pre .1 .0
+
+-- src/lib.rt:269:5
+arm-loop-holds : (t : ℕ) → arm-lts.Need-loop-holds (
+  plain-reads.Asked,
+  plain-reads.Learnt,
+  conditional-below t,
+  conditional.Post,
+) (arm-at t) arm.Post arm-Inv-loop arm-μ-loop
+arm-loop-holds t c = arming-none (c .before .before .plain .ensures)
+
+arm-enum-told : (t : ℕ) → arm-lts.Need-enum-told (
+  plain-reads.Asked,
+  plain-reads.Learnt,
+  conditional-below t,
+  conditional.Post,
+) (arm-at t) arm.Post arm-Inv-loop arm-μ-loop
+arm-enum-told t c = search needs
+
+-- src/lib.rt:272:13
+arm-same-length : (t : ℕ) → arm-lts.Need-same-length (
+  plain-reads.Asked,
+  plain-reads.Learnt,
+  conditional-below t,
+  conditional.Post,
+) (arm-at t) arm.Post arm-Inv-loop arm-μ-loop
+arm-same-length t c = search needs
+
+-- src/lib.rt:272:13
+arm-returns : (t : ℕ) → arm-lts.Need-returns (
+  plain-reads.Asked,
+  plain-reads.Learnt,
+  conditional-below t,
+  conditional.Post,
+) (arm-at t) arm.Post arm-Inv-loop arm-μ-loop
+arm-returns t c = arm-ended (c .before .before .before .before .plain .ensures) (c .before .loop .inv) (c .match .keys2)
+
+-- src/lib.rt:274:13
+arm-conditional-requires : (t : ℕ) → arm-lts.Need-conditional-requires (
+  plain-reads.Asked,
+  plain-reads.Learnt,
+  conditional-below t,
+  conditional.Post,
+) (arm-at t) arm.Post arm-Inv-loop arm-μ-loop
+arm-conditional-requires t c κs =
+    let l = c .before .before .before .loop in
+    let q = c .before .before .before .before .before .before .plain in
+    let s = c .before .before .before .before .before .before .before .before .before .before in
+    let e = c .before .enum-told .given .1 in
+    (omega (arith, falls-in (q .ensures) (l .inv) e, s .pre .0), ((ready-in (q .ensures) (l .inv) (s .pre .1 .0 .0) (q .kept .1 .0), e), s .pre .1 .1))
+
+-- src/lib.rt:277:13
+arm-enum-told-2 : (t : ℕ) → arm-lts.Need-enum-told-2 (
+  plain-reads.Asked,
+  plain-reads.Learnt,
+  conditional-below t,
+  conditional.Post,
+) (arm-at t) arm.Post arm-Inv-loop arm-μ-loop
+arm-enum-told-2 t c = search needs
+
+-- src/lib.rt:277:13
+arm-same-length-2 : (t : ℕ) → arm-lts.Need-same-length-2 (
+  plain-reads.Asked,
+  plain-reads.Learnt,
+  conditional-below t,
+  conditional.Post,
+) (arm-at t) arm.Post arm-Inv-loop arm-μ-loop
+arm-same-length-2 t c = search needs
+
+-- src/lib.rt:277:13
+arm-returns-2 : (t : ℕ) → arm-lts.Need-returns-2 (
+  plain-reads.Asked,
+  plain-reads.Learnt,
+  conditional-below t,
+  conditional.Post,
+) (arm-at t) arm.Post arm-Inv-loop arm-μ-loop
+arm-returns-2 t c = arm-refused (c .before .before .before .before .before .before .before .before .before .before .before .plain .ensures) (c .before .before .before .before .before .before .before .before .loop .inv) (c .before .before .before .before .conditional .ensures) _ (c .enum-told2 .given .1)
+
+-- src/lib.rt:279:9
+arm-plain-requires-2 : (t : ℕ) → arm-lts.Need-plain-requires-2 (
+  plain-reads.Asked,
+  plain-reads.Learnt,
+  conditional-below t,
+  conditional.Post,
+) (arm-at t) arm.Post arm-Inv-loop arm-μ-loop
+arm-plain-requires-2 t c κs =
+    let d = c .before .before .before .before .conditional in
+    let l = c .before .before .before .before .before .before .before .before .loop in
+    let q = c .before .before .before .before .before .before .before .before .before .before .before .plain in
+    let s = c .before .before .before .before .before .before .before .before .before .before .before .before .before .before .before in
+    (ready-after (q .ensures) (l .inv) (d .ensures) (s .pre .1 .0 .0) (q .kept .1 .0) (d .kept .1 .0), runs-on (q .ensures) (l .inv) (d .ensures) (c .before .match2 .keys2))
+
+-- src/lib.rt:269:5
+arm-loop-less : (t : ℕ) → arm-lts.Need-loop-less (
+  plain-reads.Asked,
+  plain-reads.Learnt,
+  conditional-below t,
+  conditional.Post,
+) (arm-at t) arm.Post arm-Inv-loop arm-μ-loop
+arm-loop-less t c = arm-nearer (c .before .before .before .before .before .before .before .before .before .before .before .before .before .before .plain .ensures) (c .before .before .before .before .before .before .before .before .before .before .before .loop .inv) (c .before .before .before .before .before .before .before .conditional .ensures) (c .before .before .plain2 .ensures) (c .before .before .before .before .before .before .before .before .before .enum-told .given .1)
+
+-- src/lib.rt:269:5
+arm-loop-again : (t : ℕ) → arm-lts.Need-loop-again (
+  plain-reads.Asked,
+  plain-reads.Learnt,
+  conditional-below t,
+  conditional.Post,
+) (arm-at t) arm.Post arm-Inv-loop arm-μ-loop
+arm-loop-again t c = arm-again (c .before .before .before .before .before .before .before .before .before .before .before .before .before .before .plain .ensures) (c .before .before .before .before .before .before .before .before .before .before .before .loop .inv) (c .before .before .before .before .before .before .before .conditional .ensures) (c .before .before .plain2 .ensures) (c .before .before .before .before .before .before .before .before .before .enum-told .given .1) (c .before .before .before .before .before .before .before .conditional .kept .1 .0) (c .before .before .plain2 .kept .1 .0)
+
+-- src/lib.rt:291:9
+conditional-enter-requires : (t : ℕ) → conditional-lts.Need-enter-requires (
+  enter-reads.Asked,
+  enter-reads.Learnt,
+  arm-below t,
+  arm.Post,
+  finish-reads.Asked,
+  finish-reads.Learnt,
+) (conditional-at t) conditional.Post
+conditional-enter-requires t c κs =
+    let s = c .before .before in
+    ((s .pre .1 .0 .0 .fit, s .pre .1 .0 .1), s .pre .1 .1)
+
+-- src/lib.rt:294:9
+conditional-enum-told : (t : ℕ) → conditional-lts.Need-enum-told (
+  enter-reads.Asked,
+  enter-reads.Learnt,
+  arm-below t,
+  arm.Post,
+  finish-reads.Asked,
+  finish-reads.Learnt,
+) (conditional-at t) conditional.Post
+conditional-enum-told t c = search needs
+
+-- src/lib.rt:294:9
+conditional-returns : (t : ℕ) → conditional-lts.Need-returns (
+  enter-reads.Asked,
+  enter-reads.Learnt,
+  arm-below t,
+  arm.Post,
+  finish-reads.Asked,
+  finish-reads.Learnt,
+) (conditional-at t) conditional.Post
+conditional-returns t c =
+    let s = c .before .before .before .before .before in
+    not-entered (s .pre .1 .0 .0) (c .before .before .enter .ensures (s .args .code .now)) _ (c .enum-told .given .1)
+
+-- src/lib.rt:298:35
+conditional-add-arm : (t : ℕ) → conditional-lts.Need-add-arm (
+  enter-reads.Asked,
+  enter-reads.Learnt,
+  arm-below t,
+  arm.Post,
+  finish-reads.Asked,
+  finish-reads.Learnt,
+) (conditional-at t) conditional.Post
+conditional-add-arm t c = search needs
+
+-- src/lib.rt:298:9
+conditional-arm-requires : (t : ℕ) → conditional-lts.Need-arm-requires (
+  enter-reads.Asked,
+  enter-reads.Learnt,
+  arm-below t,
+  arm.Post,
+  finish-reads.Asked,
+  finish-reads.Learnt,
+) (conditional-at t) conditional.Post
+conditional-arm-requires t c κs =
+    let s = c .before .before .before .before .before .before in
+    let e = c .before .before .before .enter .ensures (s .args .code .now) in
+    let run = closed-running _ (e .closed) (c .before .before .match .keys2) in
+    (omega (arith, s .pre .0, e .place .at), ((ready-there (s .pre .1 .0 .0) (e .fit) (e .place), run), one-deeper (s .pre .1 .0 .0) e run))
+
+-- src/lib.rt:301:13
+conditional-enum-told-2 : (t : ℕ) → conditional-lts.Need-enum-told-2 (
+  enter-reads.Asked,
+  enter-reads.Learnt,
+  arm-below t,
+  arm.Post,
+  finish-reads.Asked,
+  finish-reads.Learnt,
+) (conditional-at t) conditional.Post
+conditional-enum-told-2 t c = search needs
+
+-- src/lib.rt:311:44
+conditional-add-arm-2 : (t : ℕ) → conditional-lts.Need-add-arm-2 (
+  enter-reads.Asked,
+  enter-reads.Learnt,
+  arm-below t,
+  arm.Post,
+  finish-reads.Asked,
+  finish-reads.Learnt,
+) (conditional-at t) conditional.Post
+conditional-add-arm-2 t c = search needs
+
+-- src/lib.rt:311:13
+conditional-arm-requires-2 : (t : ℕ) → conditional-lts.Need-arm-requires-2 (
+  enter-reads.Asked,
+  enter-reads.Learnt,
+  arm-below t,
+  arm.Post,
+  finish-reads.Asked,
+  finish-reads.Learnt,
+) (conditional-at t) conditional.Post
+conditional-arm-requires-2 t c κs =
+    let s = c .before .before .before .before .before .before .before .before .before .before .before .before .before in
+    let e = c .before .before .before .before .before .before .before .before .before .before .enter .ensures (s .args .code .now) in
+    let a = c .before .before .before .before .before .before .arm in
+    let run = closed-running _ (e .closed) (c .before .before .before .before .before .before .before .before .before .match .keys2) in
+    let r = ready-on (ready-there (s .pre .1 .0 .0) (e .fit) (e .place)) (a .ensures .goes) (a .kept .1 .0) in
+    (omega (arith, s .pre .0, e .place .at, a .ensures .goes .low), ((ready-second (c .before .before .before .before .before .before .before .before .before .before .enter .result) r (e .fit), refl), one-deeper (s .pre .1 .0 .0) e run))
+
+-- src/lib.rt:312:9
+conditional-finish-requires : (t : ℕ) → conditional-lts.Need-finish-requires (
+  enter-reads.Asked,
+  enter-reads.Learnt,
+  arm-below t,
+  arm.Post,
+  finish-reads.Asked,
+  finish-reads.Learnt,
+) (conditional-at t) conditional.Post
+conditional-finish-requires t c κs = ((c .before .before .arm2 .ensures .goes .fit, c .before .before .before .before .before .before .before .before .before .arm .ensures .goes .fit), c .before .before .arm2 .ensures .ended)
+
+-- src/lib.rt:312:9
+conditional-same-length : (t : ℕ) → conditional-lts.Need-same-length (
+  enter-reads.Asked,
+  enter-reads.Learnt,
+  arm-below t,
+  arm.Post,
+  finish-reads.Asked,
+  finish-reads.Learnt,
+) (conditional-at t) conditional.Post
+conditional-same-length t c = search needs
+
+-- src/lib.rt:312:9
+conditional-returns-2 : (t : ℕ) → conditional-lts.Need-returns-2 (
+  enter-reads.Asked,
+  enter-reads.Learnt,
+  arm-below t,
+  arm.Post,
+  finish-reads.Asked,
+  finish-reads.Learnt,
+) (conditional-at t) conditional.Post
+conditional-returns-2 t c =
+    let s = c .before .before .before .before .before .before .before .before .before .before .before .before .before .before .before .before .before in
+    let e = c .before .before .before .before .before .before .before .before .before .before .before .before .before .before .enter .ensures (s .args .code .now) in
+    two-arms (s .pre .1 .0 .0) e (closed-running _ (e .closed) (c .before .before .before .before .before .before .before .before .before .before .before .before .before .match .keys2)) (c .before .before .before .before .before .before .before .before .before .before .arm .ensures) (c .before .before .before .before .before .before .enum-told2 .given .1) (c .before .before .before .arm2 .ensures) (c .finish .ensures (s .args .code .now))
+
+-- src/lib.rt:314:5
+conditional-finish-requires-2 : (t : ℕ) → conditional-lts.Need-finish-requires-2 (
+  enter-reads.Asked,
+  enter-reads.Learnt,
+  arm-below t,
+  arm.Post,
+  finish-reads.Asked,
+  finish-reads.Learnt,
+) (conditional-at t) conditional.Post
+conditional-finish-requires-2 t c κs = ((c .before .before .before .arm .ensures .goes .fit, c .before .before .before .before .before .before .before .enter .ensures (c .before .before .before .before .before .before .before .before .before .before .args .code .now) .fit), c .before .before .before .arm .ensures .ended)
+
+-- src/lib.rt:284:1
+conditional-same-length-2 : (t : ℕ) → conditional-lts.Need-same-length-2 (
+  enter-reads.Asked,
+  enter-reads.Learnt,
+  arm-below t,
+  arm.Post,
+  finish-reads.Asked,
+  finish-reads.Learnt,
+) (conditional-at t) conditional.Post
+conditional-same-length-2 t c = search needs
+
+-- src/lib.rt:284:1
+conditional-returns-3 : (t : ℕ) → conditional-lts.Need-returns-3 (
+  enter-reads.Asked,
+  enter-reads.Learnt,
+  arm-below t,
+  arm.Post,
+  finish-reads.Asked,
+  finish-reads.Learnt,
+) (conditional-at t) conditional.Post
+conditional-returns-3 t c =
+    let s = c .before .before .before .before .before .before .before .before .before .before .before in
+    let e = c .before .before .before .before .before .before .before .before .enter .ensures (s .args .code .now) in
+    one-arm (s .pre .1 .0 .0) e (closed-running _ (e .closed) (c .before .before .before .before .before .before .before .match .keys2)) (c .before .before .before .before .arm .ensures) (not-else (c .before .before .before .before .arm .result .stop) (c .before .match2 .keys2)) (c .finish2 .ensures (s .args .code .now))
+
+pub +arm+conditional-spec : {M : Type 1} → statement M
++arm+conditional-spec = close μ-arm μ-conditional (λ t. arm-lts.spec (
+  plain-reads.Asked,
+  plain-reads.Learnt,
+  conditional-below t,
+  conditional.Post,
+)
+    (arm-at t)
+    arm.Post
+    arm-Inv-loop
+    arm-μ-loop
+    (arm-plain-requires t)
+    (arm-loop-holds t)
+    (arm-enum-told t)
+    (arm-same-length t)
+    (arm-returns t)
+    (arm-conditional-requires t)
+    (arm-enum-told-2 t)
+    (arm-same-length-2 t)
+    (arm-returns-2 t)
+    (arm-plain-requires-2 t)
+    (arm-loop-less t)
+    (arm-loop-again t))
+    λ t. conditional-lts.spec (
+      enter-reads.Asked,
+      enter-reads.Learnt,
+      arm-below t,
+      arm.Post,
+      finish-reads.Asked,
+      finish-reads.Learnt,
+    )
+    (conditional-at t)
+    conditional.Post
+    (conditional-enter-requires t)
+    (conditional-enum-told t)
+    (conditional-returns t)
+    (conditional-add-arm t)
+    (conditional-arm-requires t)
+    (conditional-enum-told-2 t)
+    (conditional-add-arm-2 t)
+    (conditional-arm-requires-2 t)
+    (conditional-finish-requires t)
+    (conditional-same-length t)
+    (conditional-returns-2 t)
+    (conditional-finish-requires-2 t)
+    (conditional-same-length-2 t)
+    (conditional-returns-3 t)

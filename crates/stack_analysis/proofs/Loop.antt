@@ -1,0 +1,237 @@
+-- The loop over plain instructions.
+use mathlib.Core.Bool.{Bool, true, false}
+use mathlib.Core.List.{List, [], _∷_, _++_}
+use mathlib.Core.Logic.{_⊎_, ⊎-elim}
+use mathlib.Core.Path.{_≡_, refl, sym, ap, _∙_, subst}
+use Prim.Native.Nat.{ℕ, suc, _+_, _*_, _-_, _≤_, _<_, max}
+use native.Mathlib.Omega.{arith}
+use lib.Dec.{T}
+use lib.ListN.{length, set}
+use Rattle.definition.specs.Basics.{Bytes, pick}
+use Rattle.definition.specs.Decoding.{instructions}
+use Rattle.definition.specs.Classes.{Class, IF, NOTIF, ELSE, ENDIF, RETURN, Ordinary, ordinary, unmodelled, push, nothing, TOALT, FROMALT, NIP, TUCK, ROLL, copies, rotates, classNumber, classAt}
+use Rattle.definition.specs.Replay.{AreBytes}
+use Rattle.definition.specs.Stacks.{builtIn, step, pushItem, copyItems, rotateItems, tuckTop, nipSecond, moveToAlt, moveFromAlt, popIndex}
+use Rattle.definition.specs.Walk.{Item, Frame, marking, totalOf, logRow}
+use types.Run.{OneOf}
+use denote.Enum.Declared.{tagOf}
+use Rattle.decode.proofs.Decoded.{the-type}
+use Rattle.decode.specs.declared.Decoded.{Decoded}
+use Rattle.decode.specs.declared.Decoded.the-variants as D
+use Rattle.decode.specs.View.{codeAt, decodedAt, itemOf}
+use Rattle.decode.proofs.Codes.{InstructionAt, code-ends, code-malformed}
+use Rattle.decode.specs.declared.Instruction.{Instruction}
+use Rattle.opcodes.proofs.Classes.{class-at-key, result-below}
+use Rattle.opcodes.proofs.Every.{every}
+use Rattle.opcodes.proofs.Match.{Rest, gives, below}
+use Rattle.stack.specs.View.{view, Fit, Says, Steps}
+use Rattle.stack.specs.declared.Stacks.{Stacks}
+use Rattle.stack.specs.declared.Stepped.{Stepped}
+use Rattle.stack.specs.declared.Answer.the-variants as A
+use Rattle.stack.specs.declared.Refusal.{Refusal}
+use Rattle.stack.specs.declared.Refusal.the-variants as F
+use Rattle.stack_analysis.specs.Walkers.{arm, Goes, Any, stopOf, Stopped, Ready, Runs}
+use Rattle.stack_analysis.specs.declared.Stop.{Stop}
+use Rattle.stack_analysis.specs.declared.Stop.the-variants.{Running, End, Conditional, Else, Endif, Refused}
+use Rattle.stack_analysis.specs.declared.Walk.{Walk}
+use Rattle.stack_analysis.proofs.Goings.{stays, goes-on}
+use Rattle.stack_analysis.proofs.Steps.{past, at-if, at-notif, at-else, at-endif, at-return, skipped, stepped, at-end}
+
+-- the walk that the loop's variables stand for
+abbrev pub walkOf : Stepped → Bool → ℕ → ℕ → ℕ → ℕ → Walk
+walkOf t live at last rows peak = record { stacks = t .stacks; live = live; at = at; last = last; rows = rows; peak = peak; stop = stopOf (t .answer) }
+
+-- the loop's invariant
+pub record Walking (s : Bytes) (before : List ℕ) (v : Walk) (now : List ℕ) (w : Walk) : Type 0 where
+  pub bytes : AreBytes s
+  pub ready : Ready s before v
+  pub len : length now ≡ length before
+  pub goes : Goes builtIn s Any v before w now
+
+pub walking-none : {s : Bytes} {log : List ℕ} {v : Walk} → AreBytes s → Ready s log v → Walking s log v log v
+walking-none b r = record { bytes = b; ready = r; len = refl; goes = stays (r .fit) (r .high) }
+
+-- the walk from v is the walk from its record, where v runs
+pub runs-from : {s : Bytes} {before now : List ℕ} (v : Walk) {w : Walk} → v .stop ≡ Running
+    → Runs builtIn s (record { stacks = v .stacks; live = v .live; at = v .at; last = v .last; rows = v .rows; peak = v .peak; stop = Running }) before w now → Runs builtIn s v before w now
+runs-from {s} {before} {now} v {w} e r = subst (λ (u : Walk). Runs builtIn s u before w now) same r
+  where
+    same : record { stacks = v .stacks; live = v .live; at = v .at; last = v .last; rows = v .rows; peak = v .peak; stop = Running } ≡ v
+    same = λ i. record { stacks = v .stacks; live = v .live; at = v .at; last = v .last; rows = v .rows; peak = v .peak; stop = sym e i }
+
+-- What is known once the instruction i is met by w, its row is written, and its class number is read.
+pub record Met (s : Bytes) (before : List ℕ) (v : Walk) (old : List ℕ) (w : Walk) (new : List ℕ) (i : Instruction) (peak class : ℕ) : Type 0 where
+  pub walking : Walking s before v old w
+  pub run : w .stop ≡ Running
+  pub stands : InstructionAt s (w .at) i
+  pub len : length new ≡ length old
+  pub row : new ≡ logRow (w .rows) (w .at) (arm w) old
+  pub high : peak ≡ max (w .peak) (totalOf (arm w))
+  pub number : class ≡ classNumber (i .opcode)
+
+module _ {s : Bytes} {before : List ℕ} {v : Walk} {old : List ℕ} {w : Walk} {new : List ℕ} {i : Instruction} {peak class : ℕ} (m : Met s before v old w new i peak class) where
+  -- the class of the instruction, where its number is n
+  kind : (n : ℕ) → class ≡ n → builtIn .classOf (i .opcode) ≡ classAt n
+  kind n e = class-at-key (i .opcode) class n (m .number) e
+
+  fits : Fit (w .stacks)
+  fits = m .walking .goes .fit
+
+  -- the loop goes on
+  on : {u : Walk} → Goes builtIn s Any w old u new → Walking s before v new u
+  on g = record { bytes = m .walking .bytes; ready = m .walking .ready; len = m .len ∙ m .walking .len; goes = goes-on (m .walking .goes) g }
+
+  -- or the walk has stopped
+  stop : {u : Walk} → Goes builtIn s Any w old u new → Stopped (v .at) (u .at) (u .stop) → Runs builtIn s v before u new
+  stop g h = record { goes = goes-on (m .walking .goes) g; stopped = h }
+
+  pub met-if : class ≡ 3 → Runs builtIn s v before (past w i peak (w .stacks) (w .live) Conditional) new
+  met-if e = stop (at-if builtIn s (m .stands) w (m .run) refl old (m .row) (m .high) (kind 3 e) fits) (omega (arith, m .walking .goes .low, m .stands .onward))
+
+  pub met-notif : class ≡ 4 → Runs builtIn s v before (past w i peak (w .stacks) (w .live) Conditional) new
+  met-notif e = stop (at-notif builtIn s (m .stands) w (m .run) refl old (m .row) (m .high) (kind 4 e) fits) (omega (arith, m .walking .goes .low, m .stands .onward))
+
+  pub met-else : class ≡ 5 → Runs builtIn s v before (past w i peak (w .stacks) (w .live) Else) new
+  met-else e = stop (at-else builtIn s (m .stands) w (m .run) refl old (m .row) (m .high) (kind 5 e) fits) tt
+
+  pub met-endif : class ≡ 6 → Runs builtIn s v before (past w i peak (w .stacks) (w .live) Endif) new
+  met-endif e = stop (at-endif builtIn s (m .stands) w (m .run) refl old (m .row) (m .high) (kind 6 e) fits) tt
+
+  -- the variables that the loop does not change
+  kept : {t : Stacks} {alive other : Bool} {x y : Stop} → alive ≡ other → x ≡ y → Walking s before v new (past w i peak t alive x) → Walking s before v new (past w i peak t other y)
+  kept {t} {alive} {other} {x} {y} e f k = subst (λ (z : Stop). Walking s before v new (past w i peak t other z)) f (subst (λ (z : Bool). Walking s before v new (past w i peak t z x)) e k)
+
+  pub met-return : class ≡ 7 → Walking s before v new (past w i peak (w .stacks) false (w .stop))
+  met-return e = kept refl (sym (m .run)) (on (at-return builtIn s (m .stands) w (m .run) refl old (m .row) (m .high) (kind 7 e) fits))
+
+  -- an ordinary instruction in a dead arm
+  pub met-dead : (o : Ordinary) → classAt class ≡ ordinary o → w .live ≡ false → Walking s before v new (past w i peak (w .stacks) (w .live) (w .stop))
+  met-dead o k l = kept (sym l) (sym (m .run)) (on (skipped builtIn s (m .stands) w (m .run) refl old (m .row) (m .high) o (kind class refl ∙ k) l fits))
+
+  -- an ordinary instruction in a live arm
+  pub met-live : (n : ℕ) (o : Ordinary) → class ≡ n → classAt n ≡ ordinary o → w .live ≡ true → (r : Stepped)
+      → Says r (step marking builtIn (record { opcode = i .opcode; offset = w .at; literal = m .stands .literal }) o (view (w .stacks)))
+      → Walking s before v new (past w i peak (r .stacks) (w .live) (stopOf (r .answer)))
+  met-live n o e k l r says = kept (sym l) refl (on (stepped builtIn s (m .stands) w (m .run) refl old (m .row) (m .high) o (kind n e ∙ k) l r says))
+
+  pub met-nothing : class ≡ 2 → w .live ≡ true → Walking s before v new (past w i peak (w .stacks) (w .live) (w .stop))
+  unfolding step
+  met-nothing e l = kept refl (sym (m .run)) (met-live 2 nothing e refl l (record { stacks = w .stacks; answer = A.Done }) (record { fit = fits; same = refl }))
+
+-- The other needs of the loop.
+module _ {s : Bytes} {before : List ℕ} {v : Walk} {now : List ℕ} where
+  -- the operation before was refused
+  pub was-refused : (t : Stepped) (live : Bool) (at last rows peak : ℕ) (r : Refusal) → Walking s before v now (walkOf t live at last rows peak) → t .answer ≡ A.Refused r
+      → Runs builtIn s v before (record { stacks = t .stacks; live = live; at = at; last = last; rows = rows; peak = peak; stop = Refused r }) now
+  was-refused t live at last rows peak r w e = record {
+    goes = subst (λ (x : Stop). Goes builtIn s Any v before (record { stacks = t .stacks; live = live; at = at; last = last; rows = rows; peak = peak; stop = x }) now) (ap stopOf e) (w .goes);
+    stopped = tt;
+  }
+
+  -- no instruction stands at the offset
+  pub none-left : {w : Walk} → Walking s before v now w → w .stop ≡ Running → {peak : ℕ} → peak ≡ max (w .peak) (totalOf (arm w)) → instructions (codeAt s (w .at)) ≡ []
+      → Runs builtIn s v before (record { stacks = w .stacks; live = w .live; at = w .at; last = w .last; rows = w .rows; peak = peak; stop = End }) now
+  none-left {w} k run h n = record { goes = goes-on (k .goes) (at-end builtIn s w run n h (k .goes .fit) (k .goes .high)); stopped = tt }
+
+  -- the log has room for one more row
+  pub row-room : {w : Walk} {i : Instruction} → Walking s before v now w → InstructionAt s (w .at) i → 3 * w .rows + 2 < length now
+  row-room {w} {i} k at =
+      let e : instructions (codeAt s (w .at)) ≡ record { opcode = i .opcode; offset = w .at; literal = at .literal } ∷ instructions (codeAt s (i .next)) = ap instructions (at .code) in
+      omega (arith, k .ready .room, k .goes .fewer, k .len, ap length e)
+
+-- what the match tells of a Decoded that is no instruction
+pub no-instruction : (s : Bytes) (p : ℕ) (d : Decoded) → d ≡ decodedAt s p → OneOf (1 ∷ 2 ∷ []) (tagOf the-type d) → instructions (codeAt s p) ≡ []
+no-instruction s p (D.At i) e h = absurd (⊎-elim (λ k. omega arith) (λ k. omega arith) h)
+no-instruction s p D.End e h = ap instructions (code-ends s p (sym e) .0)
+no-instruction s p D.Malformed e h = ap instructions (code-malformed s p (sym e) .0)
+
+pub ready-running : {s : Bytes} {log : List ℕ} (v : Walk) → Ready s log v
+    → Ready s log (record { stacks = v .stacks; live = v .live; at = v .at; last = v .last; rows = v .rows; peak = v .peak; stop = Running })
+ready-running v r = record { fit = r .fit; high = r .high; short = r .short; room = r .room }
+
+-- the loop's measure falls
+pub nearer : {s : Bytes} {before : List ℕ} {v : Walk} {old : List ℕ} {w : Walk} {new : List ℕ} {i : Instruction} {peak class : ℕ} → Met s before v old w new i peak class
+    → length s - i .next < length s - w .at
+nearer m = omega (arith, m .stands .onward, m .stands .within)
+
+-- Each method of the stacks is the step of its class.
+module _ {s : Bytes} {before : List ℕ} {v : Walk} {old : List ℕ} {w : Walk} {new : List ℕ} {i : Instruction} {peak class : ℕ} (m : Met s before v old w new i peak class)
+    (alive : w .live ≡ true) (r : Stepped) where
+  abbrev On : Type 0
+  On = Walking s before v new (past w i peak (r .stacks) (w .live) (stopOf (r .answer)))
+
+  pub met-push : class ≡ 1 → Says r (pushItem 244 (itemOf (i .literal)) (view (w .stacks))) → On
+  unfolding step
+  met-push e h = met-live m 1 push e refl alive r (subst (λ (x : Item). Says r (pushItem 244 x (view (w .stacks)))) (m .stands .item) h)
+
+  pub met-to-alt : class ≡ 8 → Says r (moveToAlt (view (w .stacks))) → On
+  unfolding step
+  met-to-alt e h = met-live m 8 TOALT e refl alive r h
+
+  pub met-from-alt : class ≡ 9 → Says r (moveFromAlt (view (w .stacks))) → On
+  unfolding step
+  met-from-alt e h = met-live m 9 FROMALT e refl alive r h
+
+  pub met-nip : class ≡ 12 → Says r (nipSecond (view (w .stacks))) → On
+  unfolding step
+  met-nip e h = met-live m 12 NIP e refl alive r h
+
+  pub met-tuck : class ≡ 13 → Says r (tuckTop 244 (view (w .stacks))) → On
+  unfolding step
+  met-tuck e h = met-live m 13 TUCK e refl alive r h
+
+  pub met-roll : class ≡ 15 → Says r (popIndex marking (view (w .stacks)) (λ n t. rotateItems (n + 1) 1 t)) → On
+  unfolding step
+  met-roll e h = met-live m 15 ROLL e refl alive r h
+
+  pub met-steps : (n : ℕ) (o : Ordinary) → class ≡ n → classAt n ≡ ordinary o → Steps r 244 o (view (w .stacks)) → On
+  met-steps n o e k h = met-live m n o e k alive r (record { fit = h .fit; same = h .same builtIn _ refl })
+
+  pub met-copies : (n depth count : ℕ) → class ≡ n → classAt n ≡ ordinary (copies depth count) → Says r (copyItems 244 depth count (view (w .stacks))) → On
+  unfolding step
+  met-copies n depth count e k h = met-live m n (copies depth count) e k alive r h
+
+  pub met-rotates : (n count shift : ℕ) → class ≡ n → classAt n ≡ ordinary (rotates count shift) → Says r (rotateItems count shift (view (w .stacks))) → On
+  unfolding step
+  met-rotates n count shift e k h = met-live m n (rotates count shift) e k alive r h
+
+-- an unmodelled opcode is refused
+pub met-unmodelled : {s : Bytes} {before : List ℕ} {v : Walk} {old : List ℕ} {w : Walk} {new : List ℕ} {i : Instruction} {peak class : ℕ} → Met s before v old w new i peak class
+    → w .live ≡ true → class ≡ 0 → Walking s before v new (past w i peak (w .stacks) (w .live) (Refused (F.Unmodelled (i .opcode))))
+unfolding step
+met-unmodelled {w = w} {i = i} m l e =
+    met-live m 0 unmodelled e refl l (record { stacks = w .stacks; answer = A.Refused (F.Unmodelled (i .opcode)) }) (record { fit = m .walking .goes .fit; same = refl })
+
+-- What the two matches leave: the numbers of the control classes, and those of the classes with a method.
+abbrev pub control : List (List ℕ)
+control = (7 ∷ []) ∷ (6 ∷ []) ∷ (5 ∷ []) ∷ (4 ∷ []) ∷ (3 ∷ []) ∷ []
+
+abbrev asOrdinary : Class → ℕ
+asOrdinary (ordinary o) = 1
+asOrdinary IF = 0
+asOrdinary NOTIF = 0
+asOrdinary ELSE = 0
+asOrdinary ENDIF = 0
+asOrdinary RETURN = 0
+
+is-ordinary : (c : Class) → 1 ≡ asOrdinary c → (o : Ordinary) × (c ≡ ordinary o)
+is-ordinary (ordinary o) e = (o, refl)
+is-ordinary IF e = absurd (omega (arith, e))
+is-ordinary NOTIF e = absurd (omega (arith, e))
+is-ordinary ELSE e = absurd (omega (arith, e))
+is-ordinary ENDIF e = absurd (omega (arith, e))
+is-ordinary RETURN e = absurd (omega (arith, e))
+
+both-rest : (a b : List (List ℕ)) (x : ℕ) → Rest a x → Rest b x → Rest (a ++ b) x
+both-rest [] b x p q = q
+both-rest (k ∷ a) b x p q = (both-rest a b x (p .0) q, p .1)
+
+module _ {s : Bytes} {before : List ℕ} {v : Walk} {old : List ℕ} {w : Walk} {new : List ℕ} {i : Instruction} {peak class : ℕ} (m : Met s before v old w new i peak class)
+    (rest : Rest control class) where
+  pub met-skipped : w .live ≡ false → Walking s before v new (past w i peak (w .stacks) (w .live) (w .stop))
+  met-skipped l =
+      let o = is-ordinary (classAt class) (below (λ n. asOrdinary (classAt n)) control class 1 32 rest (result-below (i .opcode) class (m .number)) tt) in
+      met-dead m (o .0) (o .1) l
+
+  pub class-left : (arms : List (List ℕ)) → Rest arms class → T (every (gives (λ n. n) (arms ++ control) 0) 32 0) → class ≡ 0
+  class-left arms k t = sym (below (λ n. n) (arms ++ control) class 0 32 (both-rest arms control class k rest) (result-below (i .opcode) class (m .number)) t)

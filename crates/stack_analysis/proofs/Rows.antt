@@ -1,0 +1,61 @@
+-- The peak and the log.
+use mathlib.Core.Bool.{Bool, true, false, not}
+use mathlib.Core.List.{List}
+use mathlib.Core.Path.{_≡_, refl, sym, ap, _∙_}
+use Prim.Native.Nat.{ℕ, _+_, _*_, _≤_, _<_, max}
+use native.Mathlib.Omega.{arith}
+use lib.ListN.{length, set}
+use Rattle.definition.specs.Basics.{pick}
+use Rattle.definition.specs.Walk.{mainHeight, altHeight, totalOf, logRow}
+use Rattle.stack.specs.View.{view}
+use Rattle.stack.specs.declared.Stacks.{Stacks}
+use Rattle.stack.proofs.Laws.{length-tops}
+use Rattle.stack_analysis.specs.Walkers.{armOf}
+
+pub higher-now : (peak total : ℕ) (alive : Bool) → alive ≡ true → peak < total → total ≡ max peak (pick alive total 0)
+higher-now peak total alive e h = rw e (omega arith)
+
+pub high-already : (peak total : ℕ) (alive : Bool) → alive ≡ true → total ≤ peak → peak ≡ max peak (pick alive total 0)
+high-already peak total alive e h = rw e (omega arith)
+
+pub high-dead : (peak total : ℕ) (alive : Bool) → alive ≡ false → peak ≡ max peak (pick alive total 0)
+high-dead peak total alive e = rw e (omega arith)
+
+pub logged-live : (height : ℕ) (alive : Bool) → alive ≡ true → height ≡ pick alive height 65535
+logged-live height alive e = rw e
+
+pub logged-dead : (height : ℕ) (alive : Bool) → alive ≡ false → 65535 ≡ pick alive height 65535
+logged-dead height alive e = rw e
+
+-- what the log and the peak take from an arm
+main-height : (alive : Bool) (s : Stacks) → mainHeight (armOf alive s) ≡ pick alive (s .mains) 65535
+unfolding view
+main-height true s = length-tops _ (s .mains)
+main-height false s = refl
+
+alt-height : (alive : Bool) (s : Stacks) → altHeight (armOf alive s) ≡ pick alive (s .alts) 65535
+unfolding view
+alt-height true s = length-tops _ (s .alts)
+alt-height false s = refl
+
+total-arm : (alive : Bool) (s : Stacks) → totalOf (armOf alive s) ≡ pick alive (s .mains + s .alts) 0
+unfolding view
+total-arm true s = rw (length-tops, length-tops)
+total-arm false s = refl
+
+pub row-written : (k offset m a : ℕ) (alive : Bool) (s : Stacks) (log new : List ℕ) → new ≡ set (set (set log (3 * k) offset) (3 * k + 1) m) (3 * k + 2) a
+    → m ≡ pick alive (s .mains) 65535 → a ≡ pick alive (s .alts) 65535 → new ≡ logRow k offset (armOf alive s) log
+unfolding logRow
+row-written k offset m a alive s log new e f g = e ∙ rw (main-height alive s, alt-height alive s, f, g)
+
+pub high-of : (peak high : ℕ) (alive : Bool) (s : Stacks) → high ≡ max peak (pick alive (s .mains + s .alts) 0) → high ≡ max peak (totalOf (armOf alive s))
+high-of peak high alive s e = e ∙ rw (total-arm alive s)
+
+-- what a test of `!live` tells
+pub not-live : (alive : Bool) → not alive ≡ true → alive ≡ false
+not-live true e = let z : false ≡ true = e in cc
+not-live false e = refl
+
+pub is-live : (alive : Bool) → not alive ≡ false → alive ≡ true
+is-live true e = refl
+is-live false e = let z : true ≡ false = e in cc

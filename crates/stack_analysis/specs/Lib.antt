@@ -1,0 +1,3 @@
+pub mod Walkers
+pub mod View
+pub mod Entry

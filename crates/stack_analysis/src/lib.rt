@@ -1,0 +1,797 @@
+// The walk over a fragment and the analysis: document 01, sections 4 and 7.
+ghost use mathlib.Core.Path.{_≡_};
+ghost use Prim.Native.Nat.{ℕ, _+_, _*_, _≤_, _<_, max};
+ghost use lib.ListN.{length, set};
+ghost use Rattle.definition.specs.Basics.{pick};
+ghost use Rattle.definition.specs.Stacks.{builtIn};
+ghost use Rattle.stack.specs.View.{Fit};
+ghost use Rattle.definition.specs.Basics.{Bytes};
+ghost use Rattle.definition.specs.Decoding.{decode, instructions};
+ghost use Rattle.definition.specs.Refusals.{answer, refusedAt};
+ghost use Rattle.definition.specs.Replay.{Demand3};
+ghost use Rattle.definition.specs.Walk.{dead, unknowns, begin, walk, marked, analysis, refusedVerdict};
+ghost use Rattle.stack.specs.View.{refusalOf};
+ghost use Rattle.stack_analysis.specs.View.{verdictOf, packedVerdict};
+ghost use Rattle.stack_analysis.specs.Entry.{Marks};
+ghost use Rattle.stack_analysis.specs.Walkers.{armOf, concluded, arm, stopOf, Open, Ended, Enters, Joins, Finishes, Ready, Runs, Walks, Closes};
+use decode::Counted;
+use decode::Decoded;
+use stack::Answer;
+use stack::Refusal;
+use stack::Stacks;
+use stack::Stepped;
+
+// The most items that the stacks hold together.
+const LIMIT: u32 = 244;
+
+// How a walk stands: it runs, or has stopped at the end, at an instruction of a conditional, whose row is written, or
+// with a refusal.
+pub enum Stop {
+    Running,
+    End,
+    Conditional,
+    Else,
+    Endif,
+    Refused(Refusal),
+}
+
+// Where a walk stands: its arm (the stacks, and whether it is live), the offset of the next instruction, that of the one
+// met last, the rows written, the peak.
+pub struct Walk {
+    pub stacks: Stacks,
+    pub live: bool,
+    pub at: usize,
+    pub last: usize,
+    pub rows: usize,
+    pub peak: u32,
+    pub stop: Stop,
+}
+
+// The verdict: number, offset and two figures, the rows written, the peak, and the end stacks where there is an end.
+pub struct Verdict {
+    pub number: u32,
+    pub offset: usize,
+    pub first: u64,
+    pub second: u64,
+    pub rows: usize,
+    pub peak: u32,
+    pub ended: bool,
+    pub end: Stacks,
+}
+
+// The number and the figures of a refusal.
+struct Figures {
+    number: u32,
+    first: u64,
+    second: u64,
+}
+
+// The peak with the total of an arm.
+fn higher(peak: u32, live: bool, total: u32) -> u32
+    ensures { λ r. ⌜ r ≡ max peak (pick live total 0) ⌝ }
+{
+    if live {
+        if peak < total {
+            return total;
+        }
+    }
+    peak
+}
+
+// What the log says of a height: 65535 where the arm is dead.
+fn logged(live: bool, height: u32) -> u16
+    requires { ⌜ height ≤ 244 ⌝ }
+    ensures { λ r. ⌜ r ≡ pick live height 65535 ⌝ }
+{
+    if live {
+        return height as u16;
+    }
+    65535
+}
+
+// Row k of the log.
+fn log_row(log: &mut [u16], k: usize, offset: u16, main: u16, alt: u16)
+    requires { ⌜ 3 * k + 2 < length (now log) ⌝ }
+    ensures { λ _.
+        ⌜
+        now (log .exit)
+        ≡ set (set (set (now (log .entry)) (3 * k) offset) (3 * k + 1) main) (3 * k + 2) alt
+        ⌝ }
+{
+    log[3 * k] = offset;
+    log[3 * k + 1] = main;
+    log[3 * k + 2] = alt;
+}
+
+// The instructions up to the next IF, NOTIF, ELSE or ENDIF, whose row is written too, or to the end. It calls no walker,
+// so that the methods of the stacks are compiled into its loop.
+fn plain(code: &[u8], log: &mut [u16], start: Walk) -> Walk
+    requires { ⌜ Ready (now code) (now log) start ⌝ }
+    requires { ⌜ start .stop ≡ Stop.Running ⌝ }
+    ensures { λ r. ⌜ Runs builtIn (now (code .entry)) start (now (log .entry)) r (now (log .exit)) ⌝ }
+{
+    let s0 = start.stacks;
+    let mut t = Stepped {
+        stacks: s0,
+        answer: Answer::Done,
+    };
+    let mut live = start.live;
+    let mut at = start.at;
+    let mut last = start.last;
+    let mut rows = start.rows;
+    let mut peak = start.peak;
+    loop {
+        let answer = t.answer;
+        if let Answer::Refused(r) = answer {
+            let s1 = t.stacks;
+            return Walk {
+                stacks: s1,
+                live,
+                at,
+                last,
+                rows,
+                peak,
+                stop: Stop::Refused(r),
+            };
+        }
+        let m = t.stacks.mains;
+        let a = t.stacks.alts;
+        peak = higher(peak, live, m + a);
+        let d = decode::decode_at(code, at);
+        let Decoded::At(i) = d else {
+            let s2 = t.stacks;
+            return Walk {
+                stacks: s2,
+                live,
+                at,
+                last,
+                rows,
+                peak,
+                stop: Stop::End,
+            };
+        };
+        log_row(log, rows, at as u16, logged(live, m), logged(live, a));
+        rows += 1;
+        last = at;
+        at = i.next;
+        let opcode = i.opcode;
+        let class = opcodes::class_of(opcode);
+        match class {
+            3 => {
+                let s3 = t.stacks;
+                return Walk {
+                    stacks: s3,
+                    live,
+                    at,
+                    last,
+                    rows,
+                    peak,
+                    stop: Stop::Conditional,
+                };
+            }
+            4 => {
+                let s4 = t.stacks;
+                return Walk {
+                    stacks: s4,
+                    live,
+                    at,
+                    last,
+                    rows,
+                    peak,
+                    stop: Stop::Conditional,
+                };
+            }
+            5 => {
+                let s5 = t.stacks;
+                return Walk {
+                    stacks: s5,
+                    live,
+                    at,
+                    last,
+                    rows,
+                    peak,
+                    stop: Stop::Else,
+                };
+            }
+            6 => {
+                let s6 = t.stacks;
+                return Walk {
+                    stacks: s6,
+                    live,
+                    at,
+                    last,
+                    rows,
+                    peak,
+                    stop: Stop::Endif,
+                };
+            }
+            7 => {
+                live = false;
+                continue;
+            }
+            _ => {}
+        }
+        if !live {
+            continue;
+        }
+        match class {
+            2 => continue,
+            1 => {
+                let v = i.literal;
+                let s = t.stacks;
+                t = s.push(v, LIMIT);
+                continue;
+            }
+            8 => {
+                let s = t.stacks;
+                t = s.move_to_alt();
+                continue;
+            }
+            9 => {
+                let s = t.stacks;
+                t = s.move_from_alt();
+                continue;
+            }
+            10 => {
+                let s = t.stacks;
+                t = s.depth(LIMIT);
+                continue;
+            }
+            11 => {
+                let s = t.stacks;
+                t = s.size(LIMIT);
+                continue;
+            }
+            12 => {
+                let s = t.stacks;
+                t = s.nip();
+                continue;
+            }
+            13 => {
+                let s = t.stacks;
+                t = s.tuck(LIMIT);
+                continue;
+            }
+            14 => {
+                let s = t.stacks;
+                t = s.pick(LIMIT);
+                continue;
+            }
+            15 => {
+                let s = t.stacks;
+                t = s.roll();
+                continue;
+            }
+            16 => {
+                let s = t.stacks;
+                t = s.zk(LIMIT);
+                continue;
+            }
+            17 => {
+                let s = t.stacks;
+                t = s.extend_from_within(1, 1, LIMIT);
+                continue;
+            }
+            18 => {
+                let s = t.stacks;
+                t = s.extend_from_within(2, 2, LIMIT);
+                continue;
+            }
+            19 => {
+                let s = t.stacks;
+                t = s.extend_from_within(3, 3, LIMIT);
+                continue;
+            }
+            20 => {
+                let s = t.stacks;
+                t = s.extend_from_within(2, 1, LIMIT);
+                continue;
+            }
+            21 => {
+                let s = t.stacks;
+                t = s.extend_from_within(4, 2, LIMIT);
+                continue;
+            }
+            22 => {
+                let s = t.stacks;
+                t = s.rotate_left(3, 1);
+                continue;
+            }
+            23 => {
+                let s = t.stacks;
+                t = s.rotate_left(6, 2);
+                continue;
+            }
+            24 => {
+                let s = t.stacks;
+                t = s.rotate_left(2, 1);
+                continue;
+            }
+            25 => {
+                let s = t.stacks;
+                t = s.rotate_left(4, 2);
+                continue;
+            }
+            26 => {
+                let s = t.stacks;
+                t = s.apply_effect(1, 0, LIMIT);
+                continue;
+            }
+            27 => {
+                let s = t.stacks;
+                t = s.apply_effect(2, 0, LIMIT);
+                continue;
+            }
+            28 => {
+                let s = t.stacks;
+                t = s.apply_effect(0, 1, LIMIT);
+                continue;
+            }
+            29 => {
+                let s = t.stacks;
+                t = s.apply_effect(1, 1, LIMIT);
+                continue;
+            }
+            30 => {
+                let s = t.stacks;
+                t = s.apply_effect(3, 1, LIMIT);
+                continue;
+            }
+            31 => {
+                let s = t.stacks;
+                t = s.apply_effect(2, 1, LIMIT);
+                continue;
+            }
+            _ => {
+                let s = t.stacks;
+                t = Stepped {
+                    stacks: s,
+                    answer: Answer::Refused(Refusal::Unmodelled { opcode }),
+                };
+                continue;
+            }
+        }
+    }
+}
+
+// How a walk stands after a stack operation.
+fn stop_of(answer: Answer) -> Stop
+    ensures { λ r. ⌜ r ≡ stopOf answer ⌝ }
+{
+    match answer {
+        Answer::Done => Stop::Running,
+        Answer::Refused(r) => Stop::Refused(r),
+    }
+}
+
+// The conditional at whose IF or NOTIF w stands, with depth of them open, is opened: the condition is popped where the
+// arm is live.
+fn enter(w: Walk, depth: u32) -> Walk
+    requires { ⌜ (Fit (w .stacks)) × (w .stop ≡ Stop.Conditional) ⌝ }
+    requires { ⌜ depth ≤ 24 ⌝ }
+    ensures { λ r. ⌜ ((s : Bytes) → Enters builtIn s depth w r) ⌝ }
+{
+    let s = w.stacks;
+    let live = w.live;
+    let at = w.at;
+    let last = w.last;
+    let rows = w.rows;
+    let peak = w.peak;
+    if depth == 24 {
+        return Walk {
+            stacks: s,
+            live,
+            at,
+            last,
+            rows,
+            peak,
+            stop: Stop::Refused(Refusal::Nesting),
+        };
+    }
+    if !live {
+        return Walk {
+            stacks: s,
+            live: false,
+            at,
+            last,
+            rows,
+            peak,
+            stop: Stop::Running,
+        };
+    }
+    let p = s.drop_items(1);
+    let t = p.stacks;
+    let answer = p.answer;
+    let stop = stop_of(answer);
+    Walk {
+        stacks: t,
+        live: true,
+        at,
+        last,
+        rows,
+        peak,
+        stop,
+    }
+}
+
+// At ENDIF the arm of w joins the other.
+fn close(w: Walk, other: Stacks, alive: bool) -> Walk
+    requires { ⌜ (Fit (w .stacks)) × (Fit other) ⌝ }
+    ensures { λ r. ⌜ ((s : Bytes) → Joins builtIn s w (armOf alive other) r) ⌝ }
+{
+    let s = w.stacks;
+    let live = w.live;
+    let at = w.at;
+    let last = w.last;
+    let rows = w.rows;
+    let peak = w.peak;
+    if !alive {
+        return Walk {
+            stacks: s,
+            live,
+            at,
+            last,
+            rows,
+            peak,
+            stop: Stop::Running,
+        };
+    }
+    if !live {
+        return Walk {
+            stacks: other,
+            live: true,
+            at,
+            last,
+            rows,
+            peak,
+            stop: Stop::Running,
+        };
+    }
+    let j = s.join(other);
+    let t = j.stacks;
+    let answer = j.answer;
+    let stop = stop_of(answer);
+    Walk {
+        stacks: t,
+        live: true,
+        at,
+        last,
+        rows,
+        peak,
+        stop,
+    }
+}
+
+// w with a refusal.
+fn refused(w: Walk, r: Refusal) -> Walk
+    ensures { λ v.
+        ⌜
+        v
+        ≡ record {
+          stacks = w .stacks;
+          live = w .live;
+          at = w .at;
+          last = w .last;
+          rows = w .rows;
+          peak = w .peak;
+          stop = Stop.Refused r;
+        }
+        ⌝ }
+{
+    let s = w.stacks;
+    Walk {
+        stacks: s,
+        live: w.live,
+        at: w.at,
+        last: w.last,
+        rows: w.rows,
+        peak: w.peak,
+        stop: Stop::Refused(r),
+    }
+}
+
+// The last arm of a conditional is done with w; the other arm is the empty one, as it started, or the first.
+fn finish(w: Walk, other: Stacks, alive: bool) -> Walk
+    requires { ⌜ (Fit (w .stacks)) × (Fit other) ⌝ }
+    requires { ⌜ Ended (w .stop) ⌝ }
+    ensures { λ r. ⌜ ((s : Bytes) → Finishes builtIn s w (armOf alive other) r) ⌝ }
+{
+    let stop = w.stop;
+    match stop {
+        Stop::Endif => close(w, other, alive),
+        Stop::Else => refused(w, Refusal::SecondElse),
+        Stop::End => refused(w, Refusal::OpenIf),
+        Stop::Refused(_) => w,
+        Stop::Running => w,
+        Stop::Conditional => w,
+    }
+}
+
+// Walks an arm, with depth conditionals open around it, to the end, or to the ELSE or ENDIF of the innermost.
+fn arm(code: &[u8], log: &mut [u16], start: Walk, depth: u32) -> Walk
+    requires { ⌜ (Ready (now code) (now log) start) × (start .stop ≡ Stop.Running) ⌝ }
+    requires { ⌜ depth ≤ 24 ⌝ }
+    ensures { λ r.
+        ⌜ Walks builtIn (now (code .entry)) depth start (now (log .entry)) r (now (log .exit)) ⌝ }
+{
+    let mut w = plain(code, log, start);
+    loop {
+        let stop = w.stop;
+        let Stop::Conditional = stop else {
+            return w;
+        };
+        let v = conditional(code, log, w, depth);
+        let went = v.stop;
+        if let Stop::Refused(_) = went {
+            return v;
+        }
+        w = plain(code, log, v);
+    }
+}
+
+// Walks the conditional at whose IF or NOTIF w stands, up to and with its ENDIF.
+fn conditional(code: &[u8], log: &mut [u16], w: Walk, depth: u32) -> Walk
+    requires { ⌜ (Ready (now code) (now log) w) × (w .stop ≡ Stop.Conditional) ⌝ }
+    requires { ⌜ depth ≤ 24 ⌝ }
+    ensures { λ r. ⌜ Closes builtIn (now (code .entry)) depth w (now (log .entry)) r (now (log .exit)) ⌝ }
+{
+    let v = enter(w, depth);
+    let opened = v.stop;
+    if let Stop::Refused(_) = opened {
+        return v;
+    }
+    let start = v.stacks;
+    let live = v.live;
+    let first = arm(code, log, v, depth + 1);
+    let stop = first.stop;
+    if let Stop::Else = stop {
+        let s = first.stacks;
+        let second = Walk {
+            stacks: start,
+            live,
+            at: first.at,
+            last: first.last,
+            rows: first.rows,
+            peak: first.peak,
+            stop: Stop::Running,
+        };
+        let other = arm(code, log, second, depth + 1);
+        return finish(other, s, first.live);
+    }
+    finish(first, start, live)
+}
+
+// The number and the figures of a refusal: section 7.
+fn figures_of(r: Refusal) -> Figures
+    ensures { λ f.
+        ⌜ ((at : ℕ) → refusedAt at (refusalOf r) ≡ answer (f .number) at (f .first) (f .second)) ⌝ }
+{
+    match r {
+        Refusal::Nesting => Figures {
+            number: 5,
+            first: 24,
+            second: 24,
+        },
+        Refusal::StacksFull { wanted, limit } => Figures {
+            number: 6,
+            first: wanted as u64,
+            second: limit as u64,
+        },
+        Refusal::MainDry { needed, had } => Figures {
+            number: 7,
+            first: needed,
+            second: had as u64,
+        },
+        Refusal::AltDry => Figures {
+            number: 8,
+            first: 0,
+            second: 0,
+        },
+        Refusal::BadIndex => Figures {
+            number: 9,
+            first: 0,
+            second: 0,
+        },
+        Refusal::BadTag => Figures {
+            number: 10,
+            first: 0,
+            second: 0,
+        },
+        Refusal::Unmodelled { opcode } => Figures {
+            number: 11,
+            first: opcode as u64,
+            second: 0,
+        },
+        Refusal::ArmsDiffer => Figures {
+            number: 12,
+            first: 0,
+            second: 0,
+        },
+        Refusal::StrayElse => Figures {
+            number: 13,
+            first: 0,
+            second: 0,
+        },
+        Refusal::SecondElse => Figures {
+            number: 14,
+            first: 0,
+            second: 0,
+        },
+        Refusal::StrayEndif => Figures {
+            number: 15,
+            first: 0,
+            second: 0,
+        },
+        Refusal::OpenIf => Figures {
+            number: 16,
+            first: 0,
+            second: 0,
+        },
+    }
+}
+
+// A refusal: peak 0 and no end.
+fn refusal(number: u32, offset: usize, first: u64, second: u64, rows: usize) -> Verdict
+    ensures { λ r.
+        ⌜
+        r
+        ≡ packedVerdict
+        (record {
+          answer = answer number offset first second;
+          rows = rows;
+          peak = 0;
+          end = dead;
+        })
+        ⌝ }
+{
+    let none = Stacks::new(0, 0);
+    let end = none.cleared();
+    Verdict {
+        number,
+        offset,
+        first,
+        second,
+        rows,
+        peak: 0,
+        ended: false,
+        end,
+    }
+}
+
+// The refusal r of a walk that stands at w.
+fn refused_walk(w: Walk, r: Refusal) -> Verdict
+    ensures { λ v. ⌜ v ≡ packedVerdict (refusedVerdict (w .last) (refusalOf r) (w .rows)) ⌝ }
+{
+    let f = figures_of(r);
+    refusal(f.number, w.last, f.first, f.second, w.rows)
+}
+
+// The acceptance of a walk that has come to the end with w.
+fn accepted(w: Walk) -> Verdict
+    requires { ⌜ Fit (w .stacks) ⌝ }
+    ensures { λ v.
+        ⌜
+        v
+        ≡ packedVerdict
+        (record { answer = answer 0 0 0 0; rows = w .rows; peak = w .peak; end = arm w })
+        ⌝ }
+{
+    let live = w.live;
+    let rows = w.rows;
+    let peak = w.peak;
+    if live {
+        let s = w.stacks;
+        let end = s.cleared();
+        return Verdict {
+            number: 0,
+            offset: 0,
+            first: 0,
+            second: 0,
+            rows,
+            peak,
+            ended: true,
+            end,
+        };
+    }
+    let none = Stacks::new(0, 0);
+    let end = none.cleared();
+    Verdict {
+        number: 0,
+        offset: 0,
+        first: 0,
+        second: 0,
+        rows,
+        peak,
+        ended: false,
+        end,
+    }
+}
+
+// The verdict where a walk has stopped with no conditional open.
+fn conclude(w: Walk) -> Verdict
+    requires { ⌜ (Fit (w .stacks)) × (Ended (w .stop)) ⌝ }
+    ensures { λ v. ⌜ v ≡ packedVerdict (concluded w) ⌝ }
+{
+    let stop = w.stop;
+    match stop {
+        Stop::End => accepted(w),
+        Stop::Else => refused_walk(w, Refusal::StrayElse),
+        Stop::Endif => refused_walk(w, Refusal::StrayEndif),
+        Stop::Refused(r) => refused_walk(w, r),
+        Stop::Running => accepted(w),
+        Stop::Conditional => accepted(w),
+    }
+}
+
+// The walk of a fragment from so many unknown items, with room in the log for each of its instructions.
+fn walk_all(fragment: &[u8], main: u32, alt: u32, log: &mut [u16]) -> Verdict
+    requires { ⌜ (length (now fragment) ≤ 10000) × (main + alt ≤ 244) ⌝ }
+    requires { ⌜ 3 * length (instructions (decode (now fragment))) ≤ length (now log) ⌝ }
+    ensures { λ r.
+        ⌜
+        Marks
+        r
+        (now (log .exit))
+        (marked
+        (walk
+        builtIn
+        (instructions (decode (now (fragment .entry))))
+        (begin (unknowns main alt) (now (log .entry)))))
+        ⌝ }
+{
+    let s = Stacks::new(main, alt);
+    let start = Walk {
+        stacks: s,
+        live: true,
+        at: 0,
+        last: 0,
+        rows: 0,
+        peak: main + alt,
+        stop: Stop::Running,
+    };
+    let w = arm(fragment, log, start, 0);
+    conclude(w)
+}
+
+// The analysis of a fragment from main and alt unknown items; one row of the lent log is written for each instruction
+// met. Every input comes to a verdict: document 01, sections 4 and 7.
+pub fn analyze(fragment: &[u8], main: u32, alt: u32, log: &mut [u16]) -> Verdict
+    ensures same { λ r.
+        ⌜
+        r
+        ≡ packedVerdict
+        (analysis builtIn (now (fragment .entry)) main alt (now (log .entry)) .verdict)
+        ⌝ }
+    ensures logged { λ r.
+        ⌜
+        now (log .exit)
+        ≡ analysis builtIn (now (fragment .entry)) main alt (now (log .entry)) .log
+        ⌝ }
+    ensures replayed { λ r.
+        ⌜
+        (r .number ≡ 0
+        → Demand3
+        builtIn
+        (instructions (decode (now (fragment .entry))))
+        (unknowns main alt)
+        (record { verdict = verdictOf r; log = now (log .exit) }))
+        ⌝ }
+{
+    if fragment.len() > 10000 {
+        return refusal(1, 0, fragment.len() as u64, 10000, 0);
+    }
+    let sum = (main as u64) + (alt as u64);
+    if sum > 244 {
+        return refusal(2, 0, sum, 244, 0);
+    }
+    let counted = decode::count_instructions(fragment);
+    match counted {
+        Counted::Malformed(offset) => refusal(3, offset, 0, 0, 0),
+        Counted::Whole(n) => {
+            if log.len() < 3 * n {
+                return refusal(4, 0, (3 * n) as u64, log.len() as u64, 0);
+            }
+            walk_all(fragment, main, alt, log)
+        }
+    }
+}
