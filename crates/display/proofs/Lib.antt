@@ -1,0 +1,2 @@
+-- What the proofs of the display go by.
+pub mod Shown

@@ -1,0 +1,2 @@
+-- What the proofs of the limit check go by.
+pub mod Operations
