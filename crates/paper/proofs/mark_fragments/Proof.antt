@@ -1,0 +1,114 @@
+use lib.ListN.{length}
+use Rattle.definition.specs.Papers.{fragments}
+use Rattle.paper.specs.View.{fragmentMarked, Marks}
+use Prim.Native.Nat.{_-_, _<_}
+use mathlib.Core.Path.{_∙_}
+use Rattle.paper.proofs.Markings.{Marking, marking-none, marking-more, marking-stops, marking-end}
+use borrow.Author.Needs.{needs}
+use native.Mathlib.Omega.{arith}
+use Rattle.paper.proofs.mark_fragments.Statement.{statement}
+use Rattle.paper.proofs.mark_fragments.Tie as tie
+use Rattle.paper.proofs.mark_fragments.Reads as reads
+use Rattle.paper.proofs.mark_fragments.Lts as lts
+use Rattle.paper.proofs.fragment_count.Reads as fragment-count-reads
+use Rattle.paper.proofs.larger.Reads as larger-reads
+use Rattle.paper.proofs.mark_fragment.Reads as mark-fragment-reads
+
+abbrev Inv-loop : tie.InvT-loop
+Inv-loop paper log₀ count k₀ rows₀ peak₀ log k rows peak = Marking paper log₀ k rows peak log
+
+abbrev μ-loop : tie.MeasureT-loop
+μ-loop paper log₀ count k₀ rows₀ peak₀ log k rows peak = count - k
+
+-- what `mark_fragment` promises of fragment k
+marked : (c : tie.After-mark-fragment Inv-loop μ-loop) → let l = c .before .before .before in
+    Marks (fragmentMarked (l .before .before .before .before .args .paper .now) (l .loop .k) (l .loop .rows) (l .loop .log)) (l .loop .rows) (l .loop .log) (c .mark-fragment .result) (c .mark-fragment .last .1 .1 .1 .0)
+marked c = record { same = c .mark-fragment .ensures .0; logged = c .mark-fragment .ensures .1 .0; room = c .mark-fragment .ensures .1 .1 }
+
+-- one more is left
+more : (c : tie.After-mark-fragment Inv-loop μ-loop) → let l = c .before .before .before in l .loop .k < length (fragments (l .before .before .before .before .args .paper .now))
+more c =
+    let l = c .before .before .before in
+    omega (arith, c .before .before .loop-test .taken, l .before .fragment-count .ensures)
+
+-- src/lib.rt:277:9
+fragment-count-requires : tie.Need-fragment-count-requires Inv-loop μ-loop
+fragment-count-requires c κs = search needs
+
+-- src/lib.rt:281:5
+loop-holds : tie.Need-loop-holds Inv-loop μ-loop
+loop-holds c = marking-none _ _
+
+-- src/lib.rt:282:13
+mark-fragment-requires : tie.Need-mark-fragment-requires Inv-loop μ-loop
+mark-fragment-requires c κs = search needs
+
+-- src/lib.rt:283:9
+add-rows : tie.Need-add-rows Inv-loop μ-loop
+add-rows c = search needs
+
+-- src/lib.rt:285:13
+same-length : tie.Need-same-length Inv-loop μ-loop
+same-length c =
+    let b = c .before .before .before .before .before in
+    b .mark-fragment .kept .1 .1 .1 .0 ∙ b .before .before .before .loop .inv .kept
+
+-- src/lib.rt:285:13
+returns : tie.Need-returns Inv-loop μ-loop
+returns c =
+    let b = c .before .before .before .before .before in
+    let l = b .before .before .before in
+    let a = l .before .before .before .before .args in
+    let m = marking-stops (a .paper .now) (a .log .now) (l .loop .k) (l .loop .rows) (l .loop .peak) (l .loop .log) (l .loop .inv) (more b) (b .mark-fragment .result) _ (marked b) (c .if1 .taken) in
+    (m .same, m .logged)
+
+-- src/lib.rt:295:9
+larger-requires : tie.Need-larger-requires Inv-loop μ-loop
+larger-requires c κs = search needs
+
+-- src/lib.rt:296:9
+add-k : tie.Need-add-k Inv-loop μ-loop
+add-k c = search needs
+
+-- src/lib.rt:281:5
+loop-less : tie.Need-loop-less Inv-loop μ-loop
+loop-less c = search needs
+
+-- src/lib.rt:281:5
+loop-again : tie.Need-loop-again Inv-loop μ-loop
+loop-again c =
+    let b = c .before .before .before .before .before .before in
+    let l = b .before .before .before in
+    let a = l .before .before .before .before .args in
+    marking-more (a .paper .now) (a .log .now) (l .loop .k) (l .loop .rows) (l .loop .peak) (l .loop .log) (l .loop .inv) (more b) (b .mark-fragment .result) _ (marked b) (b .mark-fragment .kept .1 .1 .1 .0) (c .before .if1 .left) (c .larger .result) (c .larger .ensures)
+
+-- src/lib.rt:265:1
+same-length-2 : tie.Need-same-length-2 Inv-loop μ-loop
+same-length-2 c = c .before .loop .inv .kept
+
+-- src/lib.rt:265:1
+returns-2 : tie.Need-returns-2 Inv-loop μ-loop
+returns-2 c =
+    let l = c .before in
+    let a = l .before .before .before .before .args in
+    let m = marking-end (a .paper .now) (a .log .now) (l .loop .k) (l .loop .rows) (l .loop .peak) (l .loop .log) (l .loop .inv) (omega (arith, c .loop-test .left, l .before .fragment-count .ensures)) in
+    (m .same, m .logged)
+
+pub mark-fragments-spec : {M : Type 1} → statement M
+mark-fragments-spec =
+    tie.close
+    (tie.spec
+    Inv-loop
+    μ-loop
+    fragment-count-requires
+    loop-holds
+    mark-fragment-requires
+    add-rows
+    same-length
+    returns
+    larger-requires
+    add-k
+    loop-less
+    loop-again
+    same-length-2
+    returns-2)
