@@ -1,13 +1,13 @@
 -- What is shown, by what `decode_at` found at the offset and by the mark.
-use mathlib.Core.Path.{_≡_, refl, sym, ap, _∙_}
+use mathlib.Core.Path.{_≡_, refl, sym, _∙_}
 use mathlib.Core.List.{[], _∷_}
-use Prim.Native.Nat.{ℕ, zero, suc, _+_, _-_, _≤_}
+use Prim.Native.Nat.{ℕ, zero, suc, _+_, _-_}
 use native.Mathlib.Omega.{arith}
 use lib.ListN.{length, take, drop, length-drop, drop-of-length-le}
 use lib.Seq.{take-all, drop-nil}
 use Rattle.definition.specs.Basics.{Bytes}
 use Rattle.definition.specs.Decoding.{Front, whole, short, front}
-use Rattle.definition.specs.Papers.{byMark, shownOf, shownAt, display}
+use Rattle.definition.specs.Papers.{shownOf, shownAt, display}
 use Rattle.decode.specs.View.{decodedFront, decodedRest, decodedAt}
 use Rattle.decode.specs.declared.Instruction.{Instruction}
 use Rattle.decode.specs.declared.Decoded.the-variants.{At, End, Malformed}

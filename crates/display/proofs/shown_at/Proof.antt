@@ -28,13 +28,13 @@ enum-known-i : tie.Need-enum-known-i
 enum-known-i c = search needs
 
 sub-result : tie.Need-sub-result
-sub-result c = omega (arith, found c .onward)
+sub-result c = omega (arith, found c .onward, found c .within)
 
 part-result-start : tie.Need-part-result-start
-part-result-start c = omega (arith, found c .onward)
+part-result-start c = omega (arith, found c .onward, found c .within)
 
 part-result-end : tie.Need-part-result-end
-part-result-end c = found c .within
+part-result-end c = omega (arith, found c .within)
 
 returns : tie.Need-returns
 returns c = shown-instruction _ _ _ (decoded (c .before))
