@@ -6,4 +6,5 @@ pub mod Arms
 pub mod Sound
 pub mod Complete
 pub mod TrueOfEveryReplay
+pub mod TrueOfPaper
 pub mod Witnesses

@@ -2,6 +2,7 @@
 use mathlib.Core.Bool.{Bool, true, false, _&&_, not}
 use mathlib.Core.List.{List, [], _∷_, _++_}
 use mathlib.Core.Option.{Option, none, some}
+use mathlib.Core.Path.{_≡_}
 use Prim.Native.Nat.{ℕ, zero, suc, _+_, _*_, min, max}
 use lib.Dec.{ltb, leb, eqb}
 use lib.ListN.{length, take, drop}
@@ -9,7 +10,8 @@ use Rattle.definition.specs.Basics.{Bytes, pick}
 use Rattle.definition.specs.Decoding.{Instruction, number, Front, whole, short, front, decode, instructions, malformedAt}
 use Rattle.definition.specs.Refusals.{Refusal, Answer, accepted, refusedAt, malformedFragment, maxFragment, maxOperations, opcodeCount, scriptSize, maxPaper, badHeader, dispatchTooLarge, longPaper}
 use Rattle.definition.specs.Stacks.{Rules}
-use Rattle.definition.specs.Walk.{dead, Verdict, refusedVerdict, Marked, analysis}
+use Rattle.definition.specs.Walk.{dead, Verdict, refusedVerdict, Marked, unknowns, analysis}
+use Rattle.definition.specs.Replay.{Demand3}
 
 -- The limit check
 
@@ -186,6 +188,20 @@ unfoldable pub markPaper : Rules → Bytes → List ℕ → PaperMarked
 markPaper R paper log =
     pick (ltb maxPaper (length paper)) (refusedPaper 0 (longPaper (length paper)) log)
     (pick (goodHeader paper) (dispatch R paper 0 (entries paper) log) (refusedPaper 0 badHeader log))
+
+-- What acceptance of a paper means
+
+-- demand 3 of each of these fragments, from its start heights, on what the log has left behind the rows before it
+unfoldable pub EachTrue : Rules → ℕ → List Fragment → List ℕ → Type 0
+EachTrue R rows [] log = Unit {0}
+EachTrue R rows (f ∷ fs) log =
+    let m : Marked = analysis R (f .bytes) (f .main) (f .alt) (drop (3 * rows) log) in
+    (Demand3 R (instructions (decode (f .bytes))) (unknowns (f .main) (f .alt)) m)
+    × (EachTrue R (rows + m .verdict .rows) fs (take (3 * rows) log ++ m .log))
+
+-- demand 3 as one claim about a paper: where it is accepted, what was answered for each fragment is true of every replay
+abbrev pub TrueOfPaper : Rules → Bytes → List ℕ → Type 0
+TrueOfPaper R paper log = markPaper R paper log .paper .verdict .answer .number ≡ 0 → EachTrue R 0 (fragments paper) log
 
 -- The display
 

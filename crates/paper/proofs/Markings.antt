@@ -9,11 +9,12 @@ use lib.Dec.{ltb, leb, eqb}
 use lib.ListN.{length, take, drop, getD, drop-of-length-le}
 use lib.Seq.{drop-cons}
 use Rattle.definition.specs.Basics.{Bytes}
-use Rattle.definition.specs.Papers.{Fragment, fragments, entries, goodHeader, PaperMarked, after, markFrom, dispatch, markPaper}
+use Rattle.definition.specs.Papers.{Fragment, fragments, entries, goodHeader, PaperMarked, after, markFrom, dispatch, markPaper, EachTrue}
 use Rattle.definition.specs.Papers as P
 use Rattle.definition.specs.Refusals.{answer}
 use Rattle.definition.specs.Stacks.{Rules, builtIn}
 use Rattle.definition.specs.Walk.{Marked, dead, analysis}
+use Rattle.definition.proofs.TrueOfPaper.{trueOfPaper}
 use Rattle.stack_analysis.specs.View.{packedVerdict}
 use Rattle.stack_analysis.specs.declared.Verdict.{Verdict}
 use Rattle.paper.specs.View.{dispatched, fragmentAt, fragmentMarked, Marks, paperOf}
@@ -176,3 +177,9 @@ module _ (p : Bytes) (log : List ℕ) where
       paper-marked q r new e l =
           let c : markPaper builtIn p log ≡ dispatched p Fits log = checked ∙ ap (λ (x : Dispatch). dispatched p x log) q in
           record { same = e ∙ sym (ap (λ (x : PaperMarked). x .paper) c); logged = l ∙ sym (ap (λ (x : PaperMarked). x .log) c) }
+
+-- what acceptance means
+pub paper-replays : (p : Bytes) (log : List ℕ) (r : PaperVerdict) (new : List ℕ) → Answers r new (markPaper builtIn p log) → r .number ≡ 0
+    → EachTrue builtIn 0 (fragments p) log
+unfolding paperOf
+paper-replays p log r new m h = trueOfPaper p log (sym (ap (λ (u : P.PaperVerdict). u .verdict .answer .number) (m .same)) ∙ h)

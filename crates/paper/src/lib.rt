@@ -3,7 +3,7 @@ ghost use mathlib.Core.List.{List, _++_};
 ghost use mathlib.Core.Path.{_≡_};
 ghost use Prim.Native.Nat.{ℕ, _+_, _*_, _≤_, _<_, max, min};
 ghost use lib.ListN.{length, take, drop};
-ghost use Rattle.definition.specs.Papers.{field, partAt, bytesOf, entries, headerSize, within, share, sharesNone, goodParts, goodHeader, mostParameters, fragments, markFrom, dispatch, markPaper};
+ghost use Rattle.definition.specs.Papers.{field, partAt, bytesOf, entries, headerSize, within, share, sharesNone, goodParts, goodHeader, mostParameters, fragments, markFrom, dispatch, markPaper, EachTrue};
 ghost use Rattle.definition.specs.Stacks.{builtIn};
 ghost use Rattle.definition.specs.Refusals.{answer};
 ghost use Rattle.definition.specs.Walk.{analysis, dead};
@@ -335,6 +335,8 @@ pub fn mark_paper(paper: &[u8], log: &mut [u16]) -> PaperVerdict
         ⌜ paperOf r ≡ markPaper builtIn (now (paper .entry)) (now (log .entry)) .paper ⌝ }
     ensures logged { λ r.
         ⌜ now (log .exit) ≡ markPaper builtIn (now (paper .entry)) (now (log .entry)) .log ⌝ }
+    ensures replayed { λ r.
+        ⌜ (r .number ≡ 0 → EachTrue builtIn 0 (fragments (now (paper .entry))) (now (log .entry))) ⌝ }
 {
     if paper.len() > 8000 {
         return refused(0, 21, paper.len() as u64, 8000);

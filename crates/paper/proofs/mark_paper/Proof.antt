@@ -1,4 +1,4 @@
-use Rattle.paper.proofs.Markings.{paper-long, paper-bad, paper-over, paper-marked}
+use Rattle.paper.proofs.Markings.{paper-long, paper-bad, paper-over, paper-marked, paper-replays}
 use borrow.Author.Needs.{needs}
 use native.Mathlib.Omega.{arith}
 use Rattle.paper.proofs.mark_paper.Statement.{statement}
@@ -19,7 +19,7 @@ returns : tie.Need-returns
 returns c =
     let a = c .before .before .before .before .args in
     let m = paper-long (a .paper .now) (a .log .now) (c .before .if1 .taken) _ (c .refused .ensures) in
-    (m .same, m .logged)
+    (m .same, (m .logged, λ z. paper-replays (a .paper .now) (a .log .now) _ _ m z))
 
 -- src/lib.rt:342:9
 header-ok-requires : tie.Need-header-ok-requires
@@ -35,7 +35,7 @@ returns-2 c =
     let h = c .before .before in
     let a = h .before .before .before .before .args in
     let m = paper-bad (a .paper .now) (a .log .now) (h .before .if1 .left) (h .header-ok .result) (h .header-ok .ensures) (c .before .if2 .taken) _ (c .refused2 .ensures) in
-    (m .same, m .logged)
+    (m .same, (m .logged, λ z. paper-replays (a .paper .now) (a .log .now) _ _ m z))
 
 -- src/lib.rt:345:9
 dispatch-check-requires : tie.Need-dispatch-check-requires
@@ -69,7 +69,7 @@ returns-3 c =
     let h = d .before .before in
     let a = h .before .before .before .before .args in
     let m = paper-over (a .paper .now) (a .log .now) (h .before .if1 .left) (h .header-ok .result) (h .header-ok .ensures) (d .before .if2 .left) (d .dispatch-check .result) (d .dispatch-check .ensures) _ _ (e .given .1) _ (c .refused3 .ensures) in
-    (m .same, m .logged)
+    (m .same, (m .logged, λ z. paper-replays (a .paper .now) (a .log .now) _ _ m z))
 
 -- src/lib.rt:333:1
 same-length : tie.Need-same-length
@@ -83,7 +83,7 @@ returns-4 c =
     let h = d .before .before in
     let a = h .before .before .before .before .args in
     let m = paper-marked (a .paper .now) (a .log .now) (h .before .if1 .left) (h .header-ok .result) (h .header-ok .ensures) (d .before .if2 .left) (d .dispatch-check .result) (d .dispatch-check .ensures) (r .before .before .enum-told .given .1) (r .mark-fragments .result) _ (r .mark-fragments .ensures .0) (r .mark-fragments .ensures .1) in
-    (m .same, m .logged)
+    (m .same, (m .logged, λ z. paper-replays (a .paper .now) (a .log .now) _ _ m z))
 
 pub mark-paper-spec : {M : Type 1} → statement M
 mark-paper-spec =
