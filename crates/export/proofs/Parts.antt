@@ -50,7 +50,9 @@ module _ (body init : Bytes) (offset mark : ℕ) where
   shown-part : take (length (display body init offset mark))
       (drop (displayStart body init offset mark) (byMark body init mark)) ≡ display body init offset mark
   unfolding display displayStart
-  shown-part = rw (drop-min offset (byMark body init mark)) (shown (drop offset (byMark body init mark)))
+  shown-part =
+      let rest : Bytes = drop offset (byMark body init mark) in
+      ap (λ (l : Bytes). take (length (shownAt rest)) l) (drop-min offset (byMark body init mark)) ∙ shown rest
 
   shown-inside : displayStart body init offset mark + length (display body init offset mark)
       ≤ length (byMark body init mark)
