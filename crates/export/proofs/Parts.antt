@@ -87,7 +87,8 @@ module _ (body init : Bytes) (offset mark r : ℕ) where
   unfolding displayStart
   start-init e h = h ∙ rw e
 
-pub start-none : (body init : Bytes) (offset mark : ℕ) → (mark ≡ 0 → ⊥) → (mark ≡ 1 → ⊥) → 0 ≡ displayStart body init offset mark
+pub start-none : (body init : Bytes) (offset mark : ℕ) → (mark ≡ 0 → ⊥) → (mark ≡ 1 → ⊥)
+    → 0 ≡ displayStart body init offset mark
 unfolding displayStart
 start-none body init offset zero h k = absurd (h refl)
 start-none body init offset (suc zero) h k = absurd (k refl)

@@ -19,8 +19,11 @@ same-length-2 c = search needs
 
 returns : tie.Need-returns
 returns c =
-    let a = c .before .before .before .before .before .before .analyze .ensures in
-    (ap (λ (v : Verdict). v .number) (a .0), (a .1 .0, c .before .before .write .ensures ∙ ap (λ (v : Verdict). written (verdictNumbers v) (c .before .before .before .before .before .before .before .before .before .before .before .args .out .now)) (a .0)))
+    let d = c .before .before .before .before .before .before in
+    let lent = d .before .before .before .before .before .args .out .now in
+    let same = d .analyze .ensures .0 in
+    let wrote = c .before .before .write .ensures ∙ ap (λ (v : Verdict). written (verdictNumbers v) lent) same in
+    (ap (λ (v : Verdict). v .number) same, (d .analyze .ensures .1 .0, wrote))
 
 pub listochur-analyze-spec : {M : Type 1} → statement M
 listochur-analyze-spec =

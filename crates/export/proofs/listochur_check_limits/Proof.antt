@@ -16,8 +16,11 @@ same-length c = search needs
 
 returns : tie.Need-returns
 returns c =
-    let a = c .before .before .before .before .validate-txscript-bytecode-limits .ensures in
-    (ap (λ (d : Answer). d .number) a, c .before .before .write-answer .ensures ∙ ap (λ (d : Answer). written (answerNumbers d) (c .before .before .before .before .before .before .before .args .out .now)) a)
+    let d = c .before .before .before .before in
+    let lent = d .before .before .before .args .out .now in
+    let same = d .validate-txscript-bytecode-limits .ensures in
+    let wrote = c .before .before .write-answer .ensures ∙ ap (λ (a : Answer). written (answerNumbers a) lent) same in
+    (ap (λ (a : Answer). a .number) same, wrote)
 
 pub listochur-check-limits-spec : {M : Type 1} → statement M
 listochur-check-limits-spec =

@@ -23,9 +23,10 @@ returns : tie.Need-returns
 returns c =
     let s = c .before .before .before .before in
     let shown = s .before .display .ensures in
-    let a = s .before .before .before .before .before .args in
-    let start = c .before .before .before .before .display-start .ensures in
-    (part-size _ _ _ _ _ shown, (part-shown _ _ _ _ _ shown, (part-inside _ _ _ _ _ shown, c .before .before .write-part .ensures ∙ ap (λ (ns : List ℕ). written ns (a .out .now)) (part-numbers _ _ _ _ _ shown _ start))))
+    let lent = s .before .before .before .before .before .args .out .now in
+    let numbers = part-numbers _ _ _ _ _ shown _ (s .display-start .ensures) in
+    let wrote = c .before .before .write-part .ensures ∙ ap (λ (ns : List ℕ). written ns lent) numbers in
+    (part-size _ _ _ _ _ shown, (part-shown _ _ _ _ _ shown, (part-inside _ _ _ _ _ shown, wrote)))
 
 pub listochur-display-spec : {M : Type 1} → statement M
 listochur-display-spec =

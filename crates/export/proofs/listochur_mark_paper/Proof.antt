@@ -21,8 +21,11 @@ same-length-2 c = search needs
 returns : tie.Need-returns
 unfolding paperOf
 returns c =
-    let a = c .before .before .before .before .before .before .mark-paper .ensures in
-    (ap (λ (p : PaperVerdict). p .verdict .answer .number) (a .0), (a .1 .0, c .before .before .write-paper .ensures ∙ ap (λ (p : PaperVerdict). written (paperNumbers p) (c .before .before .before .before .before .before .before .before .before .before .before .args .out .now)) (a .0)))
+    let d = c .before .before .before .before .before .before in
+    let lent = d .before .before .before .before .before .args .out .now in
+    let same = d .mark-paper .ensures .0 in
+    let wrote = c .before .before .write-paper .ensures ∙ ap (λ (p : PaperVerdict). written (paperNumbers p) lent) same in
+    (ap (λ (p : PaperVerdict). p .verdict .answer .number) same, (d .mark-paper .ensures .1 .0, wrote))
 
 pub listochur-mark-paper-spec : {M : Type 1} → statement M
 listochur-mark-paper-spec =
