@@ -8,6 +8,8 @@
 ghost use mathlib.Core.Path.{_≡_};
 ghost use Prim.Native.Nat.{_+_, _≤_};
 ghost use lib.ListN.{length};
+ghost use Rattle.definition.specs.Walk.{Verdict, tally};
+ghost use Rattle.tally.specs.View.{tallyOf, talliedOf, Gives};
 ghost use Rattle.vectors.specs.Digits.{decimalDigit, hexDigit, octetAt};
 ghost use Rattle.vectors.specs.Ranges.{DigitBelow, EndsWithin, CountWithin, PartWithin, WrittenWithin, Held, StillHeld};
 
@@ -610,6 +612,19 @@ fn displayed(line: &[u8], from: usize, code: &mut [u8], out: &mut [u8], used: us
     displayed_from(line, next, code, body, out, used)
 }
 
+// The tally with one verdict more, of this number, rows and peak, or 22 with the tally as it was: `gain`, on a tally that
+// is lent to it.
+fn gain_once(t: tally::Tally, number: u32, rows: u32, peak: u32) -> tally::Tallied
+    ensures { λ r. ⌜ ((v : Verdict) → Gives v number rows peak → r ≡ talliedOf (tally (tallyOf t) v)) ⌝ }
+{
+    let mut lent = t;
+    let answer = tally::gain(&mut lent, number, rows, peak);
+    tally::Tallied {
+        tally: lent,
+        answer,
+    }
+}
+
 // A tally's counters, and the end of the line.
 fn put_counters(out: &mut [u8], used: usize, t: tally::Tally) -> usize
     ensures { λ r. ⌜ r ≤ length (now (out .exit)) ⌝ }
@@ -647,7 +662,7 @@ fn tallied(line: &[u8], from: usize, out: &mut [u8], used: usize) -> Answered
         rows: f[2],
         peak: f[3],
     };
-    Answered::Written(put_tally(out, used, tally::gained(t, f[4], f[5], f[6])))
+    Answered::Written(put_tally(out, used, gain_once(t, f[4], f[5], f[6])))
 }
 
 // Answers a line that is understood, by its first word.
