@@ -320,7 +320,7 @@ fn begins(line: &[u8], word: &[u8]) -> bool {
     true
 }
 
-// A character more in the output; a full one is written first.
+// A character more in the output, which is written first where it is full.
 fn put(out: &mut [u8], used: usize, b: u8) -> usize
     ensures { λ r. ⌜ r ≤ length (now (out .exit)) ⌝ }
 {
@@ -777,7 +777,7 @@ fn characters(
     r
 }
 
-// Writes the output as far as it is filled, so that every line read is answered.
+// Writes the output as far as it is filled.
 fn flush(r: Reading, out: &[u8]) -> Reading
     requires { ⌜ r .used ≤ length (now out) ⌝ }
     ensures { λ n. ⌜ (n .held ≡ r .held) × (n .used ≡ 0) ⌝ }
@@ -843,8 +843,8 @@ fn replay(line: &mut [u8], code: &mut [u8], log: &mut [u16], out: &mut [u8]) {
     }
 }
 
-// Room for a line that is one character too long, for the bytes of a line, of a body and an initialiser together, for the
-// log of a fragment that is not too long, and for answers.
+// Room for a line that is one character too long, for the bytes of a case, body and initialiser together, for the log of
+// a fragment that is not too long, and for answers.
 fn main() {
     let mut line = [0u8; 20101];
     let mut code = [0u8; 40000];
