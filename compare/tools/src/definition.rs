@@ -435,8 +435,7 @@ pub struct PaperVerdict {
 
 /// Marks a paper, with a lent log.
 pub fn mark(bytes: &[u8], log: &mut [u16]) -> PaperVerdict {
-    let refuse =
-        |number, entry, a, b| PaperVerdict { answer: PaperAnswer { number, entry, offset: 0, a, b }, rows: 0, peak: 0 };
+    let refuse = |number, entry, a, b| PaperVerdict { answer: PaperAnswer { number, entry, offset: 0, a, b }, rows: 0, peak: 0 };
     if bytes.len() > 8_000 {
         return refuse(21, 0, bytes.len() as u64, 8_000);
     }
