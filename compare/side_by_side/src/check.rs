@@ -1,6 +1,7 @@
 //! One case on all sides.
 
 use std::fmt;
+use std::panic::{AssertUnwindSafe, catch_unwind};
 
 use reference::{Answer, PaperAnswer};
 use tools::definition;
@@ -53,6 +54,13 @@ fn differ(against: &'static str, ours: impl fmt::Debug, theirs: impl fmt::Debug)
     Box::new(Difference { against, ours: format!("{ours:?}"), theirs: format!("{theirs:?}") })
 }
 
+/// Asks the Rust, which answers by words: words without a verdict number stop it, and so does a paper's answer by parts that
+/// is not the one for the whole.
+fn ask<T>(ours: impl fmt::Debug, question: impl FnOnce() -> T) -> Result<T, Box<Difference>> {
+    catch_unwind(AssertUnwindSafe(question)).map_err(|_| differ(STOPPED, ours, "no answer: the words are on standard error"))
+}
+
+const STOPPED: &str = "the Rust, which stopped";
 const RUST: &str = "the Rust: number, offset, figures";
 const RUST_PAPER: &str = "the Rust: number, entry, offset, figures";
 const OUTSIDE: &str = "the Rust: outside its limits";
@@ -105,12 +113,12 @@ impl<'m, M: Marker> Checker<'m, M> {
         match number {
             4 => {}
             1 | 5 => {
-                if !reference::fragment_outside(bytes, main, alt) {
+                if !ask(ours, || reference::fragment_outside(bytes, main, alt))? {
                     return Err(differ(OUTSIDE, ours, "inside"));
                 }
             }
             _ => {
-                let rust = reference::fragment(bytes, main, alt);
+                let rust = ask(ours, || reference::fragment(bytes, main, alt))?;
                 let rust = [u64::from(rust.number), rust.offset, rust.a, rust.b];
                 if ours[..4] != rust {
                     return Err(differ(RUST, &ours[..4], rust));
@@ -144,7 +152,7 @@ impl<'m, M: Marker> Checker<'m, M> {
 
     pub fn limits(&mut self, bytes: &[u8]) -> Result<u32, Box<Difference>> {
         let ours = self.marker.check_limits(bytes);
-        let rust = reference::limits(bytes);
+        let rust = ask(ours, || reference::limits(bytes))?;
         let wanted = definition::limit_check(bytes);
         for (against, Answer { number, offset, a, b }) in [(RUST, rust), (LIMITS, wanted)] {
             let theirs = [u64::from(number), offset, a, b];
@@ -164,12 +172,12 @@ impl<'m, M: Marker> Checker<'m, M> {
         match number {
             4 => {}
             5 => {
-                if !reference::paper_outside(bytes) {
+                if !ask(ours, || reference::paper_outside(bytes))? {
                     return Err(differ(OUTSIDE, ours, "inside"));
                 }
             }
             _ => {
-                let rust = reference::paper(bytes);
+                let rust = ask(ours, || reference::paper(bytes))?;
                 let rust = [u64::from(rust.number), rust.entry, rust.offset, rust.a, rust.b];
                 if ours[..5] != rust {
                     return Err(differ(RUST_PAPER, &ours[..5], rust));

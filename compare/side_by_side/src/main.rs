@@ -1,6 +1,7 @@
 //! `side_by_side quick|full [--seed N] [--threads N] [--only PART]`: compares, and ends with a report of counts. Code 0 if
 //! there is no difference, 1 if there is one, 2 if the words are not understood.
 
+use std::io::{IsTerminal, Write, stderr};
 use std::process::ExitCode;
 use std::thread::available_parallelism;
 
@@ -50,20 +51,29 @@ fn main() -> ExitCode {
             return ExitCode::from(2);
         }
     }
-    let outcome = run(&Proved, &parts, words.seed, words.threads);
+    let outcome = run(&Proved, &parts, words.seed, words.threads, &progress);
+    progress("");
     let mode = if words.full { "full" } else { "quick" };
     println!("{mode}, seed {}, threads {}", words.seed, words.threads);
     report(&outcome);
     ExitCode::from(u8::from(outcome.found.is_some()))
 }
 
+/// One line on standard error, rewritten in place.
+fn progress(line: &str) {
+    let mut stderr = stderr();
+    let written = if stderr.is_terminal() { write!(stderr, "\r\x1b[K{line}") } else { write!(stderr, "\r{line:<78}") };
+    // Nothing depends on it.
+    let _ = written.and_then(|()| stderr.flush());
+}
+
 fn report(outcome: &Outcome) {
-    println!("\n{:<28}{:>13}{:>12}{:>10}", "part", "cases", "bytes each", "seconds");
+    println!("\n{:<27}{:>12}{:>12}{:>12}{:>10}", "part", "cases", "accepted", "bytes each", "seconds");
     let mut sum = Tally::default();
     let mut seconds = 0.0;
     let line = |name: &str, tally: &Tally, seconds: f64| {
         let each = tally.bytes() as f64 / tally.cases().max(1) as f64;
-        println!("{name:<28}{:>13}{each:>12.1}{seconds:>10.1}", tally.cases());
+        println!("{name:<27}{:>12}{:>12}{each:>12.1}{seconds:>10.1}", tally.cases(), tally.accepted());
     };
     for part in &outcome.parts {
         line(part.name, &part.tally, part.seconds);

@@ -18,6 +18,14 @@ pub trait Marker: Sync {
 /// What a place holds until something is written to it.
 const UNWRITTEN: u64 = 0xdead_beef_dead_beef;
 
+/// What was written, if what was answered is also what was written in its place.
+fn answered<const N: usize>(answer: u64, place: usize, mut written: [u64; N]) -> [u64; N] {
+    if written[place] != answer {
+        written[place] = UNWRITTEN;
+    }
+    written
+}
+
 mod proved {
     unsafe extern "C" {
         pub fn listochur_analyze(
@@ -62,15 +70,13 @@ impl Marker for Proved {
             let (log, numbers) = (log.as_mut_ptr(), log.len());
             proved::listochur_analyze(fragment.as_ptr(), fragment.len(), main, alt, log, numbers, out.as_mut_ptr(), out.len())
         };
-        assert_eq!(u64::from(number), out[0], "the number answered is the number written");
-        out
+        answered(u64::from(number), 0, out)
     }
 
     fn check_limits(&self, bytecode: &[u8]) -> [u64; 4] {
         let mut out = [UNWRITTEN; 4];
         let number = unsafe { proved::listochur_check_limits(bytecode.as_ptr(), bytecode.len(), out.as_mut_ptr(), out.len()) };
-        assert_eq!(u64::from(number), out[0], "the number answered is the number written");
-        out
+        answered(u64::from(number), 0, out)
     }
 
     fn mark_paper(&self, paper: &[u8], log: &mut [u16]) -> [u64; 7] {
@@ -79,8 +85,7 @@ impl Marker for Proved {
             let (log, numbers) = (log.as_mut_ptr(), log.len());
             proved::listochur_mark_paper(paper.as_ptr(), paper.len(), log, numbers, out.as_mut_ptr(), out.len())
         };
-        assert_eq!(u64::from(number), out[0], "the number answered is the number written");
-        out
+        answered(u64::from(number), 0, out)
     }
 
     fn display(&self, body: &[u8], initialiser: &[u8], offset: usize, mark: u32) -> [u64; 2] {
@@ -89,7 +94,6 @@ impl Marker for Proved {
             let (init, init_len) = (initialiser.as_ptr(), initialiser.len());
             proved::listochur_display(body.as_ptr(), body.len(), init, init_len, offset, mark, out.as_mut_ptr(), out.len())
         };
-        assert_eq!(length as u64, out[1], "the length answered is the length written");
-        out
+        answered(length as u64, 1, out)
     }
 }

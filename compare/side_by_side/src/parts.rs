@@ -11,16 +11,16 @@ use crate::run::{Found, Part, Worker};
 /// How much of each part. Fields are numbers of cases unless they say otherwise.
 pub struct Sizes {
     /// Fragments of three bytes from each start: every one, or so many at random.
-    three_bytes: Option<u64>,
+    pub three_bytes: Option<u64>,
     /// Fragments of five instructions from each start: the same.
-    five_instructions: Option<u64>,
-    fragments: u64,
-    papers: u64,
-    limits: u64,
+    pub five_instructions: Option<u64>,
+    pub fragments: u64,
+    pub papers: u64,
+    pub limits: u64,
     /// Of each of the three lengths.
-    long: u64,
-    nested: u64,
-    displays: u64,
+    pub long: u64,
+    pub nested: u64,
+    pub displays: u64,
 }
 
 impl Sizes {

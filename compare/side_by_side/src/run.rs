@@ -1,7 +1,6 @@
 //! Runs the parts, in chunks, on several threads. What a chunk does depends on the
 //! seed, the part and the chunk alone, so a seed repeats a run on any number of threads.
 
-use std::io::{IsTerminal, Write, stderr};
 use std::sync::Mutex;
 use std::sync::atomic::{AtomicBool, AtomicU64, Ordering};
 use std::sync::mpsc::{RecvTimeoutError, channel};
@@ -64,6 +63,11 @@ impl Tally {
     /// All but the replays, whose fragments are among the others.
     pub fn cases(&self) -> u64 {
         self.fragments.cases + self.limits.cases + self.papers.cases + self.displays.cases
+    }
+
+    /// Verdicts of number 0.
+    pub fn accepted(&self) -> u64 {
+        self.fragments.numbers[0] + self.limits.numbers[0] + self.papers.numbers[0]
     }
 
     pub fn bytes(&self) -> u64 {
@@ -164,20 +168,20 @@ pub struct Outcome {
 /// Machine stack of a thread: more than the walkers need.
 const STACK: usize = 16 << 20;
 
-/// Runs the parts in order, up to the first that differs.
-pub fn run<M: Marker>(marker: &M, parts: &[Part<M>], seed: u64, threads: usize) -> Outcome {
+/// Runs the parts in order, up to the first that differs. `tell` is given the line of progress.
+pub fn run<M: Marker>(marker: &M, parts: &[Part<M>], seed: u64, threads: usize, tell: &dyn Fn(&str)) -> Outcome {
     let mut outcome = Outcome { parts: Vec::new(), found: None };
     for (number, part) in parts.iter().enumerate() {
         let begun = Instant::now();
         let place = format!("{} of {}: {}", number + 1, parts.len(), part.name);
-        let (tally, found) = run_part(marker, part, seed, threads, &place);
+        let tell = |state: &str| tell(&format!("{place}, {state}"));
+        let (tally, found) = run_part(marker, part, seed, threads, &tell);
         outcome.parts.push(PartOutcome { name: part.name, tally, seconds: begun.elapsed().as_secs_f64() });
         outcome.found = found;
         if outcome.found.is_some() {
             break;
         }
     }
-    progress("");
     outcome
 }
 
@@ -188,7 +192,7 @@ fn chunk_seed(seed: u64, name: &str, chunk: u64) -> u64 {
     Rng::new(mixed).number()
 }
 
-fn run_part<M: Marker>(marker: &M, part: &Part<M>, seed: u64, threads: usize, place: &str) -> (Tally, Option<Found>) {
+fn run_part<M: Marker>(marker: &M, part: &Part<M>, seed: u64, threads: usize, tell: &dyn Fn(&str)) -> (Tally, Option<Found>) {
     let begun = Instant::now();
     let (next, done, cases) = (AtomicU64::new(0), AtomicU64::new(0), AtomicU64::new(0));
     let stop = AtomicBool::new(false);
@@ -227,7 +231,7 @@ fn run_part<M: Marker>(marker: &M, part: &Part<M>, seed: u64, threads: usize, pl
                 Err(RecvTimeoutError::Timeout) => {
                     let (done, cases) = (done.load(Ordering::Relaxed), cases.load(Ordering::Relaxed));
                     let seconds = begun.elapsed().as_secs();
-                    progress(&format!("{place}, {} %, {cases} cases, {seconds} s", done * 100 / part.chunks));
+                    tell(&format!("{} %, {cases} cases, {seconds} s", done * 100 / part.chunks));
                 }
             }
         }
@@ -241,12 +245,4 @@ fn keep_smallest(found: &Mutex<Option<Found>>, case: Found) {
     if smallest.as_ref().is_none_or(|smallest| size(&case) < size(smallest)) {
         *smallest = Some(case);
     }
-}
-
-/// One line on standard error, rewritten in place.
-fn progress(line: &str) {
-    let mut stderr = stderr();
-    let written = if stderr.is_terminal() { write!(stderr, "\r\x1b[K{line}") } else { write!(stderr, "\r{line:<78}") };
-    // Nothing depends on it.
-    let _ = written.and_then(|()| stderr.flush());
 }

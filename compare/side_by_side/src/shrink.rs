@@ -1,14 +1,27 @@
-//! The smallest case that still differs: bytes are dropped and start heights lowered for as long as that helps.
+//! The smallest case that still differs: instructions and bytes are dropped and start heights lowered for as long as that
+//! helps.
 
+use std::time::{Duration, Instant};
+
+use tools::definition::decode;
 use tools::generate::Draft;
 
 use crate::check::{Case, Checker, Difference};
 use crate::marker::Marker;
 
-/// A smaller case with its difference, which may be another one than that of the case given.
+/// No longer than this: a long fragment that needs all its bytes takes many attempts.
+const MOST_TIME: Duration = Duration::from_secs(10);
+
+/// A smaller case that differs in the same thing.
 pub fn shrink<M: Marker>(checker: &mut Checker<M>, case: Case, difference: Box<Difference>) -> (Case, Box<Difference>) {
+    let begun = Instant::now();
+    let against = difference.against;
     let mut best = (case, difference);
-    while let Some(better) = smaller(&best.0).find_map(|case| checker.check(&case).err().map(|difference| (case, difference))) {
+    let mut differs = |case: Case| {
+        let difference = checker.check(&case).err().filter(|difference| difference.against == against)?;
+        Some((case, difference))
+    };
+    while let Some(better) = smaller(&best.0).take_while(|_| begun.elapsed() < MOST_TIME).find_map(&mut differs) {
         best = better;
     }
     best
@@ -61,18 +74,32 @@ fn smaller(case: &Case) -> Box<dyn Iterator<Item = Case>> {
     }
 }
 
-/// The bytes without a piece of them, large pieces first.
+/// The bytes without a piece or two of them: large pieces first, then runs of instructions, two instructions (as those of a
+/// conditional), bytes.
 fn fewer(bytes: Vec<u8>) -> impl Iterator<Item = Vec<u8>> {
-    let whole = bytes.len();
-    let sizes = std::iter::successors(Some(whole), |size| Some(size / 2)).take_while(|size| *size > 0);
-    sizes.flat_map(move |size| {
-        let bytes = bytes.clone();
-        (0..whole.div_ceil(size)).map(move |piece| {
-            let from = piece * size;
-            let to = (from + size).min(bytes.len());
-            [&bytes[..from], &bytes[to..]].concat()
-        })
-    })
+    const FEW: usize = 60;
+    let size = bytes.len();
+    // From and to, twice; the second piece may be empty.
+    let mut pieces: Vec<[usize; 4]> = Vec::new();
+    let mut piece = size;
+    while piece > 1 {
+        pieces.extend((0..size).step_by(piece).map(|from| [from, (from + piece).min(size), size, size]));
+        piece /= 2;
+    }
+    if let Ok(instructions) = decode(&bytes) {
+        let starts: Vec<usize> = instructions.iter().map(|instruction| instruction.offset).chain([size]).collect();
+        let count = instructions.len();
+        let longest = if count <= FEW { count } else { 1 };
+        for length in (1..=longest).rev() {
+            pieces.extend(starts.windows(length + 1).map(|run| [run[0], run[length], size, size]));
+        }
+        if count <= FEW {
+            let two = |a: usize, b: usize| [starts[a], starts[a + 1], starts[b], starts[b + 1]];
+            pieces.extend((0..count).flat_map(|a| (a + 2..count).map(move |b| (a, b))).map(|(a, b)| two(a, b)));
+        }
+    }
+    pieces.extend((0..size).map(|at| [at, at + 1, size, size]));
+    pieces.into_iter().map(move |[from, to, again, last]| [&bytes[..from], &bytes[to..again], &bytes[last..]].concat())
 }
 
 /// Lower main, lower alt.
