@@ -384,9 +384,7 @@ fn loose_nest(rng: &mut Rng, levels: usize) -> Vec<u8> {
         }
     }
     let close = if rng.percent(80) { open } else { rng.below(open + 2) };
-    for _ in 0..close {
-        bytes.push(0x68);
-    }
+    bytes.extend(vec![0x68; close]);
     bytes
 }
 

@@ -231,7 +231,7 @@ fn run_part<M: Marker>(marker: &M, part: &Part<M>, seed: u64, threads: usize, te
                 Err(RecvTimeoutError::Timeout) => {
                     let (done, cases) = (done.load(Ordering::Relaxed), cases.load(Ordering::Relaxed));
                     let seconds = begun.elapsed().as_secs();
-                    tell(&format!("{} %, {cases} cases, {seconds} s", done * 100 / part.chunks));
+                    tell(&format!("{} %, {cases} cases, {seconds} s", done * 100 / part.chunks.max(1)));
                 }
             }
         }

@@ -18,17 +18,22 @@ const SMALL: Sizes = Sizes {
     displays: 3_000,
 };
 
+type OnFragment = fn(&[u8], u32, u32, &mut [u16], [u64; 9]) -> [u64; 9];
+type OnLimits = fn([u64; 4]) -> [u64; 4];
+type OnPaper = fn(&mut [u16], [u64; 7]) -> [u64; 7];
+type OnDisplay = fn([u64; 2]) -> [u64; 2];
+
 /// The proved marker with one thing changed.
 #[derive(Clone, Copy)]
 struct Changed {
-    fragment: fn(&[u8], u32, u32, &mut [u16], [u64; 9]) -> [u64; 9],
-    limits: fn(&[u8], [u64; 4]) -> [u64; 4],
-    paper: fn(&[u8], &mut [u16], [u64; 7]) -> [u64; 7],
-    display: fn(&[u8], &[u8], [u64; 2]) -> [u64; 2],
+    fragment: OnFragment,
+    limits: OnLimits,
+    paper: OnPaper,
+    display: OnDisplay,
 }
 
 const UNCHANGED: Changed =
-    Changed { fragment: |_, _, _, _, out| out, limits: |_, out| out, paper: |_, _, out| out, display: |_, _, out| out };
+    Changed { fragment: |_, _, _, _, out| out, limits: |out| out, paper: |_, out| out, display: |out| out };
 
 impl Marker for Changed {
     fn analyze(&self, fragment: &[u8], main: u32, alt: u32, log: &mut [u16]) -> [u64; 9] {
@@ -37,16 +42,16 @@ impl Marker for Changed {
     }
 
     fn check_limits(&self, bytecode: &[u8]) -> [u64; 4] {
-        (self.limits)(bytecode, Proved.check_limits(bytecode))
+        (self.limits)(Proved.check_limits(bytecode))
     }
 
     fn mark_paper(&self, paper: &[u8], log: &mut [u16]) -> [u64; 7] {
         let out = Proved.mark_paper(paper, log);
-        (self.paper)(paper, log, out)
+        (self.paper)(log, out)
     }
 
     fn display(&self, body: &[u8], initialiser: &[u8], offset: usize, mark: u32) -> [u64; 2] {
-        (self.display)(body, initialiser, Proved.display(body, initialiser, offset, mark))
+        (self.display)(Proved.display(body, initialiser, offset, mark))
     }
 }
 
@@ -223,7 +228,7 @@ fn the_additions() {
 fn limits() {
     let (case, _) = reported(
         Changed {
-            limits: |_, mut out| {
+            limits: |mut out| {
                 // 202 allowed.
                 if out[0] == 17 && out[2] == 202 {
                     out = [0; 4];
@@ -238,7 +243,7 @@ fn limits() {
     assert_eq!(bytes.len(), 202, "{case}");
     let (case, _) = reported(
         Changed {
-            limits: |_, mut out| {
+            limits: |mut out| {
                 out[1] = 0;
                 out
             },
@@ -252,25 +257,25 @@ fn limits() {
 
 #[test]
 fn papers() {
-    let wrong: [fn(&[u8], &mut [u16], [u64; 7]) -> [u64; 7]; 5] = [
+    let wrong: [OnPaper; 5] = [
         // The entry, the offset in the paper instead of the fragment, the peak, the rows, a row.
-        |_, _, mut out| {
+        |_, mut out| {
             out[1] += u64::from(out[0] == 12);
             out
         },
-        |_, _, mut out| {
+        |_, mut out| {
             out[2] += u64::from(out[0] == 7 && out[2] > 0);
             out
         },
-        |_, _, mut out| {
+        |_, mut out| {
             out[6] += u64::from(out[0] == 0 && out[6] > 9);
             out
         },
-        |_, _, mut out| {
+        |_, mut out| {
             out[5] -= u64::from(out[5] > 3);
             out
         },
-        |_, log, out| {
+        |log, out| {
             if out[5] > 1 {
                 log[4] ^= 1;
             }
@@ -289,7 +294,7 @@ fn papers() {
 fn display() {
     let (case, against) = reported(
         Changed {
-            display: |_, _, mut out| {
+            display: |mut out| {
                 out[1] = out[1].min(2);
                 out
             },
