@@ -89,10 +89,10 @@ fn report(outcome: &Outcome) {
             println!("{number:>14}{:>14}{:>13}{:>13}", row[0], row[1], row[2]);
         }
     }
-    let unasked = |counts: &Counts| counts.numbers[1] + counts.numbers[4] + counts.numbers[5];
-    println!("\ncompared with document 01 alone (1, 4, 5, display): {}", {
-        unasked(&sum.fragments) + unasked(&sum.papers) + sum.displays.cases
-    });
+    // The additions of document 01: see README.md.
+    let unasked = |counts: &Counts| [1, 4, 5, 19, 21].iter().map(|number| counts.numbers[*number]).sum::<u64>();
+    let alone = unasked(&sum.fragments) + unasked(&sum.papers) + sum.displays.cases;
+    println!("\nanswered by the Rust: {}; not by it (1, 4, 5, 19, 21, display): {alone}", sum.cases() - alone);
     let r = sum.replays;
     println!(
         "replays: {} of {} accepted fragments, all choices tried for {}; {} instructions reached, {} ran off the end",
