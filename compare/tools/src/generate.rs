@@ -53,7 +53,7 @@ pub fn case(rng: &mut Rng, kind: Kind) -> Case {
 // Fragments.
 
 /// Main and alt heights at the start.
-fn start(rng: &mut Rng) -> (usize, usize) {
+pub fn start(rng: &mut Rng) -> (usize, usize) {
     match rng.below(20) {
         0..=9 => (rng.below(9), if rng.percent(30) { rng.within(1, 3) } else { 0 }),
         10..=12 => (rng.within(8, 40), rng.below(5)),

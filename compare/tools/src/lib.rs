@@ -1,6 +1,9 @@
-//! What the programs share: the protocol of cases and answers, and the generator.
+//! What the programs share: the protocol of cases and answers, the generator, and
+//! document 01 as a plain reading.
 
 pub mod case;
+pub mod definition;
 pub mod generate;
 pub mod model;
+pub mod replay;
 pub mod rng;

@@ -1,0 +1,494 @@
+//! What is compared: every small fragment, then generated cases.
+
+use tools::case;
+use tools::generate::{Kind, body, case, mutate, planned, start};
+use tools::model::{FAULTS, Fault, Writer};
+use tools::rng::Rng;
+
+use crate::marker::Marker;
+use crate::run::{Found, Part, Worker};
+
+/// How much of each part. Fields are numbers of cases unless they say otherwise.
+pub struct Sizes {
+    /// Fragments of three bytes from each start: every one, or so many at random.
+    pub three_bytes: Option<u64>,
+    /// Fragments of five instructions from each start: the same.
+    pub five_instructions: Option<u64>,
+    pub fragments: u64,
+    pub papers: u64,
+    pub limits: u64,
+    /// Of each of the three lengths.
+    pub long: u64,
+    pub nested: u64,
+    pub displays: u64,
+}
+
+impl Sizes {
+    pub const QUICK: Self = Self {
+        three_bytes: Some(250_000),
+        five_instructions: Some(100_000),
+        fragments: 400_000,
+        papers: 60_000,
+        limits: 30_000,
+        long: 150,
+        nested: 30_000,
+        displays: 200_000,
+    };
+
+    pub const FULL: Self = Self {
+        three_bytes: None,
+        five_instructions: None,
+        fragments: 20_000_000,
+        papers: 1_000_000,
+        limits: 500_000,
+        long: 4_000,
+        nested: 500_000,
+        displays: 2_000_000,
+    };
+}
+
+/// Main and alt heights from which every fragment of up to three bytes is compared.
+pub const STARTS: [(u32, u32); 8] = [(0, 0), (1, 0), (2, 0), (3, 1), (243, 0), (244, 0), (0, 244), (200, 44)];
+
+/// The same for instructions: none, few, enough for a rotation, enough for either ZK form, full but for one.
+const INSTRUCTION_STARTS: [(u32, u32); 5] = [(0, 0), (2, 0), (4, 1), (10, 2), (241, 2)];
+
+/// Instructions that matter to one another: literals that are indexes, counts and tags, what takes them, what moves them
+/// about, conditionals and RETURN, an unknown result and an unmodelled code.
+pub const ALPHABET: [&[u8]; 25] = [
+    &[0x00],
+    &[0x51],
+    &[0x52],
+    &[0x01, 0x20],
+    &[0x01, 0x21],
+    &[0x63],
+    &[0x64],
+    &[0x67],
+    &[0x68],
+    &[0x6a],
+    &[0x6b],
+    &[0x6c],
+    &[0x74],
+    &[0x75],
+    &[0x76],
+    &[0x77],
+    &[0x79],
+    &[0x7a],
+    &[0x7b],
+    &[0x7c],
+    &[0x7d],
+    &[0x82],
+    &[0x93],
+    &[0xa6],
+    &[0xff],
+];
+
+/// All parts, in order.
+pub fn parts<M: Marker>(sizes: &Sizes) -> Vec<Part<M>> {
+    let mut parts: Vec<Part<M>> = Vec::new();
+    let mut part = |name, chunks, run| parts.push(Part { name, chunks, run });
+    part("bytes, up to 2", 256, Box::new(|worker, chunk| two_bytes(worker, chunk as u8)));
+    match sizes.three_bytes {
+        None => part("bytes, 3", 256, Box::new(|worker, chunk| three_bytes(worker, chunk as u8))),
+        Some(cases) => part("bytes, 3, a sample", cases / 1_000, Box::new(|worker, _| some_three_bytes(worker, 1_000))),
+    }
+    part("instructions, up to 4", 25, Box::new(|worker, chunk| instructions(worker, &[chunk as usize], 4)));
+    match sizes.five_instructions {
+        None => part(
+            "instructions, 5",
+            625,
+            Box::new(|worker, chunk| exactly(worker, &mut vec![chunk as usize / 25, chunk as usize % 25], 5)),
+        ),
+        Some(cases) => {
+            part("instructions, 5, a sample", cases / 1_000, Box::new(|worker, _| some_instructions(worker, 1_000)));
+        }
+    }
+    part("short logs", 256, Box::new(|worker, chunk| short_logs(worker, chunk as u8)));
+    part("fragments", sizes.fragments / 1_000, Box::new(|worker, _| fragments(worker, 1_000)));
+    part("long fragments", sizes.long, Box::new(|worker, chunk| long(worker, chunk)));
+    part("nesting", 1 + sizes.nested / 100, Box::new(|worker, chunk| nesting(worker, chunk, 100)));
+    part("limit checks", 1 + sizes.limits / 100, Box::new(|worker, chunk| limits(worker, chunk, 100)));
+    part("papers", sizes.papers / 100, Box::new(|worker, _| papers(worker, 100)));
+    part("display", 1 + sizes.displays / 1_000, Box::new(|worker, chunk| displays(worker, chunk, 1_000)));
+    parts
+}
+
+type Done = Result<(), Found>;
+
+/// A log that is longer than is needed, so that the rest of it is seen to stay as lent.
+fn enough(bytes: &[u8]) -> usize {
+    3 * bytes.len() + 4
+}
+
+/// Compares a fragment, and replays one in so many of those accepted.
+fn fragment<M: Marker>(worker: &mut Worker<M>, main: u32, alt: u32, bytes: &[u8], one_in: usize) -> Done {
+    let number = worker.fragment(main, alt, bytes, enough(bytes))?;
+    if number == 0 && worker.rng.below(one_in) == 0 {
+        worker.replays(main, alt, bytes)?;
+    }
+    Ok(())
+}
+
+// Every fragment of few bytes.
+
+/// Those of two bytes that begin with this one, and the shorter ones.
+fn two_bytes<M: Marker>(worker: &mut Worker<M>, first: u8) -> Done {
+    for (main, alt) in STARTS {
+        if first == 0 {
+            fragment(worker, main, alt, &[], 1)?;
+        }
+        fragment(worker, main, alt, &[first], 1)?;
+        for second in 0..=255 {
+            fragment(worker, main, alt, &[first, second], 4)?;
+        }
+    }
+    Ok(())
+}
+
+/// Those of three bytes that begin with this one.
+fn three_bytes<M: Marker>(worker: &mut Worker<M>, first: u8) -> Done {
+    for (main, alt) in STARTS {
+        for second in 0..=255 {
+            for third in 0..=255 {
+                fragment(worker, main, alt, &[first, second, third], 200)?;
+            }
+        }
+    }
+    Ok(())
+}
+
+fn some_three_bytes<M: Marker>(worker: &mut Worker<M>, cases: usize) -> Done {
+    for _ in 0..cases {
+        let bytes = worker.rng.bytes(3);
+        for (main, alt) in STARTS {
+            fragment(worker, main, alt, &bytes, 200)?;
+        }
+    }
+    Ok(())
+}
+
+// Every fragment of few instructions.
+
+/// Those that begin with these, up to `most`.
+fn instructions<M: Marker>(worker: &mut Worker<M>, first: &[usize], most: usize) -> Done {
+    for length in first.len()..=most {
+        exactly(worker, &mut first.to_vec(), length)?;
+    }
+    Ok(())
+}
+
+/// Those of this length that begin with these.
+fn exactly<M: Marker>(worker: &mut Worker<M>, first: &mut Vec<usize>, length: usize) -> Done {
+    if first.len() == length {
+        let bytes = first.iter().map(|k| ALPHABET[*k]).collect::<Vec<_>>().concat();
+        for (main, alt) in INSTRUCTION_STARTS {
+            fragment(worker, main, alt, &bytes, 100)?;
+        }
+        return Ok(());
+    }
+    for next in 0..ALPHABET.len() {
+        first.push(next);
+        exactly(worker, first, length)?;
+        first.pop();
+    }
+    Ok(())
+}
+
+fn some_instructions<M: Marker>(worker: &mut Worker<M>, cases: usize) -> Done {
+    for _ in 0..cases {
+        let mut chosen = (0..5).map(|_| worker.rng.below(ALPHABET.len())).collect();
+        exactly(worker, &mut chosen, 5)?;
+    }
+    Ok(())
+}
+
+/// Fragments of up to two bytes that begin with this one, with each log from none to one too long. The Rust keeps no log.
+fn short_logs<M: Marker>(worker: &mut Worker<M>, first: u8) -> Done {
+    for (main, alt) in [(2, 1), (0, 0), (200, 45)] {
+        for lent in 0..=7 {
+            worker.fragment(main, alt, &[], lent)?;
+            worker.fragment(main, alt, &[first], lent)?;
+            for second in 0..=255 {
+                worker.fragment(main, alt, &[first, second], lent)?;
+            }
+        }
+    }
+    Ok(())
+}
+
+// Generated cases.
+
+/// Heights and bytes of a generated fragment: of every shape and length, short with a plan, or short without one.
+fn generated(rng: &mut Rng) -> (u32, u32, Vec<u8>) {
+    match rng.below(10) {
+        0..=2 => match case(rng, Kind::Fragment) {
+            case::Case::Fragment { main, alt, bytes } => (main, alt, bytes),
+            _ => unreachable!("a fragment was asked for"),
+        },
+        3..=7 => {
+            let (main, alt) = start(rng);
+            let steps = rng.within(0, 14);
+            let fault = rng.percent(50).then(|| Fault { after: rng.below(steps + 1), number: rng.pick(&FAULTS) });
+            (main as u32, alt as u32, planned(rng, main, alt, steps, fault))
+        }
+        _ => {
+            let (main, alt) = if rng.percent(50) { (rng.below(8), rng.below(3)) } else { start(rng) };
+            let count = rng.within(4, 14);
+            let bytes = (0..count).flat_map(|_| rng.pick(&ALPHABET)).copied().collect();
+            (main as u32, alt as u32, bytes)
+        }
+    }
+}
+
+/// Half of them damaged copies of the other half.
+fn fragments<M: Marker>(worker: &mut Worker<M>, cases: usize) -> Done {
+    for _ in 0..cases / 2 {
+        let (main, alt, mut bytes) = generated(&mut worker.rng);
+        one_fragment(worker, main, alt, &bytes)?;
+        mutate(&mut worker.rng, &mut bytes);
+        one_fragment(worker, main, alt, &bytes)?;
+    }
+    Ok(())
+}
+
+/// With a log long enough or, one time in twenty, perhaps not.
+fn one_fragment<M: Marker>(worker: &mut Worker<M>, main: u32, alt: u32, bytes: &[u8]) -> Done {
+    let lent = if worker.rng.percent(5) { worker.rng.below(enough(bytes)) } else { enough(bytes) };
+    let number = worker.fragment(main, alt, bytes, lent)?;
+    if number == 0 && worker.rng.percent(4) {
+        worker.replays(main, alt, bytes)?;
+    }
+    Ok(())
+}
+
+/// One of a kind at each of 9,999, 10,000 and 10,001 bytes.
+fn long<M: Marker>(worker: &mut Worker<M>, chunk: u64) -> Done {
+    for size in [9_999, 10_000, 10_001] {
+        let (main, alt) =
+            if worker.rng.percent(50) { (worker.rng.below(30), worker.rng.below(3)) } else { start(&mut worker.rng) };
+        let bytes = long_fragment(&mut worker.rng, chunk % 10, main, alt, size);
+        assert_eq!(bytes.len(), size);
+        let (main, alt) = (main as u32, alt as u32);
+        let number = worker.fragment(main, alt, &bytes, enough(&bytes))?;
+        if number == 0 && worker.rng.percent(2) {
+            worker.replays(main, alt, &bytes)?;
+        }
+        // A log that is just long enough, or one number short.
+        let needed = tools::definition::decode(&bytes).map_or(0, |instructions| 3 * instructions.len());
+        worker.fragment(main, alt, &bytes, needed)?;
+        worker.fragment(main, alt, &bytes, needed.saturating_sub(1))?;
+    }
+    Ok(())
+}
+
+fn long_fragment(rng: &mut Rng, kind: u64, main: usize, alt: usize, size: usize) -> Vec<u8> {
+    let repeated = |piece: &[u8]| {
+        let mut bytes = piece.repeat(size / piece.len());
+        bytes.resize(size, 0x61);
+        bytes
+    };
+    match kind {
+        0 => repeated(&[0x61]),
+        // One push with all that follows.
+        1 => {
+            let mut bytes = vec![0x4d];
+            bytes.extend((size as u16 - 3).to_le_bytes());
+            bytes.resize(size, rng.byte());
+            bytes
+        }
+        2 => repeated(&[0x51, 0x75]),
+        3 => repeated(&[0x51, 0x63, 0x51, 0x67, 0x52, 0x68, 0x75]),
+        // Deep conditionals, one after another.
+        4 => repeated(&[[0x51, 0x63].repeat(24), vec![0x61; 5], vec![0x68; 24]].concat()),
+        // Dead after the first byte.
+        5 => {
+            let mut bytes = vec![0x6a];
+            bytes.extend((1..size).map(|_| rng.within(0x69, 0xff) as u8));
+            bytes
+        }
+        // Malformed at the end.
+        6 => {
+            let mut bytes = repeated(&[0x51, 0x75]);
+            let missing = rng.within(2, 0x4e) as u8;
+            bytes[size - 1] = missing;
+            bytes
+        }
+        // Generated, whole or with a fault or damaged.
+        _ => {
+            let aim = if rng.percent(30) { 244 } else { rng.within(4, 40) };
+            let fault = (kind == 8).then(|| Fault { after: rng.below(3_000), number: rng.pick(&FAULTS) });
+            let mut writer = Writer::new(rng, main, alt).aim(aim).fault(fault);
+            while writer.length() < size - 900 {
+                writer.steps(40);
+            }
+            let mut bytes = writer.finish();
+            if kind == 9 {
+                mutate(rng, &mut bytes);
+            }
+            bytes.resize(size, 0x61);
+            bytes
+        }
+    }
+}
+
+/// Conditionals 23, 24 and 25 deep: directed ones first, then generated ones.
+fn nesting<M: Marker>(worker: &mut Worker<M>, chunk: u64, cases: usize) -> Done {
+    if chunk == 0 {
+        return directed_nesting(worker);
+    }
+    for _ in 0..cases {
+        let levels = worker.rng.within(23, 25);
+        let (main, alt) =
+            if worker.rng.percent(70) { (worker.rng.below(40), worker.rng.below(3)) } else { start(&mut worker.rng) };
+        let bytes = if worker.rng.percent(50) {
+            let dead = worker.rng.percent(25);
+            let mut writer = Writer::new(&mut worker.rng, main, alt).deepest(0);
+            writer.steps(2);
+            if dead {
+                writer.return_op();
+            }
+            writer.nest(levels);
+            writer.steps(2);
+            writer.finish()
+        } else {
+            loose_nest(&mut worker.rng, levels)
+        };
+        let mut damaged = bytes.clone();
+        mutate(&mut worker.rng, &mut damaged);
+        fragment(worker, main as u32, alt as u32, &bytes, 10)?;
+        fragment(worker, main as u32, alt as u32, &damaged, 10)?;
+    }
+    Ok(())
+}
+
+/// So many conditionals opened, some closed again on the way, some in their second arm, then perhaps closed.
+fn loose_nest(rng: &mut Rng, levels: usize) -> Vec<u8> {
+    let mut bytes = Vec::new();
+    let mut open = 0;
+    if rng.percent(20) {
+        bytes.push(0x6a);
+    }
+    while open < levels {
+        match rng.below(20) {
+            0 if open > 0 => {
+                bytes.push(0x68);
+                open -= 1;
+            }
+            1..=5 if open > 0 => bytes.extend([0x67, 0x51, 0x63]),
+            6 if open > 0 => bytes.push(0x6a),
+            6 => bytes.push(0x76),
+            _ => bytes.extend([0x51, rng.pick(&[0x63, 0x64])]),
+        }
+        if matches!(bytes.last(), Some(0x63 | 0x64)) {
+            open += 1;
+        }
+    }
+    let close = if rng.percent(80) { open } else { rng.below(open + 2) };
+    bytes.extend(vec![0x68; close]);
+    bytes
+}
+
+fn directed_nesting<M: Marker>(worker: &mut Worker<M>) -> Done {
+    for levels in 23..=25 {
+        // What opens, what stands within, what closes.
+        let opening: [&[u8]; 7] =
+            [&[0x51, 0x63], &[0x51, 0x64], &[0x63], &[0x64], &[0x51, 0x63, 0x67], &[0x51, 0x63, 0x6a, 0x67], &[0x76, 0x63]];
+        let closing: [&[u8]; 5] = [&[], &[0x68], &[0x67, 0x68], &[0x6a, 0x68], &[0x67, 0x6a, 0x68]];
+        for open in opening {
+            for close in closing {
+                for within in [&[] as &[u8], &[0x6a], &[0x51, 0x75], &[0x6b, 0x6c], &[0x67], &[0xff]] {
+                    for before in [&[] as &[u8], &[0x6a], &[0x6a, 0xff], &[0x51, 0x63, 0x68]] {
+                        let bytes = [before, &open.repeat(levels), within, &close.repeat(levels)].concat();
+                        for (main, alt) in
+                            [(0, 0), (1, 0), (2, 0), (22, 1), (23, 0), (24, 0), (25, 0), (26, 3), (244, 0), (243, 0)]
+                        {
+                            fragment(worker, main, alt, &bytes, 20)?;
+                        }
+                    }
+                }
+            }
+        }
+    }
+    Ok(())
+}
+
+/// At the edges first: 200 to 203 of each counted code, alone and filled up to the size limit. Then generated ones, half of
+/// them damaged copies of the other half.
+fn limits<M: Marker>(worker: &mut Worker<M>, chunk: u64, cases: usize) -> Done {
+    if chunk == 0 {
+        for code in 0x60..=0xff {
+            for count in 200..=203 {
+                for size in [0, 9_999, 10_000, 10_001] {
+                    let mut bytes = vec![code; count];
+                    bytes.resize(size.max(count), 0x50);
+                    worker.limits(&bytes)?;
+                    bytes.push(0x4c);
+                    worker.limits(&bytes)?;
+                }
+            }
+        }
+        return Ok(());
+    }
+    for _ in 0..cases / 2 {
+        let case = case(&mut worker.rng, Kind::Limits);
+        worker.limits(case.bytes())?;
+        let mut damaged = case.bytes().to_vec();
+        mutate(&mut worker.rng, &mut damaged);
+        worker.limits(&damaged)?;
+    }
+    Ok(())
+}
+
+/// Half of them damaged copies of the other half.
+fn papers<M: Marker>(worker: &mut Worker<M>, cases: usize) -> Done {
+    for _ in 0..cases / 2 {
+        let case = case(&mut worker.rng, Kind::Paper);
+        let mut damaged = case.bytes().to_vec();
+        mutate(&mut worker.rng, &mut damaged);
+        for bytes in [case.bytes(), &damaged] {
+            let lent = if worker.rng.percent(8) { worker.rng.below(bytes.len() + 1) } else { enough(bytes) };
+            worker.paper(bytes, lent)?;
+        }
+    }
+    Ok(())
+}
+
+/// Every offset of every fragment of up to two bytes first, then generated ones.
+fn displays<M: Marker>(worker: &mut Worker<M>, chunk: u64, cases: usize) -> Done {
+    if chunk == 0 {
+        for first in 0..=255 {
+            for second in 0..=255 {
+                for offset in 0..=3 {
+                    worker.display(&[first, second], &[first], offset, 0)?;
+                    worker.display(&[second], &[first, second], offset, 1)?;
+                }
+                worker.display(&[first], &[second], 0, 2)?;
+            }
+        }
+        return Ok(());
+    }
+    let marks = [0, 0, 0, 1, 1, 1, 2, 3, 256, 65_536, u32::MAX];
+    let mut left = cases;
+    while left > 0 {
+        let mut parts = [Vec::new(), Vec::new()];
+        for part in &mut parts {
+            *part = body(&mut worker.rng, 4, 1);
+            if worker.rng.percent(30) {
+                mutate(&mut worker.rng, part);
+            }
+        }
+        for _ in 0..left.min(25) {
+            let mark = worker.rng.pick(&marks);
+            let length = parts.get(mark as usize).map_or(0, Vec::len);
+            let offset = match worker.rng.below(20) {
+                0 => length,
+                1 => length + 1,
+                2 => worker.rng.pick(&[usize::MAX, usize::MAX - 4, 1 << 32, 10_000]),
+                _ => worker.rng.below(length + 2),
+            };
+            worker.display(&parts[0], &parts[1], offset, mark)?;
+        }
+        left -= left.min(25);
+    }
+    Ok(())
+}

@@ -1,0 +1,502 @@
+//! Document 01 once more, written from its text alone: sections 1 to 4, 6 and 7.
+//! Section 5 is in `replay.rs`.
+
+use reference::{Answer, PaperAnswer};
+
+// Section 1.
+
+#[derive(Clone, Debug, PartialEq, Eq)]
+pub enum Item {
+    Unknown,
+    Exact(Vec<u8>),
+}
+
+/// An instruction with what it pushes, whole; no bytes if it pushes no literal.
+pub struct Instruction<'a> {
+    pub opcode: u8,
+    pub offset: usize,
+    pub data: &'a [u8],
+}
+
+impl Instruction<'_> {
+    /// Data of 0 to 8 bytes is exact, 9 or more unknown.
+    fn literal(&self) -> Item {
+        if self.data.len() <= 8 { Item::Exact(self.data.to_vec()) } else { Item::Unknown }
+    }
+}
+
+/// What 51 to 60 push.
+static SMALL: [u8; 16] = [1, 2, 3, 4, 5, 6, 7, 8, 9, 10, 11, 12, 13, 14, 15, 16];
+
+/// The opcode's length with its data, and where the data begins; nothing if bytes are missing.
+fn extent(bytes: &[u8], offset: usize) -> Option<(usize, usize)> {
+    let opcode = bytes[offset];
+    let (skip, length) = match opcode {
+        0x01..=0x4b => (1, opcode as usize),
+        0x4c => (2, *bytes.get(offset + 1)? as usize),
+        0x4d => {
+            let low = bytes.get(offset + 1..offset + 3)?;
+            (3, low[0] as usize + 256 * low[1] as usize)
+        }
+        0x4e => {
+            let low = bytes.get(offset + 1..offset + 5)?;
+            (5, u32::from_le_bytes([low[0], low[1], low[2], low[3]]) as usize)
+        }
+        _ => (1, 0),
+    };
+    if offset + skip + length <= bytes.len() { Some((skip + length, skip)) } else { None }
+}
+
+/// The instructions, or the offset of the malformed one.
+pub fn decode(bytes: &[u8]) -> Result<Vec<Instruction<'_>>, usize> {
+    let mut list = Vec::new();
+    let mut offset = 0;
+    while offset < bytes.len() {
+        let opcode = bytes[offset];
+        let (size, skip) = extent(bytes, offset).ok_or(offset)?;
+        let data = match opcode {
+            0x4f => &[0x81],
+            0x51..=0x60 => &SMALL[opcode as usize - 0x51..][..1],
+            _ => &bytes[offset + skip..offset + size],
+        };
+        list.push(Instruction { opcode, offset, data });
+        offset += size;
+    }
+    Ok(list)
+}
+
+/// The number form of a number that is not negative.
+pub fn written(mut number: u64) -> Vec<u8> {
+    let mut bytes = Vec::new();
+    while number != 0 {
+        bytes.push((number % 256) as u8);
+        number /= 256;
+    }
+    if bytes.last().is_some_and(|last| *last >= 0x80) {
+        bytes.push(0);
+    }
+    bytes
+}
+
+/// The number that these bytes are the form of, unless it is negative.
+pub fn index(bytes: &[u8]) -> Option<u64> {
+    let Some(last) = bytes.last() else {
+        return Some(0);
+    };
+    if bytes.len() > 8 || *last >= 0x80 || (*last == 0 && (bytes.len() < 2 || bytes[bytes.len() - 2] < 0x80)) {
+        return None;
+    }
+    let mut number = 0u64;
+    for (place, byte) in bytes.iter().enumerate() {
+        number += u64::from(*byte) << (8 * place);
+    }
+    Some(number)
+}
+
+// Sections 2 and 3.
+
+/// Number and figures; the walk adds the offset.
+type Refusal = (u32, u64, u64);
+
+/// Tops last.
+#[derive(Clone, Debug, PartialEq, Eq)]
+pub struct Stacks {
+    pub main: Vec<Item>,
+    pub alt: Vec<Item>,
+}
+
+impl Stacks {
+    fn unknown(main: usize, alt: usize) -> Self {
+        Self { main: vec![Item::Unknown; main], alt: vec![Item::Unknown; alt] }
+    }
+
+    fn total(&self) -> usize {
+        self.main.len() + self.alt.len()
+    }
+
+    fn need(&self, count: u64) -> Result<(), Refusal> {
+        let had = self.main.len() as u64;
+        if had < count { Err((7, count, had)) } else { Ok(()) }
+    }
+
+    fn want_room(&self, count: usize) -> Result<(), Refusal> {
+        let wanted = self.total() + count;
+        if wanted > 244 { Err((6, wanted as u64, 244)) } else { Ok(()) }
+    }
+
+    fn push(mut self, item: Item) -> Result<Self, Refusal> {
+        self.want_room(1)?;
+        self.main.push(item);
+        Ok(self)
+    }
+
+    fn pop(mut self) -> Result<(Item, Self), Refusal> {
+        self.need(1)?;
+        let item = self.main.pop().unwrap();
+        Ok((item, self))
+    }
+
+    fn pop_index(self) -> Result<(u64, Self), Refusal> {
+        let (item, rest) = self.pop()?;
+        match item {
+            Item::Exact(bytes) => Ok((index(&bytes).ok_or((9, 0, 0))?, rest)),
+            Item::Unknown => Err((9, 0, 0)),
+        }
+    }
+
+    fn drop_count(mut self, count: u64) -> Result<Self, Refusal> {
+        self.need(count)?;
+        self.main.truncate(self.main.len() - count as usize);
+        Ok(self)
+    }
+
+    fn plain(self, pops: u64, pushes: usize) -> Result<Self, Refusal> {
+        let mut rest = self.drop_count(pops)?;
+        rest.want_room(pushes)?;
+        for _ in 0..pushes {
+            rest.main.push(Item::Unknown);
+        }
+        Ok(rest)
+    }
+
+    fn copy(mut self, depth: usize, count: usize) -> Result<Self, Refusal> {
+        self.need(depth as u64)?;
+        self.want_room(count)?;
+        let lowest = self.main.len() - depth;
+        for place in lowest..lowest + count {
+            self.main.push(self.main[place].clone());
+        }
+        Ok(self)
+    }
+
+    fn rotate(mut self, count: usize, shift: usize) -> Result<Self, Refusal> {
+        self.need(count as u64)?;
+        let lowest = self.main.len() - count;
+        for _ in 0..shift {
+            let item = self.main.remove(lowest);
+            self.main.push(item);
+        }
+        Ok(self)
+    }
+}
+
+fn step(stacks: Stacks, instruction: &Instruction) -> Result<Stacks, Refusal> {
+    match instruction.opcode {
+        0x00..=0x4f | 0x51..=0x60 => stacks.push(instruction.literal()),
+        0x61 => Ok(stacks),
+        0x6b => {
+            let (item, mut rest) = stacks.pop()?;
+            rest.alt.push(item);
+            Ok(rest)
+        }
+        0x6c => {
+            let mut stacks = stacks;
+            let item = stacks.alt.pop().ok_or((8, 0, 0))?;
+            stacks.main.push(item);
+            Ok(stacks)
+        }
+        0x74 => {
+            let height = stacks.main.len() as u64;
+            stacks.push(Item::Exact(written(height)))
+        }
+        0x82 => {
+            stacks.need(1)?;
+            let length = match stacks.main.last().unwrap() {
+                Item::Exact(bytes) => Item::Exact(written(bytes.len() as u64)),
+                Item::Unknown => Item::Unknown,
+            };
+            stacks.push(length)
+        }
+        0x77 => {
+            stacks.need(2)?;
+            let mut stacks = stacks;
+            stacks.main.swap_remove(stacks.main.len() - 2);
+            Ok(stacks)
+        }
+        0x7d => {
+            stacks.need(1)?;
+            stacks.need(2)?;
+            stacks.want_room(1)?;
+            let mut stacks = stacks;
+            let top = stacks.main.pop().unwrap();
+            let second = stacks.main.pop().unwrap();
+            stacks.main.extend([top.clone(), second, top]);
+            Ok(stacks)
+        }
+        opcode @ (0x79 | 0x7a) => {
+            let (index, mut rest) = stacks.pop_index()?;
+            rest.need(index + 1)?;
+            let place = rest.main.len() - 1 - index as usize;
+            let item = rest.main[place].clone();
+            if opcode == 0x7a {
+                rest.main.remove(place);
+            }
+            rest.push(item)
+        }
+        0xa6 => {
+            let (tag, rest) = stacks.pop()?;
+            let rest = match tag {
+                Item::Exact(bytes) if bytes == [0x20] => {
+                    let (_, rest) = rest.pop()?;
+                    let (_, rest) = rest.pop()?;
+                    let (count, rest) = rest.pop_index()?;
+                    rest.drop_count(count)?
+                }
+                Item::Exact(bytes) if bytes == [0x21] => rest.drop_count(8)?,
+                _ => return Err((10, 0, 0)),
+            };
+            rest.push(Item::Exact(vec![1]))
+        }
+        0x76 => stacks.copy(1, 1),
+        0x6e => stacks.copy(2, 2),
+        0x6f => stacks.copy(3, 3),
+        0x78 => stacks.copy(2, 1),
+        0x70 => stacks.copy(4, 2),
+        0x7b => stacks.rotate(3, 1),
+        0x71 => stacks.rotate(6, 2),
+        0x7c => stacks.rotate(2, 1),
+        0x72 => stacks.rotate(4, 2),
+        0x69 | 0x75 | 0xb0 | 0xb1 => stacks.plain(1, 0),
+        0x6d | 0x88 | 0x9d | 0xad => stacks.plain(2, 0),
+        0xb2..=0xb9 => stacks.plain(0, 1),
+        0x83 | 0x8b | 0x8c | 0x8f..=0x92 | 0xa8 | 0xaa | 0xba..=0xce => stacks.plain(1, 1),
+        0x7f | 0xa5 | 0xd5..=0xd9 => stacks.plain(3, 1),
+        0x7e | 0x84..=0x87 | 0x93..=0x97 | 0x9a..=0x9c | 0x9e..=0xa4 | 0xa7 | 0xab | 0xac | 0xcf..=0xd4 => stacks.plain(2, 1),
+        opcode => Err((11, u64::from(opcode), 0)),
+    }
+}
+
+// Section 4: arm and conditional call each other.
+
+/// What the verdict carries.
+#[derive(Clone, Debug, PartialEq, Eq)]
+pub struct Verdict {
+    pub answer: Answer,
+    pub rows: usize,
+    pub peak: usize,
+    pub end: Option<Stacks>,
+}
+
+impl Verdict {
+    /// Refusals carry peak 0 and end none.
+    fn refused(answer: Answer, rows: usize) -> Self {
+        Self { answer, rows, peak: 0, end: None }
+    }
+}
+
+struct Walk<'a> {
+    instructions: &'a [Instruction<'a>],
+    next: usize,
+    peak: usize,
+    log: &'a mut [u16],
+}
+
+/// How an arm stops, with the offset of the instruction that stops it.
+enum Stop {
+    Else(usize),
+    EndIf(usize),
+    End,
+}
+
+fn refuse(number: u32, offset: usize) -> Answer {
+    Answer { number, offset: offset as u64, a: 0, b: 0 }
+}
+
+fn at(offset: usize) -> impl Fn(Refusal) -> Answer {
+    move |(number, a, b)| Answer { number, offset: offset as u64, a, b }
+}
+
+/// Heights, or 65,535 twice if dead.
+fn heights(state: &Option<Stacks>) -> [u16; 2] {
+    match state {
+        Some(stacks) => [stacks.main.len() as u16, stacks.alt.len() as u16],
+        None => [65_535, 65_535],
+    }
+}
+
+impl<'a> Walk<'a> {
+    /// The next instruction, once its row is written. The state is that just before it, so after the one before.
+    fn meet(&mut self, state: &Option<Stacks>) -> Option<&'a Instruction<'a>> {
+        if let Some(stacks) = state {
+            self.peak = self.peak.max(stacks.total());
+        }
+        let instruction = self.instructions.get(self.next)?;
+        let [main, alt] = heights(state);
+        self.log[3 * self.next..][..3].copy_from_slice(&[instruction.offset as u16, main, alt]);
+        self.next += 1;
+        Some(instruction)
+    }
+
+    fn arm(&mut self, mut state: Option<Stacks>, open: usize) -> Result<(Option<Stacks>, Stop), Answer> {
+        while let Some(instruction) = self.meet(&state) {
+            let offset = instruction.offset;
+            match instruction.opcode {
+                0x63 | 0x64 => state = self.conditional(state, open, offset)?,
+                0x67 => return Ok((state, Stop::Else(offset))),
+                0x68 => return Ok((state, Stop::EndIf(offset))),
+                0x6a => state = None,
+                _ => {
+                    if let Some(stacks) = state {
+                        state = Some(step(stacks, instruction).map_err(at(offset))?);
+                    }
+                }
+            }
+        }
+        Ok((state, Stop::End))
+    }
+
+    fn conditional(&mut self, state: Option<Stacks>, open: usize, offset: usize) -> Result<Option<Stacks>, Answer> {
+        if open == 24 {
+            return Err(Answer { number: 5, offset: offset as u64, a: 24, b: 24 });
+        }
+        let start = match state {
+            Some(stacks) => Some(stacks.pop().map_err(at(offset))?.1),
+            None => None,
+        };
+        let last = self.instructions.last().unwrap().offset;
+        let (first, stop) = self.arm(start.clone(), open + 1)?;
+        let (one, other, end) = match stop {
+            Stop::End => return Err(refuse(16, last)),
+            Stop::EndIf(end) => (first, start, end),
+            Stop::Else(_) => {
+                let (second, stop) = self.arm(start, open + 1)?;
+                match stop {
+                    Stop::End => return Err(refuse(16, last)),
+                    Stop::Else(offset) => return Err(refuse(14, offset)),
+                    Stop::EndIf(end) => (first, second, end),
+                }
+            }
+        };
+        let (Some(one), Some(other)) = (&one, &other) else {
+            return Ok(one.or(other));
+        };
+        if one.main.len() != other.main.len() || one.alt.len() != other.alt.len() {
+            return Err(refuse(12, end));
+        }
+        let join = |a: &[Item], b: &[Item]| -> Vec<Item> {
+            a.iter().zip(b).map(|(a, b)| if a == b { a.clone() } else { Item::Unknown }).collect()
+        };
+        Ok(Some(Stacks { main: join(&one.main, &other.main), alt: join(&one.alt, &other.alt) }))
+    }
+}
+
+/// The analysis of a fragment from so many unknown items, with a lent log.
+pub fn analysis(bytes: &[u8], main: u32, alt: u32, log: &mut [u16]) -> Verdict {
+    if bytes.len() > 10_000 {
+        return Verdict::refused(Answer { number: 1, offset: 0, a: bytes.len() as u64, b: 10_000 }, 0);
+    }
+    let sum = u64::from(main) + u64::from(alt);
+    if sum > 244 {
+        return Verdict::refused(Answer { number: 2, offset: 0, a: sum, b: 244 }, 0);
+    }
+    let instructions = match decode(bytes) {
+        Ok(instructions) => instructions,
+        Err(offset) => return Verdict::refused(refuse(3, offset), 0),
+    };
+    let needed = 3 * instructions.len();
+    if log.len() < needed {
+        return Verdict::refused(Answer { number: 4, offset: 0, a: needed as u64, b: log.len() as u64 }, 0);
+    }
+    let start = Stacks::unknown(main as usize, alt as usize);
+    let mut walk = Walk { instructions: &instructions, next: 0, peak: 0, log };
+    let answer = match walk.arm(Some(start), 0) {
+        Ok((end, Stop::End)) => return Verdict { answer: Answer::ACCEPTED, rows: walk.next, peak: walk.peak, end },
+        Ok((_, Stop::Else(offset))) => refuse(13, offset),
+        Ok((_, Stop::EndIf(offset))) => refuse(15, offset),
+        Err(answer) => answer,
+    };
+    Verdict::refused(answer, walk.next)
+}
+
+// Section 6.
+
+pub fn limit_check(bytes: &[u8]) -> Answer {
+    let instructions = match decode(bytes) {
+        Ok(instructions) => instructions,
+        Err(offset) => return refuse(3, offset),
+    };
+    let count = instructions.iter().filter(|instruction| instruction.opcode > 0x60).count();
+    if count > 201 {
+        return Answer { number: 17, offset: 0, a: count as u64, b: 201 };
+    }
+    if bytes.len() > 10_000 {
+        return Answer { number: 18, offset: 0, a: bytes.len() as u64, b: 10_000 };
+    }
+    Answer::ACCEPTED
+}
+
+/// What a paper's verdict carries; its end is always none.
+#[derive(Clone, Copy, Debug, PartialEq, Eq)]
+pub struct PaperVerdict {
+    pub answer: PaperAnswer,
+    pub rows: usize,
+    pub peak: usize,
+}
+
+/// Marks a paper, with a lent log.
+pub fn mark(bytes: &[u8], log: &mut [u16]) -> PaperVerdict {
+    let refuse = |number, entry, a, b| PaperVerdict { answer: PaperAnswer { number, entry, offset: 0, a, b }, rows: 0, peak: 0 };
+    if bytes.len() > 8_000 {
+        return refuse(21, 0, bytes.len() as u64, 8_000);
+    }
+    let fields: Vec<usize> = bytes.chunks_exact(2).map(|pair| pair[0] as usize + 256 * pair[1] as usize).collect();
+    if fields.len() < 4 || fields[0] < 1 || fields[0] > 32 || fields.len() < 4 + 3 * fields[0] {
+        return refuse(19, 0, 0, 0);
+    }
+    let (entries, state) = (fields[0], fields[1]);
+    // Who owns each byte: the header does its own.
+    let header = 2 * (4 + 3 * entries);
+    let mut owned: Vec<bool> = (0..bytes.len()).map(|place| place < header).collect();
+    let parts: Vec<(usize, usize)> =
+        (0..entries).map(|k| (fields[5 + 3 * k], fields[6 + 3 * k])).chain([(fields[2], fields[3])]).collect();
+    for (offset, length) in &parts {
+        if *offset < header || offset + length > bytes.len() {
+            return refuse(19, 0, 0, 0);
+        }
+        for owned in &mut owned[*offset..offset + length] {
+            if *owned {
+                return refuse(19, 0, 0, 0);
+            }
+            *owned = true;
+        }
+    }
+    let params: Vec<usize> = (0..entries).map(|k| fields[4 + 3 * k]).collect();
+    for (k, params) in params.iter().enumerate() {
+        let sum = params + state + 3;
+        if sum > 244 {
+            return refuse(20, k as u64, sum as u64, 244);
+        }
+    }
+    let most = *params.iter().max().unwrap();
+    let (mut rows, mut peak) = (0, 0);
+    for (k, (offset, length)) in parts.iter().enumerate() {
+        let (main, alt) = if k < entries { (params[k] + state, 0) } else { (most, 1) };
+        if k == entries && *length == 0 {
+            continue;
+        }
+        let verdict = analysis(&bytes[*offset..offset + length], main as u32, alt, &mut log[3 * rows..]);
+        let Answer { number, offset, a, b } = verdict.answer;
+        rows += verdict.rows;
+        peak = peak.max(verdict.peak);
+        if number != 0 {
+            return PaperVerdict { answer: PaperAnswer { number, entry: k as u64, offset, a, b }, rows, peak: 0 };
+        }
+    }
+    PaperVerdict { answer: PaperAnswer::ACCEPTED, rows, peak }
+}
+
+/// The part of the body (mark 0) or of the initialiser (mark 1) that stands at an offset.
+pub fn display<'a>(body: &'a [u8], initialiser: &'a [u8], offset: usize, mark: u32) -> &'a [u8] {
+    let fragment = match mark {
+        0 => body,
+        1 => initialiser,
+        _ => &[],
+    };
+    if offset >= fragment.len() {
+        return &[];
+    }
+    match extent(fragment, offset) {
+        Some((size, _)) => &fragment[offset..offset + size],
+        None => &fragment[offset..],
+    }
+}

@@ -1,0 +1,179 @@
+//! The plain reading of document 01 where the Rust has no answer: log, rows, peak, end, the additions, the display; and
+//! replays by example.
+
+use reference::{Answer, PaperAnswer};
+use tools::definition::{Stacks, Verdict, analysis, decode, display, mark};
+use tools::replay::{Ending, Trace, replay};
+
+const LENT: u16 = 777;
+
+/// The verdict, and the log out of one with ten numbers more than needed.
+fn marked(bytes: &[u8], main: u32, alt: u32) -> (Verdict, Vec<u16>) {
+    let needed = decode(bytes).map_or(0, |instructions| 3 * instructions.len());
+    let mut log = vec![LENT; needed + 10];
+    let verdict = analysis(bytes, main, alt, &mut log);
+    assert!(log[3 * verdict.rows..].iter().all(|number| *number == LENT), "{bytes:02x?}");
+    log.truncate(3 * verdict.rows);
+    (verdict, log)
+}
+
+fn heights(end: &Option<Stacks>) -> Option<(usize, usize)> {
+    end.as_ref().map(|end| (end.main.len(), end.alt.len()))
+}
+
+/// Section 8, with peak and end where it names them.
+#[test]
+fn section_8() {
+    let accepted: [(&[u8], u32, u32, usize, Option<(usize, usize)>); 6] = [
+        (b"", 0, 0, 0, Some((0, 0))),
+        (b"\x00\x79", 1, 0, 2, Some((2, 0))),
+        (b"\x6b", 244, 0, 244, Some((243, 1))),
+        (b"\x63\x6a\x68\x75", 2, 0, 2, Some((0, 0))),
+        (b"\x6a\xff", 0, 0, 0, None),
+        (b"\x51\x63\x51\x67\x51\x68\x79", 2, 0, 3, Some((3, 0))),
+    ];
+    for (bytes, main, alt, peak, end) in accepted {
+        let (verdict, log) = marked(bytes, main, alt);
+        assert_eq!((verdict.answer, verdict.peak, heights(&verdict.end)), (Answer::ACCEPTED, peak, end), "{bytes:02x?}");
+        assert_eq!(log.len(), 3 * decode(bytes).unwrap_or_default().len());
+    }
+    let refused: [(&[u8], u32, u32, [u64; 4], usize); 8] = [
+        (b"\x75", 0, 0, [7, 0, 1, 0], 1),
+        (b"\x51\x79", 1, 0, [7, 1, 2, 1], 2),
+        (b"\x02\x00\x01\x79", 1, 0, [7, 3, 257, 1], 2),
+        (b"\x76", 244, 0, [6, 0, 245, 244], 1),
+        (b"\x7d", 1, 243, [7, 0, 2, 1], 1),
+        (b"\x63\x51\x68", 1, 0, [12, 2, 0, 0], 3),
+        (b"\x51\x63", 0, 0, [16, 1, 0, 0], 2),
+        (b"\x51\x63\x51\x67\x52\x68\x79", 2, 0, [9, 6, 0, 0], 7),
+    ];
+    for (bytes, main, alt, [number, offset, a, b], rows) in refused {
+        let (verdict, _) = marked(bytes, main, alt);
+        assert_eq!(verdict.answer, Answer { number: number as u32, offset, a, b }, "{bytes:02x?}");
+        assert_eq!((verdict.rows, verdict.peak, verdict.end), (rows, 0, None), "{bytes:02x?}");
+    }
+    let open = |times: usize| marked(&[vec![0x6a], vec![0x63; times]].concat(), 0, 0).0;
+    assert_eq!(open(25).answer, Answer { number: 5, offset: 25, a: 24, b: 24 });
+    assert_eq!(open(24).answer, Answer { number: 16, offset: 24, a: 0, b: 0 });
+    assert_eq!((open(25).rows, open(24).rows), (26, 25));
+}
+
+/// Offset, main and alt just before, 65,535 twice if dead.
+#[test]
+fn rows() {
+    // Both arms live, then the second dead, then the first.
+    assert_eq!(marked(b"\x63\x51\x67\x52\x68\x6b", 1, 0).1, [0, 1, 0, 1, 0, 0, 2, 1, 0, 3, 0, 0, 4, 1, 0, 5, 1, 0]);
+    let (dead, live) = ([65_535, 65_535], [1, 0]);
+    let row = |offset: u16, heights: [u16; 2]| [offset, heights[0], heights[1]];
+    let log = [row(0, [2, 0]), row(1, live), row(2, live), row(3, dead), row(4, live)].concat();
+    assert_eq!(marked(b"\x63\x67\x6a\x68\x75", 2, 0).1, log);
+    let log = [row(0, [2, 0]), row(1, live), row(2, dead), row(3, live), row(4, live)].concat();
+    assert_eq!(marked(b"\x63\x6a\x67\x68\x75", 2, 0).1, log);
+    // Offsets past data bytes.
+    assert_eq!(marked(b"\x02\x07\x07\x4c\x01\x07\x75", 0, 3).1, [0, 0, 3, 3, 1, 3, 6, 2, 3]);
+}
+
+#[test]
+fn additions() {
+    let long = analysis(&[0x61; 10_001], 300, 0, &mut []);
+    assert_eq!(long.answer, Answer { number: 1, offset: 0, a: 10_001, b: 10_000 });
+    // 2, then 3, then 4.
+    let short = |bytes: &[u8], main| analysis(bytes, main, 0, &mut [LENT; 5]).answer;
+    assert_eq!(short(&[0x4c], 245), Answer { number: 2, offset: 0, a: 245, b: 244 });
+    assert_eq!(short(&[0x61, 0x61, 0x4c], 0), Answer { number: 3, offset: 2, a: 0, b: 0 });
+    assert_eq!(short(&[0x75, 0x61], 0), Answer { number: 4, offset: 0, a: 6, b: 5 });
+    assert_eq!(short(&[0x61], 0), Answer::ACCEPTED);
+}
+
+/// The paper of section 6, and its log when that is too short for the second of two entries.
+#[test]
+fn papers() {
+    let paper = b"\x01\x00\x01\x00\x0e\x00\x00\x00\x01\x00\x0e\x00\x06\x00\x63\x51\x67\x52\x68\x75";
+    let verdict = mark(paper, &mut [LENT; 18]);
+    assert_eq!((verdict.answer, verdict.rows, verdict.peak), (PaperAnswer::ACCEPTED, 6, 2));
+    let two = b"\x02\x00\x00\x00\x14\x00\x00\x00\x02\x00\x14\x00\x01\x00\x01\x00\x15\x00\x02\x00\x75\x51\x51";
+    let mut log = [LENT; 8];
+    let verdict = mark(two, &mut log);
+    assert_eq!(verdict.answer, PaperAnswer { number: 4, entry: 1, offset: 0, a: 6, b: 5 });
+    assert_eq!((verdict.rows, verdict.peak, log), (1, 0, [0, 2, 0, LENT, LENT, LENT, LENT, LENT]));
+    let verdict = mark(two, &mut [LENT; 9]);
+    assert_eq!((verdict.answer, verdict.rows, verdict.peak), (PaperAnswer::ACCEPTED, 3, 3));
+}
+
+#[test]
+fn parts_displayed() {
+    let (body, initialiser) = (b"\x51\x02\x4c\x07\x75", b"\x4c\x05\x01");
+    assert_eq!(display(body, initialiser, 0, 0), [0x51]);
+    assert_eq!(display(body, initialiser, 1, 0), [0x02, 0x4c, 0x07]);
+    // Inside a push, where the rest is malformed.
+    assert_eq!(display(body, initialiser, 2, 0), [0x4c, 0x07, 0x75]);
+    assert_eq!(display(body, initialiser, 0, 1), initialiser);
+    assert_eq!(display(body, initialiser, 1, 1), [0x05, 0x01]);
+    for (offset, mark) in [(5, 0), (6, 0), (usize::MAX, 0), (3, 1), (0, 2), (0, u32::MAX)] {
+        assert_eq!(display(body, initialiser, offset, mark), []);
+    }
+}
+
+/// A replay with these choices; each unknown result is AA.
+fn trace(bytes: &[u8], main: &[&[u8]], choices: &[bool]) -> Trace {
+    let mut choices = choices.iter();
+    let main = main.iter().map(|item| item.to_vec()).collect();
+    let mut choose = || *choices.next().expect("a choice");
+    replay(&decode(bytes).unwrap_or_default(), main, vec![vec![9; 300]], &mut choose, &mut || vec![0xaa])
+}
+
+fn ran_off(main: &[&[u8]], alt: &[&[u8]]) -> Ending {
+    let items = |items: &[&[u8]]| items.iter().map(|item| item.to_vec()).collect();
+    Ending::RanOff { main: items(main), alt: items(alt) }
+}
+
+#[test]
+fn replays_with_real_bytes() {
+    let long: &[u8] = &[9; 300];
+    assert_eq!(trace(b"", &[], &[]).ending, ran_off(&[], &[long]));
+    // SIZE pushes the real length, a literal is pushed whole, a result is the next byte string.
+    assert_eq!(trace(b"\x6c\x82", &[], &[]).ending, ran_off(&[long, &[0x2c, 0x01]], &[]));
+    assert_eq!(trace(b"\x09123456789\x93", &[b"x", b"y"], &[]).ending, ran_off(&[b"x", &[0xaa]], &[long]));
+    // 7d puts a copy of the top under the top two; 7b, 79, 7a, 74, a6.
+    assert_eq!(trace(b"\x7d", &[b"a", b"b", b"c"], &[]).ending, ran_off(&[b"a", b"c", b"b", b"c"], &[long]));
+    assert_eq!(trace(b"\x7b", &[b"a", b"b", b"c"], &[]).ending, ran_off(&[b"b", b"c", b"a"], &[long]));
+    assert_eq!(trace(b"\x79", &[b"a", b"b", b"\x01"], &[]).ending, ran_off(&[b"a", b"b", b"a"], &[long]));
+    assert_eq!(trace(b"\x7a", &[b"a", b"b", b"\x01"], &[]).ending, ran_off(&[b"b", b"a"], &[long]));
+    assert_eq!(trace(b"\x70\x74", &[b"a", b"b", b"c", b"d"], &[]).ending, {
+        ran_off(&[b"a", b"b", b"c", b"d", b"a", b"b", &[6]], &[long])
+    });
+    assert_eq!(trace(b"\xa6", &[b"z", b"a", b"b", b"\x02", b"k", b"p", b"\x20"], &[]).ending, ran_off(&[b"z", &[1]], &[long]));
+    let trace_one = trace(b"\x51\x75\x6a\xff", &[], &[]);
+    assert_eq!(
+        trace_one,
+        Trace { reached: vec![(0, 0, 1), (1, 1, 1), (2, 0, 1)], peak: 2, choices: 0, ending: Ending::Returned }
+    );
+}
+
+#[test]
+fn replays_by_choices() {
+    let bytes = b"\x51\x63\x63\x51\x67\x52\x68\x67\x53\x68";
+    let start: &[&[u8]] = &[b"c"];
+    let places = |choices: &[bool]| trace(bytes, start, choices).reached.iter().map(|row| row.0).collect::<Vec<_>>();
+    assert_eq!(places(&[true, true]), [0, 1, 2, 3, 4, 7]);
+    assert_eq!(places(&[true, false]), [0, 1, 2, 5, 6, 7]);
+    assert_eq!(places(&[false]), [0, 1, 8, 9]);
+    // Without an ELSE: past ENDIF.
+    let places = |choice| trace(b"\x63\x61\x68\x61", start, &[choice]).reached.iter().map(|row| row.0).collect::<Vec<_>>();
+    assert_eq!((places(true), places(false)), (vec![0, 1, 2, 3], vec![0, 3]));
+}
+
+#[test]
+fn replays_that_fault() {
+    let faults = |bytes: &[u8], main: &[&[u8]]| matches!(trace(bytes, main, &[]).ending, Ending::Fault { place: 0, .. });
+    let full = vec![b"i".as_slice(); 243];
+    let missing: [&[u8]; 6] = [b"\x75", b"\x63", b"\x79", b"\x82", b"\x7d", b"\xa6"];
+    assert!(missing.iter().all(|bytes| faults(bytes, &[])));
+    assert!(faults(b"\x7d", &[b"a"]) && faults(b"\x6f", &[b"a", b"b"]) && faults(b"\x7f", &[b"a", b"b"]));
+    assert!([b"\x51", b"\x76", b"\x7d", b"\x74", b"\x82", b"\xb2"].iter().all(|bytes| faults(*bytes, &full)));
+    assert!(!faults(b"\x6b", &full) && !faults(b"\x93", &full));
+    let bad: [&[u8]; 6] = [&[0x81], &[0x00], &[0x80], &[1, 0], &[0; 9], &[2]];
+    assert!(bad.iter().all(|index| faults(b"\x79", &[b"a", b"b", index])));
+    assert!([b"".as_slice(), b"\x22", b"\x20\x00", b"\x21"].iter().all(|tag| faults(b"\xa6", &[b"a", tag])));
+    assert!(faults(b"\xff", &[]) && faults(b"\x50", &[]));
+}
