@@ -1,19 +1,8 @@
-//! Times the proved analysis and the Rust's on the same fragments in one run, both built for release. Ours is lent a log of
-//! 30,000 numbers, written anew in each run and not cleared before; the Rust keeps no log. Answers are compared first.
+//! Times the proved marker and the Rust's analysis on the same fragments and papers in one run, both built for release. Ours
+//! is lent a log of 30,000 numbers, written anew in each run and not cleared before; the Rust keeps no log. Answers are
+//! compared first. With a number as its argument it runs that one row once more and nothing else, for counts of instructions.
 use std::hint::black_box;
 use std::time::Instant;
-
-unsafe extern "C" {
-    fn listochur_analyze(fragment: *const u8, len: usize, main: u32, alt: u32, log: *mut u16, rows: usize, out: *mut u64, places: usize) -> u32;
-}
-
-/// The verdict's nine numbers: number, offset, two figures, rows, peak, whether there is an end, its main and alt heights.
-fn ours(fragment: &[u8], main: u32, alt: u32, log: &mut [u16]) -> [u64; 9] {
-    let mut out = [0u64; 9];
-    // The callee asks nothing: each slice is passed whole, with its own length.
-    unsafe { listochur_analyze(fragment.as_ptr(), fragment.len(), main, alt, log.as_mut_ptr(), log.len(), out.as_mut_ptr(), out.len()) };
-    out
-}
 
 struct Rng(u64);
 
@@ -95,7 +84,48 @@ fn corpus() -> Vec<Vec<u8>> {
         .collect()
 }
 
-fn time(times: u32, mut f: impl FnMut()) -> f64 {
+/// A paper of these bodies, each from 6 parameters and 6 state fields, with no initialiser.
+fn paper(bodies: &[&[u8]]) -> Vec<u8> {
+    let header = 8 + 6 * bodies.len();
+    let mut out = Vec::new();
+    let mut field = |n: usize| out.extend((n as u16).to_le_bytes());
+    field(bodies.len());
+    field(6);
+    field(header);
+    field(0);
+    let mut at = header;
+    for body in bodies {
+        field(6);
+        field(at);
+        field(body.len());
+        at += body.len();
+    }
+    for body in bodies {
+        out.extend_from_slice(body);
+    }
+    out
+}
+
+/// The fragments of the corpus as papers of up to 8,000 bytes and 8 entries.
+fn papers(fragments: &[Vec<u8>]) -> Vec<Vec<u8>> {
+    let mut out = Vec::new();
+    let mut bodies: Vec<&[u8]> = Vec::new();
+    let mut size = 8;
+    for f in fragments {
+        if bodies.len() == 8 || size + 6 + f.len() > 8_000 {
+            out.push(paper(&bodies));
+            bodies.clear();
+            size = 8;
+        }
+        bodies.push(f);
+        size += 6 + f.len();
+    }
+    out.push(paper(&bodies));
+    out
+}
+
+/// The best of five, seconds for one call.
+fn time(times: u32, f: &mut dyn FnMut()) -> f64 {
     let mut best = f64::MAX;
     for _ in 0..5 {
         let start = Instant::now();
@@ -107,30 +137,82 @@ fn time(times: u32, mut f: impl FnMut()) -> f64 {
     best
 }
 
-fn main() {
+/// A row of the table: both sides on the same inputs.
+struct Row {
+    name: String,
+    bytes: usize,
+    times: u32,
+    ours: Box<dyn FnMut()>,
+    theirs: Box<dyn FnMut()>,
+}
+
+fn fragments_row(name: &str, fragments: Vec<Vec<u8>>, main: u32, times: u32) -> Row {
     let mut log = vec![0u16; 30_000];
-    let fragments = corpus();
-    let bytes: usize = fragments.iter().map(Vec::len).sum();
-    let mut accepted = 0;
     for f in &fragments {
-        let v = ours(f, 12, 0, &mut log);
-        let r = reference::fragment(f, 12, 0);
-        assert_eq!((v[0], v[1], v[2], v[3]), (u64::from(r.number), r.offset as u64, r.a, r.b), "{f:02x?}");
-        accepted += u32::from(v[0] == 0);
+        let v = listochur::analyze(f, main, 0, &mut log);
+        let r = reference::fragment(f, main, 0);
+        assert_eq!((v.number, v.offset as u64, v.first, v.second), (r.number, r.offset, r.a, r.b), "{name}: {f:02x?}");
     }
-    println!("corpus: {} fragments, {bytes} bytes, {accepted} accepted", fragments.len());
-    let a = time(20, || {
-        for f in &fragments {
-            black_box(ours(black_box(f), 12, 0, &mut log));
-        }
-    });
-    let b = time(20, || {
-        for f in &fragments {
-            black_box(reference::fragment(black_box(f), 12, 0));
-        }
-    });
-    println!("{:<28} ours {:8.1} ns/byte   Rust {:8.1} ns/byte   ratio {:.2}", "corpus", a * 1e9 / bytes as f64, b * 1e9 / bytes as f64, a / b);
-    let streams: [(&str, Vec<u8>); 10] = [
+    let copy = fragments.clone();
+    Row {
+        name: name.to_string(),
+        bytes: fragments.iter().map(Vec::len).sum(),
+        times,
+        ours: Box::new(move || {
+            for f in &fragments {
+                black_box(listochur::analyze(black_box(f), main, 0, &mut log));
+            }
+        }),
+        theirs: Box::new(move || {
+            for f in &copy {
+                black_box(reference::fragment(black_box(f), main, 0));
+            }
+        }),
+    }
+}
+
+fn papers_row(name: &str, papers: Vec<Vec<u8>>, times: u32) -> Row {
+    let mut log = vec![0u16; 30_000];
+    for p in &papers {
+        let v = listochur::mark_paper(p, &mut log);
+        let r = reference::paper(p);
+        assert_eq!(
+            (v.number, v.entry as u64, v.offset as u64, v.first, v.second),
+            (r.number, r.entry, r.offset, r.a, r.b),
+            "{name}"
+        );
+    }
+    let copy = papers.clone();
+    Row {
+        name: name.to_string(),
+        bytes: papers.iter().map(Vec::len).sum(),
+        times,
+        ours: Box::new(move || {
+            for p in &papers {
+                black_box(listochur::mark_paper(black_box(p), &mut log));
+            }
+        }),
+        theirs: Box::new(move || {
+            for p in &copy {
+                black_box(reference::paper_by_parts(black_box(p)));
+            }
+        }),
+    }
+}
+
+/// Conditionals nested so deep, around pushes and drops, of about 9,000 bytes in all.
+fn nested(depth: usize) -> Vec<u8> {
+    let mut one = [0x51, 0x63].repeat(depth);
+    one.extend([0x51, 0x75].repeat(20));
+    one.extend([0x68].repeat(depth));
+    one.repeat(9_000 / one.len())
+}
+
+fn rows() -> Vec<Row> {
+    let corpus = corpus();
+    let mut rows =
+        vec![papers_row("papers of the corpus", papers(&corpus), 20), fragments_row("corpus, 200 fragments", corpus, 12, 20)];
+    let streams: [(&str, Vec<u8>); 9] = [
         ("push 1, drop", [0x51, 0x75].repeat(4500)),
         ("DUP, drop", [0x76, 0x75].repeat(4500)),
         ("ROT", [0x7b].repeat(9000)),
@@ -139,28 +221,62 @@ fn main() {
         ("3 PICK, drop", [0x53, 0x79, 0x75].repeat(3000)),
         ("3 ROLL", [0x53, 0x7a].repeat(4500)),
         ("IF ELSE ENDIF, flat", [0x51, 0x63, 0x51, 0x67, 0x52, 0x68, 0x75].repeat(1285)),
-        ("nesting 24, 200 exact items", {
-            let mut s = vec![0x51; 200];
-            for _ in 0..60 {
-                s.extend([0x51, 0x63].repeat(24));
-                s.extend([0x51, 0x75].repeat(20));
-                s.extend([0x68].repeat(24));
-            }
-            s
+        ("pushes of 20 bytes, drop", {
+            let mut p = vec![0x14];
+            p.extend([7u8; 20]);
+            p.push(0x75);
+            p.repeat(400)
         }),
-        ("pushes of 20 bytes, drop", { let mut p = vec![0x14]; p.extend([7u8; 20]); p.push(0x75); p.repeat(400) }),
     ];
-    for (name, s) in &streams {
-        let start = if name.starts_with("nesting") { 0 } else { 100 };
-        let v = ours(s, start, 0, &mut log);
-        let r = reference::fragment(s, start, 0);
-        assert_eq!((v[0], v[1], v[2], v[3]), (u64::from(r.number), r.offset as u64, r.a, r.b), "{name}");
-        let a = time(40, || {
-            black_box(ours(black_box(s), start, 0, &mut log));
-        });
-        let b = time(40, || {
-            black_box(reference::fragment(black_box(s), start, 0));
-        });
-        println!("{name:<28} ours {:8.1} ns/byte   Rust {:8.1} ns/byte   ratio {:.2}   (number {})", a * 1e9 / s.len() as f64, b * 1e9 / s.len() as f64, a / b, v[0]);
+    for (name, stream) in streams {
+        rows.push(fragments_row(name, vec![stream], 100, 40));
+    }
+    let mut exact = vec![0x51; 200];
+    exact.extend(nested(24));
+    rows.push(fragments_row("nesting 24, 200 exact items", vec![exact], 0, 40));
+    for depth in [1, 4, 12, 24] {
+        rows.push(fragments_row(&format!("nesting {depth}, 100 items"), vec![nested(depth)], 100, 40));
+    }
+    for size in [1_000, 2_500, 5_000, 10_000] {
+        let mut rng = Rng(7);
+        let mut f = Vec::new();
+        while f.len() < size {
+            let before = f.len();
+            statement(&mut rng, &mut f, 0);
+            if f.len() > size {
+                f.truncate(before);
+                f.extend(std::iter::repeat_n(0x61, size - before));
+            }
+        }
+        rows.push(fragments_row(&format!("statements, {size} bytes"), vec![f], 12, 40));
+    }
+    rows
+}
+
+fn main() {
+    let only: Option<usize> = std::env::args().nth(1).map(|k| k.parse().expect("the number of a row, from 0"));
+    let theirs = std::env::args().nth(2).is_some();
+    for (k, mut row) in rows().into_iter().enumerate() {
+        let per_byte = 1e9 / row.bytes as f64;
+        match only {
+            None => {
+                let a = time(row.times, &mut row.ours) * per_byte;
+                let b = time(row.times, &mut row.theirs) * per_byte;
+                println!(
+                    "{k:2} {:<30} {:>7} bytes   ours {a:7.1} ns/byte   Rust {b:7.1} ns/byte   ratio {:.2}",
+                    row.name,
+                    row.bytes,
+                    a / b
+                );
+            }
+            Some(only) if only == k => {
+                let side = if theirs { &mut row.theirs } else { &mut row.ours };
+                for _ in 0..10 {
+                    side();
+                }
+                println!("{} bytes, 10 times", row.bytes);
+            }
+            Some(_) => {}
+        }
     }
 }
