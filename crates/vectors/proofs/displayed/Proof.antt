@@ -1,4 +1,4 @@
-use Rattle.vectors.proofs.RangeLaws.{part-first}
+use Rattle.cases.proofs.RangeLaws.{part-first}
 use borrow.Author.Needs.{needs}
 use Rattle.vectors.proofs.displayed.Statement.{statement}
 use Rattle.vectors.proofs.displayed.Tie as tie

@@ -1,5 +1,5 @@
 use native.Mathlib.Omega.{arith}
-use Rattle.vectors.proofs.RangeLaws.{part-is, part-lent, part-front}
+use Rattle.cases.proofs.RangeLaws.{part-is, part-lent, part-front}
 use borrow.Author.Needs.{needs}
 use Rattle.vectors.proofs.displayed_from.Statement.{statement}
 use Rattle.vectors.proofs.displayed_from.Tie as tie
