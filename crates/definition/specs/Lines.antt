@@ -29,7 +29,7 @@ decimal n = decimalWithin n n
 -- "end main, end alt (`end none` if dead ..)"
 abbrev pub ending : Arm → Bytes
 ending dead = text "end none"
-ending (live s) = text "end " ++ (decimal (length (s .main)) ++ (text " " ++ decimal (length (s .alt))))
+ending (live s) = text "end " ++ decimal (length (s .main)) ++ text " " ++ decimal (length (s .alt))
 
 -- fragment k of a paper with this many entries: the entry, or "`state` for `entry 0` at the initialiser"
 abbrev pub name : ℕ → ℕ → Bytes
@@ -37,7 +37,7 @@ name entries k = pick (ltb k entries) (text "entry " ++ decimal k) (text "state"
 
 -- the line of an accepted fragment: "entry, peak, end main, end alt"
 unfoldable pub line : ℕ → ℕ → Verdict → Bytes
-line entries k v = name entries k ++ (text " peak " ++ (decimal (v .peak) ++ (text " " ++ (ending (v .end) ++ text "\n"))))
+line entries k v = name entries k ++ text " peak " ++ decimal (v .peak) ++ text " " ++ ending (v .end) ++ text "\n"
 
 -- the lines of the accepted fragments, the first of them fragment k
 abbrev pub lines : ℕ → ℕ → List Verdict → Bytes
@@ -47,8 +47,8 @@ lines entries k (v ∷ vs) = line entries k v ++ lines entries (k + 1) vs
 -- "`refused N at K O A B`: number, entry from 0 .., offset, figures"
 unfoldable pub refusedLine : ℕ → Answer → Bytes
 refusedLine entry a =
-    text "refused " ++ (decimal (a .number) ++ (text " at " ++ (decimal entry ++ (text " " ++ (decimal (a .offset)
-    ++ (text " " ++ (decimal (a .first) ++ (text " " ++ (decimal (a .second) ++ text "\n")))))))))
+    text "refused " ++ decimal (a .number) ++ text " at " ++ decimal entry ++ text " " ++ decimal (a .offset)
+    ++ text " " ++ decimal (a .first) ++ text " " ++ decimal (a .second) ++ text "\n"
 
 -- `accepted`, or that
 unfoldable pub lastLine : PaperVerdict → Bytes
