@@ -26,18 +26,22 @@ decimalWithin (suc most) n = pick (ltb n 10) [] (decimalWithin most (n / 10)) ++
 unfoldable pub decimal : ℕ → Bytes
 decimal n = decimalWithin n n
 
+-- a word and the number behind it
+abbrev pub labelled : String → ℕ → Bytes
+labelled word n = text word ++ decimal n
+
 -- "end main, end alt (`end none` if dead ..)"
 abbrev pub ending : Arm → Bytes
-ending dead = text "end none"
-ending (live s) = text "end " ++ decimal (length (s .main)) ++ text " " ++ decimal (length (s .alt))
+ending dead = text " end none"
+ending (live s) = labelled " end " (length (s .main)) ++ labelled " " (length (s .alt))
 
--- fragment k of a paper with this many entries: the entry, or "`state` for `entry 0` at the initialiser"
+-- fragment k of a paper with so many entries: its entry, or "`state` for `entry 0` at the initialiser"
 abbrev pub name : ℕ → ℕ → Bytes
-name entries k = pick (ltb k entries) (text "entry " ++ decimal k) (text "state")
+name entries k = pick (ltb k entries) (labelled "entry " k) (text "state")
 
 -- the line of an accepted fragment: "entry, peak, end main, end alt"
 unfoldable pub line : ℕ → ℕ → Verdict → Bytes
-line entries k v = name entries k ++ text " peak " ++ decimal (v .peak) ++ text " " ++ ending (v .end) ++ text "\n"
+line entries k v = name entries k ++ labelled " peak " (v .peak) ++ ending (v .end) ++ text "\n"
 
 -- the lines of the accepted fragments, the first of them fragment k
 abbrev pub lines : ℕ → ℕ → List Verdict → Bytes
@@ -47,20 +51,20 @@ lines entries k (v ∷ vs) = line entries k v ++ lines entries (k + 1) vs
 -- "`refused N at K O A B`: number, entry from 0 .., offset, figures"
 unfoldable pub refusedLine : ℕ → Answer → Bytes
 refusedLine entry a =
-    text "refused " ++ decimal (a .number) ++ text " at " ++ decimal entry ++ text " " ++ decimal (a .offset)
-    ++ text " " ++ decimal (a .first) ++ text " " ++ decimal (a .second) ++ text "\n"
+    labelled "refused " (a .number) ++ labelled " at " entry ++ labelled " " (a .offset) ++ labelled " " (a .first)
+    ++ labelled " " (a .second) ++ text "\n"
 
 -- `accepted`, or that
 unfoldable pub lastLine : PaperVerdict → Bytes
 lastLine p = pick (eqb (p .verdict .answer .number) 0) (text "accepted\n") (refusedLine (p .entry) (p .verdict .answer))
 
 -- "Lines of earlier fragments come first"
-abbrev pub linesOf : ℕ → ℕ → PaperMarked → Bytes
-linesOf entries k m = lines entries k (m .verdicts) ++ lastLine (m .paper)
+abbrev pub linesOf : ℕ → PaperMarked → Bytes
+linesOf entries m = lines entries 0 (m .verdicts) ++ lastLine (m .paper)
 
 -- what is printed of a paper with this log lent
 unfoldable pub printed : Rules → Bytes → List ℕ → Bytes
-printed R paper log = linesOf (entryCount paper) 0 (markPaper R paper log)
+printed R paper log = linesOf (entryCount paper) (markPaper R paper log)
 
 -- "`stackmark` reads a paper from standard input, at most 8,001 bytes .., and lends a log of 24,000 numbers"
 unfoldable pub stackmark : Bytes → Bytes

@@ -1,0 +1,3 @@
+-- What is proved of texts and lines for this crate's functions.
+pub mod Texts
+pub mod Lines
