@@ -5,7 +5,8 @@ use mathlib.Core.Path.{_≡_}
 use Prim.Native.Nat.{ℕ, _+_}
 use lib.ListN.{length, take, drop}
 use Rattle.definition.specs.Basics.{Bytes}
-use Rattle.definition.specs.Lines.{text, labelled, name}
+use Rattle.definition.specs.Lines.{text, labelled, name, linesOf}
+use Rattle.definition.specs.Papers.{PaperMarked}
 
 -- the lent bytes with a text in place of those from `at` on
 abbrev pub placed : Bytes → ℕ → Bytes → Bytes
@@ -24,3 +25,8 @@ endText false main alt = text " end none"
 -- the line of an accepted fragment
 abbrev pub lineText : ℕ → ℕ → ℕ → Bytes → Bytes
 lineText entries k peak end = name entries k ++ labelled " peak " peak ++ end ++ text "\n"
+
+-- the lines of a marked paper with so many entries are written from the start on, and the log afterwards is its log
+pub record Prints (entries : ℕ) (m : PaperMarked) (lent : Bytes) (new : Bytes) (next : ℕ) (log : List ℕ) : Type 0 where
+  pub printed : Written lent 0 (linesOf entries m) new next
+  pub logged : log ≡ m .log
