@@ -65,6 +65,7 @@ pub record Printing (p : Bytes) (lent : List ℕ) (lentOut : Bytes) (k rows : �
   pub printed : lines (entryCount p) 0 (markFrom builtIn 0 0 0 (fragments p) lent .verdicts)
       ≡ text ++ lines (entryCount p) k (markFrom builtIn k rows peak (drop k (fragments p)) log .verdicts)
   pub short : at ≤ 100 * k
+  pub reached : k ≤ length (fragments p)
   pub kept : length out ≡ length lentOut
 
 pub last-refused : (r : PaperVerdict) → (r .number ≡ 0 → ⊥) → lastLine (paperOf r) ≡ refusedLine (r .entry) (answer (r .number) (r .offset) (r .first) (r .second))
@@ -80,6 +81,7 @@ module _ (p : Bytes) (lent : List ℕ) (lentOut : Bytes) where
     written = record { ends = refl; holds = refl };
     printed = refl;
     short = omega arith;
+    reached = omega arith;
     kept = refl;
   }
 
@@ -132,5 +134,6 @@ module _ (p : Bytes) (lent : List ℕ) (lentOut : Bytes) where
             written = then-written (omega arith) (i .written) (subst (λ (t : Bytes). Written out at t out′ at′) q w);
             printed = i .printed ∙ ap (λ (vs : List W.Verdict). i .text ++ lines E k vs) o ∙ sym (append-assoc (i .text) (line E k verdict) (lines E (k + 1) rest));
             short = omega (arith, i .short, s);
+            reached = omega (arith, more);
             kept = n ∙ i .kept;
           }

@@ -4,9 +4,11 @@ ghost use mathlib.Core.List.{[], _∷_, _++_};
 ghost use mathlib.Core.Path.{_≡_};
 ghost use Prim.Native.Nat.{_+_, _≤_, _<_};
 ghost use lib.ListN.{length};
-ghost use Rattle.definition.specs.Lines.{decimal, name, refusedLine};
+ghost use Rattle.definition.specs.Lines.{text, decimal, name, refusedLine};
+ghost use Rattle.definition.specs.Papers.{entryCount, fragments, markFrom};
 ghost use Rattle.definition.specs.Refusals.{answer};
-ghost use Rattle.lines.specs.View.{Written, endText, lineText};
+ghost use Rattle.definition.specs.Stacks.{builtIn};
+ghost use Rattle.lines.specs.View.{Written, endText, lineText, Prints};
 
 // A word, byte by byte.
 fn write_word(out: &mut [u8], at: usize, word: &[u8]) -> usize
@@ -134,4 +136,55 @@ fn write_refused(
     let d = write_labelled(out, c, b" ", first);
     let e = write_labelled(out, d, b" ", second);
     write_word(out, e, b"\n")
+}
+
+// The last line of an accepted paper.
+fn write_accepted(out: &mut [u8], at: usize) -> usize
+    requires { ⌜ at + 9 ≤ length (now out) ⌝ }
+    ensures same { λ r. ⌜ Written (now (out .entry)) at (text "accepted\n") (now (out .exit)) r ⌝ }
+    ensures short { λ r. ⌜ r ≤ at + 9 ⌝ }
+{
+    write_word(out, at, b"accepted\n")
+}
+
+// The lines of all fragments, each marked in its order with its rows in the log, and the last line. 33 lines of at most 100
+// bytes and one of at most 120 have room in 4,096.
+fn write_fragments(paper: &[u8], log: &mut [u16], out: &mut [u8]) -> usize
+    requires { ⌜ (length (fragments (now paper)) ≤ 33) × (4096 ≤ length (now out)) ⌝ }
+    ensures same { λ r.
+        ⌜
+        Prints
+        (entryCount (now (paper .entry)))
+        (markFrom builtIn 0 0 0 (fragments (now (paper .entry))) (now (log .entry)))
+        (now (out .entry))
+        (now (out .exit))
+        r
+        (now (log .exit))
+        ⌝ }
+    ensures short { λ r. ⌜ r ≤ 4096 ⌝ }
+{
+    let entries = paper::field(paper, 0) as usize;
+    let count = paper::fragment_count(paper);
+    let mut k: usize = 0;
+    let mut rows: usize = 0;
+    let mut at: usize = 0;
+    while k < count {
+        let v = paper::mark_fragment(paper, k, rows, log);
+        rows += v.rows;
+        if v.number != 0 {
+            return write_refused(out, at, v.number, k, v.offset, v.first, v.second);
+        }
+        at = write_line(
+            out,
+            at,
+            entries,
+            k,
+            v.peak,
+            v.ended,
+            v.end.mains,
+            v.end.alts,
+        );
+        k += 1;
+    }
+    write_accepted(out, at)
 }
