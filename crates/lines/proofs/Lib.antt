@@ -1,3 +1,4 @@
 -- What is proved of texts and lines for this crate's functions.
 pub mod Texts
-pub mod Lines
+pub mod Fragments
+pub mod Papers

@@ -2,11 +2,12 @@
 use mathlib.Core.Bool.{Bool, true, false}
 use mathlib.Core.List.{List, _++_}
 use mathlib.Core.Path.{_≡_}
-use Prim.Native.Nat.{ℕ, _+_}
-use lib.ListN.{length, take, drop}
+use Prim.Native.Nat.{ℕ, _+_, _-_, _≤_}
+use lib.ListN.{length, take, drop, replicate}
 use Rattle.definition.specs.Basics.{Bytes}
 use Rattle.definition.specs.Lines.{text, labelled, name, linesOf}
 use Rattle.definition.specs.Papers.{PaperMarked}
+use Rattle.lines.specs.declared.Lines.{Lines}
 
 -- the lent bytes with a text in place of those from `at` on
 abbrev pub placed : Bytes → ℕ → Bytes → Bytes
@@ -30,3 +31,11 @@ lineText entries k peak end = name entries k ++ labelled " peak " peak ++ end ++
 pub record Prints (entries : ℕ) (m : PaperMarked) (lent : Bytes) (new : Bytes) (next : ℕ) (log : List ℕ) : Type 0 where
   pub printed : Written lent 0 (linesOf entries m) new next
   pub logged : log ≡ m .log
+
+-- the struct for a text: its bytes, zeros behind them, and its size
+unfoldable pub linesIn : Bytes → Lines
+linesIn t = record { bytes = t ++ replicate (4096 - length t) 0; size = length t }
+
+-- the size lies within the bytes, in both forms that lending the text asks for
+abbrev pub Within : Lines → Type 0
+Within l = (l .size ≤ length (l .bytes)) × (l .size ≡ length (take (l .size) (l .bytes)))

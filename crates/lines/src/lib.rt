@@ -4,11 +4,12 @@ ghost use mathlib.Core.List.{[], _∷_, _++_};
 ghost use mathlib.Core.Path.{_≡_};
 ghost use Prim.Native.Nat.{_+_, _≤_, _<_};
 ghost use lib.ListN.{length};
-ghost use Rattle.definition.specs.Lines.{text, decimal, name, refusedLine};
-ghost use Rattle.definition.specs.Papers.{entryCount, fragments, markFrom};
+ghost use Rattle.definition.specs.Lines.{text, decimal, name, refusedLine, printed};
+ghost use Rattle.definition.specs.Papers.{entryCount, fragments, markFrom, markPaper};
 ghost use Rattle.definition.specs.Refusals.{answer};
 ghost use Rattle.definition.specs.Stacks.{builtIn};
-ghost use Rattle.lines.specs.View.{Written, endText, lineText, Prints};
+ghost use Rattle.lines.specs.View.{Written, endText, lineText, Prints, linesIn, Within};
+use paper::Dispatch;
 
 // A word, byte by byte.
 fn write_word(out: &mut [u8], at: usize, word: &[u8]) -> usize
@@ -187,4 +188,50 @@ fn write_fragments(paper: &[u8], log: &mut [u16], out: &mut [u8]) -> usize
         k += 1;
     }
     write_accepted(out, at)
+}
+
+// The lines of a paper: 21, 19, the dispatch check of each entry, the bodies in order, then the initialiser.
+fn write_lines(paper: &[u8], log: &mut [u16], out: &mut [u8]) -> usize
+    requires { ⌜ 4096 ≤ length (now out) ⌝ }
+    ensures same { λ r.
+        ⌜
+        Prints
+        (entryCount (now (paper .entry)))
+        (markPaper builtIn (now (paper .entry)) (now (log .entry)))
+        (now (out .entry))
+        (now (out .exit))
+        r
+        (now (log .exit))
+        ⌝ }
+    ensures short { λ r. ⌜ r ≤ 4096 ⌝ }
+{
+    if paper.len() > 8000 {
+        return write_refused(out, 0, 21, 0, 0, paper.len() as u64, 8000);
+    }
+    if !paper::header_ok(paper) {
+        return write_refused(out, 0, 19, 0, 0, 0, 0);
+    }
+    let d = paper::dispatch_check(paper);
+    match d {
+        Dispatch::Over { entry, sum } => write_refused(out, 0, 20, entry, 0, sum as u64, 244),
+        Dispatch::Fits => write_fragments(paper, log, out),
+    }
+}
+
+// So many bytes of text, and zeros behind them.
+pub struct Lines {
+    pub bytes: [u8; 4096],
+    pub size: usize,
+}
+
+// Marks a paper, and gives the lines that are printed of it. Every input comes to its lines.
+pub fn mark_lines(paper: &[u8], log: &mut [u16]) -> Lines
+    ensures same { λ r. ⌜ r ≡ linesIn (printed builtIn (now (paper .entry)) (now (log .entry))) ⌝ }
+    ensures logged { λ r.
+        ⌜ now (log .exit) ≡ markPaper builtIn (now (paper .entry)) (now (log .entry)) .log ⌝ }
+    ensures within { λ r. ⌜ Within r ⌝ }
+{
+    let mut bytes = [0u8; 4096];
+    let size = write_lines(paper, log, &mut bytes);
+    Lines { bytes, size }
 }

@@ -1,4 +1,4 @@
-use Rattle.lines.proofs.Lines.{end-live, end-dead}
+use Rattle.lines.proofs.Fragments.{end-live, end-dead}
 use native.Mathlib.Omega.{arith}
 use borrow.Author.Needs.{needs}
 use Rattle.lines.proofs.write_end.Statement.{statement}

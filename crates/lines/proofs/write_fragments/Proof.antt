@@ -2,7 +2,7 @@ use lib.ListN.{length}
 use Prim.Native.Nat.{_-_, _<_}
 use Rattle.definition.specs.Papers.{fragments}
 use Rattle.paper.specs.View.{fragmentMarked, Marks}
-use Rattle.lines.proofs.Lines.{Printing, printing-none, printing-more, printing-stops, printing-end}
+use Rattle.lines.proofs.Fragments.{Printing, printing-none, printing-more, printing-stops, printing-end}
 use borrow.Author.Needs.{needs}
 use native.Mathlib.Omega.{arith}
 use Rattle.lines.proofs.write_fragments.Statement.{statement}
@@ -76,9 +76,10 @@ returns c =
     let w = c .before .before in
     let b = w .before .before .before .before .before .before .before in
     let l = b .before .before .before in
-    let s = l .before .before .before .before .before .before in
-    (printing-stops (s .args .paper .now) (s .args .log .now) (s .args .out .now) (l .loop .k) (l .loop .rows) (l .loop .log) (l .loop .out) (l .loop .at) (l .loop .inv) (more b) (b .mark-fragment .result) _ (marked b) (w .before .before .if1 .taken) (w .write-refused .ensures .0),
-      omega (arith, w .write-refused .ensures .1, l .loop .inv .short, more b, s .pre))
+    let s = l .before .before .before .before .before .before in (
+      printing-stops (s .args .paper .now) (s .args .log .now) (s .args .out .now) (l .loop .k) (l .loop .rows) (l .loop .log) (l .loop .out) (l .loop .at) (l .loop .inv) (more b) (b .mark-fragment .result) _ (marked b) (w .before .before .if1 .taken) (w .write-refused .ensures .0),
+      omega (arith, w .write-refused .ensures .1, l .loop .inv .short, more b, s .pre),
+    )
 
 -- src/lib.rt:177:9
 write-line-requires : tie.Need-write-line-requires Inv-loop μ-loop
@@ -119,9 +120,10 @@ returns-2 : tie.Need-returns-2 Inv-loop μ-loop
 returns-2 c =
     let w = c .before .before in
     let l = w .before .before .before in
-    let s = l .before .before .before .before .before .before in
-    (printing-end (s .args .paper .now) (s .args .log .now) (s .args .out .now) (l .loop .k) (l .loop .rows) (l .loop .log) (l .loop .out) (l .loop .at) (l .loop .inv) (omega (arith, w .before .before .loop-test .left, l .before .fragment-count .ensures)) (w .write-accepted .ensures .0),
-      omega (arith, w .write-accepted .ensures .1, l .loop .inv .short, l .loop .inv .reached, s .pre))
+    let s = l .before .before .before .before .before .before in (
+      printing-end (s .args .paper .now) (s .args .log .now) (s .args .out .now) (l .loop .k) (l .loop .rows) (l .loop .log) (l .loop .out) (l .loop .at) (l .loop .inv) (omega (arith, w .before .before .loop-test .left, l .before .fragment-count .ensures)) (w .write-accepted .ensures .0),
+      omega (arith, w .write-accepted .ensures .1, l .loop .inv .short, l .loop .inv .reached, s .pre),
+    )
 
 pub write-fragments-spec : {M : Type 1} → statement M
 write-fragments-spec =

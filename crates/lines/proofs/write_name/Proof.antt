@@ -1,4 +1,4 @@
-use Rattle.lines.proofs.Lines.{name-entry, name-state}
+use Rattle.lines.proofs.Fragments.{name-entry, name-state}
 use native.Mathlib.Omega.{arith}
 use borrow.Author.Needs.{needs}
 use Rattle.lines.proofs.write_name.Statement.{statement}
