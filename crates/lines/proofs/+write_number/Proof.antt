@@ -26,7 +26,6 @@ write-number-below t =
     (falls 1 write-number-kinds.ps _<_ μ-write-number t)
     write-number.Pre
 
--- src/lib.rt:38:9
 write-number-write-digit-requires : (t : ℕ) → write-number-lts.Need-write-digit-requires (
   write-digit-reads.Asked,
   write-digit-reads.Learnt,
@@ -37,7 +36,6 @@ write-number-write-digit-requires t c κs =
     let a = c .before .before .before in
     (room-one (a .args .n) (a .args .at) _ (c .before .if1 .taken) (a .pre .1), c .before .if1 .taken)
 
--- src/lib.rt:38:9
 write-number-same-length : (t : ℕ) → write-number-lts.Need-same-length (
   write-digit-reads.Asked,
   write-digit-reads.Learnt,
@@ -46,7 +44,6 @@ write-number-same-length : (t : ℕ) → write-number-lts.Need-same-length (
 ) (write-number-at t) write-number.Post
 write-number-same-length t c = search needs
 
--- src/lib.rt:38:9
 write-number-returns : (t : ℕ) → write-number-lts.Need-returns (
   write-digit-reads.Asked,
   write-digit-reads.Learnt,
@@ -55,7 +52,6 @@ write-number-returns : (t : ℕ) → write-number-lts.Need-returns (
 ) (write-number-at t) write-number.Post
 write-number-returns t c = search (number-one)
 
--- src/lib.rt:40:9
 write-number-write-number-requires : (t : ℕ) → write-number-lts.Need-write-number-requires (
   write-digit-reads.Asked,
   write-digit-reads.Learnt,
@@ -66,7 +62,6 @@ write-number-write-number-requires t c κs =
     let a = c .before .before .before in
     (omega arith, omega (arith, room-more (a .args .n) (a .args .at) _ (c .before .if1 .left) (a .pre .1)))
 
--- src/lib.rt:41:5
 write-number-write-digit-requires-2 : (t : ℕ) → write-number-lts.Need-write-digit-requires-2 (
   write-digit-reads.Asked,
   write-digit-reads.Learnt,
@@ -79,7 +74,6 @@ write-number-write-digit-requires-2 t c κs =
     let a = b .before .before in
     (omega (arith, room-more (a .args .n) (a .args .at) _ (b .if1 .left) (a .pre .1), w .write-number .ensures .ends), omega arith)
 
--- src/lib.rt:33:1
 write-number-same-length-2 : (t : ℕ) → write-number-lts.Need-same-length-2 (
   write-digit-reads.Asked,
   write-digit-reads.Learnt,
@@ -88,7 +82,6 @@ write-number-same-length-2 : (t : ℕ) → write-number-lts.Need-same-length-2 (
 ) (write-number-at t) write-number.Post
 write-number-same-length-2 t c = search needs
 
--- src/lib.rt:33:1
 write-number-returns-2 : (t : ℕ) → write-number-lts.Need-returns-2 (
   write-digit-reads.Asked,
   write-digit-reads.Learnt,

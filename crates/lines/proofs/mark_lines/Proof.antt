@@ -1,25 +1,17 @@
 use Rattle.lines.proofs.Papers.{lines-held, lines-within}
-use native.Mathlib.Omega.{arith}
 use borrow.Author.Needs.{needs}
 use Rattle.lines.proofs.mark_lines.Statement.{statement}
 use Rattle.lines.proofs.mark_lines.Tie as tie
-use Rattle.lines.proofs.mark_lines.Reads as reads
-use Rattle.lines.proofs.mark_lines.Lts as lts
-use Rattle.lines.proofs.write_lines.Reads as write-lines-reads
 
--- src/lib.rt:235:40
 slice-aggregate-write-lines : tie.Need-slice-aggregate-write-lines
 slice-aggregate-write-lines c = search needs
 
--- src/lib.rt:235:9
 write-lines-requires : tie.Need-write-lines-requires
 write-lines-requires c κs = search needs
 
--- src/lib.rt:228:1
 same-length : tie.Need-same-length
 same-length c = search needs
 
--- src/lib.rt:228:1
 returns : tie.Need-returns
 returns c =
     let w = c .before .before .before in

@@ -1,32 +1,23 @@
 use Rattle.lines.proofs.Texts.{byte-written}
-use native.Mathlib.Omega.{arith}
 use borrow.Author.Needs.{needs}
 use Rattle.lines.proofs.write_digit.Statement.{statement}
 use Rattle.lines.proofs.write_digit.Tie as tie
-use Rattle.lines.proofs.write_digit.Reads as reads
-use Rattle.lines.proofs.write_digit.Lts as lts
 
--- src/lib.rt:28:20
 cast-out : tie.Need-cast-out
 cast-out c = search needs
 
--- src/lib.rt:28:15
 add-out : tie.Need-add-out
 add-out c = search needs
 
--- src/lib.rt:28:5
 slice-write-out : tie.Need-slice-write-out
 slice-write-out c = search needs
 
--- src/lib.rt:29:5
 add-result : tie.Need-add-result
 add-result c = search needs
 
--- src/lib.rt:24:1
 same-length : tie.Need-same-length
 same-length c = search needs
 
--- src/lib.rt:24:1
 returns : tie.Need-returns
 returns c = search (byte-written, needs)
 

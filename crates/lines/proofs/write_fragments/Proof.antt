@@ -7,14 +7,6 @@ use borrow.Author.Needs.{needs}
 use native.Mathlib.Omega.{arith}
 use Rattle.lines.proofs.write_fragments.Statement.{statement}
 use Rattle.lines.proofs.write_fragments.Tie as tie
-use Rattle.lines.proofs.write_fragments.Reads as reads
-use Rattle.lines.proofs.write_fragments.Lts as lts
-use Rattle.lines.proofs.write_accepted.Reads as write-accepted-reads
-use Rattle.lines.proofs.write_line.Reads as write-line-reads
-use Rattle.lines.proofs.write_refused.Reads as write-refused-reads
-use Rattle.paper.proofs.field.Reads as field-reads
-use Rattle.paper.proofs.fragment_count.Reads as fragment-count-reads
-use Rattle.paper.proofs.mark_fragment.Reads as mark-fragment-reads
 
 abbrev Inv-loop : tie.InvT-loop
 Inv-loop paper log₀ out₀ entries count k₀ rows₀ at₀ log out k rows at = Printing paper log₀ out₀ k rows log out at
@@ -34,43 +26,33 @@ more c =
     let l = c .before .before .before in
     omega (arith, c .before .before .loop-test .taken, l .before .fragment-count .ensures)
 
--- src/lib.rt:166:19
 field-requires : tie.Need-field-requires Inv-loop μ-loop
 field-requires c κs = search needs
 
--- src/lib.rt:166:19
 cast-entries : tie.Need-cast-entries Inv-loop μ-loop
 cast-entries c = search needs
 
--- src/lib.rt:167:9
 fragment-count-requires : tie.Need-fragment-count-requires Inv-loop μ-loop
 fragment-count-requires c κs = search needs
 
--- src/lib.rt:171:5
 loop-holds : tie.Need-loop-holds Inv-loop μ-loop
 loop-holds c = printing-none _ _ _
 
--- src/lib.rt:172:13
 mark-fragment-requires : tie.Need-mark-fragment-requires Inv-loop μ-loop
 mark-fragment-requires c κs = search needs
 
--- src/lib.rt:173:9
 add-rows : tie.Need-add-rows Inv-loop μ-loop
 add-rows c = search needs
 
--- src/lib.rt:175:13
 write-refused-requires : tie.Need-write-refused-requires Inv-loop μ-loop
 write-refused-requires c κs = search needs
 
--- src/lib.rt:175:13
 same-length : tie.Need-same-length Inv-loop μ-loop
 same-length c = search needs
 
--- src/lib.rt:175:13
 same-length-2 : tie.Need-same-length-2 Inv-loop μ-loop
 same-length-2 c = search needs
 
--- src/lib.rt:175:13
 returns : tie.Need-returns Inv-loop μ-loop
 returns c =
     let w = c .before .before in
@@ -81,19 +63,15 @@ returns c =
       omega (arith, w .write-refused .ensures .1, l .loop .inv .short, more b, s .pre),
     )
 
--- src/lib.rt:177:9
 write-line-requires : tie.Need-write-line-requires Inv-loop μ-loop
 write-line-requires c κs = search needs
 
--- src/lib.rt:187:9
 add-k : tie.Need-add-k Inv-loop μ-loop
 add-k c = search needs
 
--- src/lib.rt:171:5
 loop-less : tie.Need-loop-less Inv-loop μ-loop
 loop-less c = search needs
 
--- src/lib.rt:171:5
 loop-again : tie.Need-loop-again Inv-loop μ-loop
 loop-again c =
     let w = c .before .before in
@@ -103,19 +81,15 @@ loop-again c =
     let s = f .before .before .before .before in
     printing-more (s .args .paper .now) (s .args .log .now) (s .args .out .now) (l .loop .k) (l .loop .rows) (l .loop .log) (l .loop .out) (l .loop .at) (l .loop .inv) (more b) (b .mark-fragment .result) _ (marked b) (b .mark-fragment .kept .1 .1 .1 .0) (w .before .before .if1 .left) (f .field .result) (f .field .ensures .0) (w .write-line .ensures .0) (w .write-line .ensures .1) (w .write-line .kept .0)
 
--- src/lib.rt:189:5
 write-accepted-requires : tie.Need-write-accepted-requires Inv-loop μ-loop
 write-accepted-requires c κs = search needs
 
--- src/lib.rt:152:1
 same-length-3 : tie.Need-same-length-3 Inv-loop μ-loop
 same-length-3 c = search needs
 
--- src/lib.rt:152:1
 same-length-4 : tie.Need-same-length-4 Inv-loop μ-loop
 same-length-4 c = search needs
 
--- src/lib.rt:152:1
 returns-2 : tie.Need-returns-2 Inv-loop μ-loop
 returns-2 c =
     let w = c .before .before in

@@ -3,27 +3,19 @@ use native.Mathlib.Omega.{arith}
 use borrow.Author.Needs.{needs}
 use Rattle.lines.proofs.write_labelled.Statement.{statement}
 use Rattle.lines.proofs.write_labelled.Tie as tie
-use Rattle.lines.proofs.write_labelled.Reads as reads
-use Rattle.lines.proofs.write_labelled.Lts as lts
-use Rattle.lines.proofs.write_number.Reads as write-number-reads
-use Rattle.lines.proofs.write_word.Reads as write-word-reads
 
--- src/lib.rt:51:9
 write-word-requires : tie.Need-write-word-requires
 write-word-requires c κs = search needs
 
--- src/lib.rt:52:5
 write-number-requires : tie.Need-write-number-requires
 write-number-requires c κs =
     let w = c .before .before .before in
     let a = w .before .before .before .before in
     omega (arith, decimal-20 (a .args .n) (omega arith), w .write-word .ensures .ends)
 
--- src/lib.rt:46:1
 same-length : tie.Need-same-length
 same-length c = search needs
 
--- src/lib.rt:46:1
 returns : tie.Need-returns
 returns c =
     let d = c .before .before in

@@ -3,22 +3,13 @@ use native.Mathlib.Omega.{arith}
 use borrow.Author.Needs.{needs}
 use Rattle.lines.proofs.write_lines.Statement.{statement}
 use Rattle.lines.proofs.write_lines.Tie as tie
-use Rattle.lines.proofs.write_lines.Reads as reads
-use Rattle.lines.proofs.write_lines.Lts as lts
-use Rattle.lines.proofs.write_fragments.Reads as write-fragments-reads
-use Rattle.lines.proofs.write_refused.Reads as write-refused-reads
-use Rattle.paper.proofs.dispatch_check.Reads as dispatch-check-reads
-use Rattle.paper.proofs.header_ok.Reads as header-ok-reads
 
--- src/lib.rt:209:9
 write-refused-requires : tie.Need-write-refused-requires
 write-refused-requires c κs = search needs
 
--- src/lib.rt:209:9
 same-length : tie.Need-same-length
 same-length c = search needs
 
--- src/lib.rt:209:9
 returns : tie.Need-returns
 returns c =
     let w = c .before .before in
@@ -26,19 +17,15 @@ returns c =
     let a = b .before .before .before .before .args in
     (lines-long (a .paper .now) (a .log .now) (b .if1 .taken) (w .write-refused .ensures .0), omega (arith, w .write-refused .ensures .1))
 
--- src/lib.rt:211:9
 header-ok-requires : tie.Need-header-ok-requires
 header-ok-requires c κs = search needs
 
--- src/lib.rt:212:9
 write-refused-requires-2 : tie.Need-write-refused-requires-2
 write-refused-requires-2 c κs = search needs
 
--- src/lib.rt:212:9
 same-length-2 : tie.Need-same-length-2
 same-length-2 c = search needs
 
--- src/lib.rt:212:9
 returns-2 : tie.Need-returns-2
 returns-2 c =
     let w = c .before .before in
@@ -47,27 +34,21 @@ returns-2 c =
     let a = h .before .before .before .before .before .args in
     (lines-bad (a .paper .now) (a .log .now) (h .before .if1 .left) (h .header-ok .result) (h .header-ok .ensures) (b .if2 .taken) (w .write-refused2 .ensures .0), omega (arith, w .write-refused2 .ensures .1))
 
--- src/lib.rt:214:9
 dispatch-check-requires : tie.Need-dispatch-check-requires
 dispatch-check-requires c κs = search needs
 
--- src/lib.rt:216:26
 enum-known-d : tie.Need-enum-known-d
 enum-known-d c = search needs
 
--- src/lib.rt:216:78
 cast-write-refused : tie.Need-cast-write-refused
 cast-write-refused c = search needs
 
--- src/lib.rt:216:42
 write-refused-requires-3 : tie.Need-write-refused-requires-3
 write-refused-requires-3 c κs = search needs
 
--- src/lib.rt:217:50
 enum-told : tie.Need-enum-told
 enum-told c = search needs
 
--- src/lib.rt:217:27
 write-fragments-requires : tie.Need-write-fragments-requires
 write-fragments-requires c κs =
     let b = c .before .before .before .before .before in
@@ -75,11 +56,9 @@ write-fragments-requires c κs =
     let s = h .before .before .before .before .before in
     (few-fragments (s .args .paper .now) (h .header-ok .result) (h .header-ok .ensures) (b .if2 .left), s .pre)
 
--- src/lib.rt:194:1
 same-length-3 : tie.Need-same-length-3
 same-length-3 c = search needs
 
--- src/lib.rt:194:1
 returns-3 : tie.Need-returns-3
 returns-3 c =
     let w = c .before .before in
@@ -92,15 +71,12 @@ returns-3 c =
       omega (arith, w .write-refused3 .ensures .1),
     )
 
--- src/lib.rt:194:1
 same-length-4 : tie.Need-same-length-4
 same-length-4 c = search needs
 
--- src/lib.rt:194:1
 same-length-5 : tie.Need-same-length-5
 same-length-5 c = search needs
 
--- src/lib.rt:194:1
 returns-4 : tie.Need-returns-4
 returns-4 c =
     let w = c .before .before .before .before in

@@ -6,64 +6,46 @@ use native.Mathlib.Omega.{arith}
 use borrow.Author.Needs.{needs}
 use Rattle.lines.proofs.write_refused.Statement.{statement}
 use Rattle.lines.proofs.write_refused.Tie as tie
-use Rattle.lines.proofs.write_refused.Reads as reads
-use Rattle.lines.proofs.write_refused.Lts as lts
-use Rattle.lines.proofs.write_labelled.Reads as write-labelled-reads
-use Rattle.lines.proofs.write_word.Reads as write-word-reads
 
--- src/lib.rt:131:37
 slice-aggregate-write-labelled : tie.Need-slice-aggregate-write-labelled
 slice-aggregate-write-labelled c = search needs
 
--- src/lib.rt:131:9
 write-labelled-requires : tie.Need-write-labelled-requires
 write-labelled-requires c κs = search needs
 
--- src/lib.rt:132:36
 slice-aggregate-write-labelled-2 : tie.Need-slice-aggregate-write-labelled-2
 slice-aggregate-write-labelled-2 c = search needs
 
--- src/lib.rt:132:9
 write-labelled-requires-2 : tie.Need-write-labelled-requires-2
 write-labelled-requires-2 c κs = search needs
 
--- src/lib.rt:133:36
 slice-aggregate-write-labelled-3 : tie.Need-slice-aggregate-write-labelled-3
 slice-aggregate-write-labelled-3 c = search needs
 
--- src/lib.rt:133:9
 write-labelled-requires-3 : tie.Need-write-labelled-requires-3
 write-labelled-requires-3 c κs = search needs
 
--- src/lib.rt:134:36
 slice-aggregate-write-labelled-4 : tie.Need-slice-aggregate-write-labelled-4
 slice-aggregate-write-labelled-4 c = search needs
 
--- src/lib.rt:134:9
 write-labelled-requires-4 : tie.Need-write-labelled-requires-4
 write-labelled-requires-4 c κs = search needs
 
--- src/lib.rt:135:36
 slice-aggregate-write-labelled-5 : tie.Need-slice-aggregate-write-labelled-5
 slice-aggregate-write-labelled-5 c = search needs
 
--- src/lib.rt:135:9
 write-labelled-requires-5 : tie.Need-write-labelled-requires-5
 write-labelled-requires-5 c κs = search needs
 
--- src/lib.rt:136:24
 slice-aggregate-write-word : tie.Need-slice-aggregate-write-word
 slice-aggregate-write-word c = search needs
 
--- src/lib.rt:136:5
 write-word-requires : tie.Need-write-word-requires
 write-word-requires c κs = search needs
 
--- src/lib.rt:110:1
 same-length : tie.Need-same-length
 same-length c = search needs
 
--- src/lib.rt:110:1
 returns : tie.Need-returns
 unfolding refusedLine
 returns c =

@@ -7,8 +7,6 @@ use borrow.Author.Needs.{needs}
 use native.Mathlib.Omega.{arith}
 use Rattle.lines.proofs.write_word.Statement.{statement}
 use Rattle.lines.proofs.write_word.Tie as tie
-use Rattle.lines.proofs.write_word.Reads as reads
-use Rattle.lines.proofs.write_word.Lts as lts
 
 abbrev Inv-loop : tie.InvT-loop
 Inv-loop out₀ at word j₀ out j = ((out ≡ paste out₀ at word j) × (length out ≡ length out₀)) × (j ≤ length word)
@@ -16,46 +14,36 @@ Inv-loop out₀ at word j₀ out j = ((out ≡ paste out₀ at word j) × (lengt
 abbrev μ-loop : tie.MeasureT-loop
 μ-loop out₀ at word j₀ out j = length word - j
 
--- src/lib.rt:16:5
 loop-holds : tie.Need-loop-holds Inv-loop μ-loop
 loop-holds c = ((paste-zero (c .args .out .now) (c .args .at) (c .args .word .now), omega arith), omega arith)
 
--- src/lib.rt:17:23
 shared-slice-read-out : tie.Need-shared-slice-read-out Inv-loop μ-loop
 shared-slice-read-out c = search needs
 
--- src/lib.rt:17:13
 add-out : tie.Need-add-out Inv-loop μ-loop
 add-out c = search needs
 
--- src/lib.rt:17:9
 slice-write-out : tie.Need-slice-write-out Inv-loop μ-loop
 slice-write-out c = search needs
 
--- src/lib.rt:18:9
 add-j : tie.Need-add-j Inv-loop μ-loop
 add-j c = search needs
 
--- src/lib.rt:16:5
 loop-less : tie.Need-loop-less Inv-loop μ-loop
 loop-less c = search needs
 
--- src/lib.rt:16:5
 loop-again : tie.Need-loop-again Inv-loop μ-loop
 loop-again c =
     let l = c .before .before in
     let a = l .before .args in
     ((word-more (a .out .now) (a .at) (a .word .now) (l .loop .out) (l .loop .j) (l .loop .inv .0 .0) (omega arith) (omega arith), simp length-set (omega arith)), omega arith)
 
--- src/lib.rt:20:5
 add-result : tie.Need-add-result Inv-loop μ-loop
 add-result c = search needs
 
--- src/lib.rt:11:1
 same-length : tie.Need-same-length Inv-loop μ-loop
 same-length c = search needs
 
--- src/lib.rt:11:1
 returns : tie.Need-returns Inv-loop μ-loop
 returns c = search (word-written, needs)
 

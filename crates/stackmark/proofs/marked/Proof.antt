@@ -4,35 +4,25 @@ use native.Mathlib.Omega.{arith}
 use borrow.Author.Needs.{needs}
 use Rattle.stackmark.proofs.marked.Statement.{statement}
 use Rattle.stackmark.proofs.marked.Tie as tie
-use Rattle.stackmark.proofs.marked.Reads as reads
-use Rattle.stackmark.proofs.marked.Lts as lts
-use Rattle.lines.proofs.mark_lines.Reads as mark-lines-reads
 
--- src/main.rt:15:34
 slice-aggregate-mark-lines : tie.Need-slice-aggregate-mark-lines
 slice-aggregate-mark-lines c = simp length-take (omega arith)
 
--- src/main.rt:15:50
 slice-aggregate-mark-lines-2 : tie.Need-slice-aggregate-mark-lines-2
 slice-aggregate-mark-lines-2 c = search needs
 
--- src/main.rt:15:9
 mark-lines-requires : tie.Need-mark-lines-requires
 mark-lines-requires c κs = search needs
 
--- src/main.rt:15:9
 returns : tie.Need-returns
 returns c = search (input-cut)
 
--- src/main.rt:17:30
 slice-aggregate-mark-lines-3 : tie.Need-slice-aggregate-mark-lines-3
 slice-aggregate-mark-lines-3 c = search needs
 
--- src/main.rt:17:5
 mark-lines-requires-2 : tie.Need-mark-lines-requires-2
 mark-lines-requires-2 c κs = search needs
 
--- src/main.rt:9:1
 returns-2 : tie.Need-returns-2
 returns-2 c = search (input-whole)
 
