@@ -8,3 +8,4 @@ pub mod Complete
 pub mod TrueOfEveryReplay
 pub mod TrueOfPaper
 pub mod Witnesses
+pub mod PrintedPapers

@@ -64,7 +64,7 @@ sixteen = refl
 
 -- Section 6: `entry 0 peak 2 end 1 0`, `accepted`. The rows of its body, which starts from 1 parameter and 1 state field, and
 -- the rest of the log as lent.
-pub samplePaper : Bytes
+unfoldable pub samplePaper : Bytes
 samplePaper =
     0x01 ∷ 0x00 ∷ 0x01 ∷ 0x00 ∷ 0x0e ∷ 0x00 ∷ 0x00 ∷ 0x00 ∷ 0x01 ∷ 0x00 ∷ 0x0e ∷ 0x00 ∷ 0x06 ∷ 0x00 ∷
     0x63 ∷ 0x51 ∷ 0x67 ∷ 0x52 ∷ 0x68 ∷ 0x75 ∷ []
@@ -80,7 +80,7 @@ unfolding paperSaid samplePaper goodHeader fragments markFrom dispatch markPaper
 sample = (refl, refl)
 
 -- Two entries, of no parameter and of two; the initialiser drops two items.
-pub twoEntries : Bytes
+unfoldable pub twoEntries : Bytes
 twoEntries =
     0x02 ∷ 0x00 ∷ 0x00 ∷ 0x00 ∷ 0x14 ∷ 0x00 ∷ 0x02 ∷ 0x00 ∷
     0x00 ∷ 0x00 ∷ 0x16 ∷ 0x00 ∷ 0x01 ∷ 0x00 ∷

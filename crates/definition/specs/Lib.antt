@@ -7,3 +7,4 @@ pub mod Stacks
 pub mod Walk
 pub mod Replay
 pub mod Papers
+pub mod Lines

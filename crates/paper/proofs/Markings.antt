@@ -93,7 +93,8 @@ module _ (p : Bytes) (lent : List ℕ) where
       unfolding packedVerdict
       number-is = ap (λ (u : Verdict). u .number) (m .same)
 
-      onto : v .number ≡ 0 → (peak′ : ℕ) → peak′ ≡ max peak (v .peak)
+      -- fragment k is accepted: the marking from it on
+      pub onto : v .number ≡ 0 → (peak′ : ℕ) → peak′ ≡ max peak (v .peak)
           → after (fragmentMarked p k rows log .verdict) (markFrom builtIn (k + 1) (rows + v .rows) peak′ (drop (k + 1) (fragments p)) new)
           ≡ markFrom builtIn k rows peak (drop k (fragments p)) log
       onto z peak′ e =
@@ -108,29 +109,31 @@ module _ (p : Bytes) (lent : List ℕ) where
         kept = l ∙ i .kept;
       }
 
-      -- fragment k is refused
+      -- fragment k is refused: the marking from it on
+      pub told : (v .number ≡ 0 → ⊥)
+          → markFrom builtIn k rows peak (drop k (fragments p)) log
+          ≡ record {
+            paper = record {
+              entry = k;
+              verdict = record { answer = fragmentMarked p k rows log .verdict .answer; rows = rows + fragmentMarked p k rows log .verdict .rows; peak = 0; end = dead };
+            };
+            verdicts = [];
+            log = outOf rows log (fragmentMarked p k rows log);
+          }
+      told z =
+          ap (λ fs. markFrom builtIn k rows peak fs log) front
+          ∙ from-refused k rows peak (fragmentAt p k) (drop (k + 1) (fragments p)) log (λ e. z (number-is ∙ e))
+
+      -- the answer then
       pub marking-stops : (v .number ≡ 0 → ⊥)
           → Answers (record { entry = k; number = v .number; offset = v .offset; first = v .first; second = v .second; rows = rows + v .rows; peak = 0 }) new
           (markFrom builtIn 0 0 0 (fragments p) lent)
       unfolding packedVerdict paperOf
       marking-stops z = record {
-        same = shown (m .same) ∙ sym (i .paper ∙ ap (λ (x : PaperMarked). x .paper) told);
-        logged = m .logged ∙ sym (i .logged ∙ ap (λ (x : PaperMarked). x .log) told);
+        same = shown (m .same) ∙ sym (i .paper ∙ ap (λ (x : PaperMarked). x .paper) (told z));
+        logged = m .logged ∙ sym (i .logged ∙ ap (λ (x : PaperMarked). x .log) (told z));
       }
         where
-          told : markFrom builtIn k rows peak (drop k (fragments p)) log
-              ≡ record {
-                paper = record {
-                  entry = k;
-                  verdict = record { answer = fragmentMarked p k rows log .verdict .answer; rows = rows + fragmentMarked p k rows log .verdict .rows; peak = 0; end = dead };
-                };
-                verdicts = [];
-                log = outOf rows log (fragmentMarked p k rows log);
-              }
-          told =
-              ap (λ fs. markFrom builtIn k rows peak fs log) front
-              ∙ from-refused k rows peak (fragmentAt p k) (drop (k + 1) (fragments p)) log (λ e. z (number-is ∙ e))
-
           shown : {w : Verdict} → w ≡ packedVerdict (fragmentMarked p k rows log .verdict)
               → paperOf (record { entry = k; number = w .number; offset = w .offset; first = w .first; second = w .second; rows = rows + w .rows; peak = 0 })
               ≡ record {

@@ -30,7 +30,7 @@ fn wide(x: u8) -> u32
 }
 
 // The u16 field at an offset, lowest byte first. Bytes past the end count as missing.
-fn field(paper: &[u8], offset: usize) -> u32
+pub fn field(paper: &[u8], offset: usize) -> u32
     ensures same { λ r. ⌜ r ≡ field (now (paper .entry)) offset ⌝ }
     ensures low { λ r. ⌜ r < 65536 ⌝ }
 {

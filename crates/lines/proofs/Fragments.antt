@@ -1,0 +1,139 @@
+-- Laws of the lines: their parts by the tests of the code, and the lines of a paper one behind another.
+use mathlib.Core.Bool.{Bool, true, false}
+use mathlib.Core.List.{List, [], _∷_, _++_, append-assoc, append-nil}
+use mathlib.Core.Path.{_≡_, refl, sym, ap, subst, _∙_}
+use Prim.Native.Nat.{ℕ, zero, suc, _+_, _*_, _≤_, _<_, max}
+use native.Mathlib.Omega.{arith}
+use borrow.Author.Tests.{lt-ltb, le-ltb, ne-eqb}
+use lib.ListN.{length, take, drop, drop-of-length-le}
+use Rattle.definition.specs.Basics.{Bytes}
+use Rattle.definition.specs.Lines.{text, labelled, name, ending, line, lines, refusedLine, lastLine, linesOf}
+use Rattle.definition.specs.Papers.{fragments, entryCount, PaperMarked, markFrom}
+use Rattle.definition.specs.Papers as P
+use Rattle.definition.specs.Refusals.{answer}
+use Rattle.definition.specs.Stacks.{builtIn}
+use Rattle.definition.specs.Walk.{Arm, dead, live}
+use Rattle.definition.specs.Walk as W
+use Rattle.stack.specs.View.{packed}
+use Rattle.stack_analysis.specs.View.{packedVerdict, hasEnd, endStacks}
+use Rattle.stack_analysis.specs.declared.Verdict.{Verdict}
+use Rattle.paper.specs.View.{fragmentMarked, Marks, paperOf}
+use Rattle.paper.specs.declared.PaperVerdict.{PaperVerdict}
+use Rattle.paper.proofs.Markings.{Marking, Answers, marking-none, marking-more, marking-stops, marking-end, onto, told}
+use Rattle.lines.specs.View.{Written, endText, lineText, Prints}
+use Rattle.lines.proofs.Texts.{then-written}
+
+-- The parts of a line
+
+module _ {lent : Bytes} {at : ℕ} {new : Bytes} {next : ℕ} (entries k : ℕ) where
+  pub name-entry : k < entries → Written lent at (labelled "entry " k) new next → Written lent at (name entries k) new next
+  name-entry h w = subst (λ (t : Bytes). Written lent at t new next) (sym (rw (lt-ltb k entries h))) w
+
+  pub name-state : entries ≤ k → Written lent at (text "state") new next → Written lent at (name entries k) new next
+  name-state h w = subst (λ (t : Bytes). Written lent at t new next) (sym (rw (le-ltb k entries h))) w
+
+module _ {lent : Bytes} {at : ℕ} {new : Bytes} {next : ℕ} (ended : Bool) (main alt : ℕ) where
+  pub end-live : {mid : Bytes} {between : ℕ} → ended ≡ true → at ≤ length lent
+      → Written lent at (labelled " end " main) mid between → Written mid between (labelled " " alt) new next → Written lent at (endText ended main alt) new next
+  end-live e h w v = subst (λ (b : Bool). Written lent at (endText b main alt) new next) (sym e) (then-written h w v)
+
+  pub end-dead : ended ≡ false → Written lent at (text " end none") new next → Written lent at (endText ended main alt) new next
+  end-dead e w = subst (λ (b : Bool). Written lent at (endText b main alt) new next) (sym e) w
+
+-- the line of a verdict is that of the struct's numbers
+
+end-is : (c : Arm) → endText (hasEnd c) (endStacks c .mains) (endStacks c .alts) ≡ ending c
+unfolding packed
+end-is dead = refl
+end-is (live s) = refl
+
+line-is : (entries k : ℕ) (w : W.Verdict) (v : Verdict) → v ≡ packedVerdict w
+    → lineText entries k (v .peak) (endText (v .ended) (v .end .mains) (v .end .alts)) ≡ line entries k w
+unfolding packedVerdict line
+line-is entries k w v e =
+    ap (λ (u : Verdict). lineText entries k (u .peak) (endText (u .ended) (u .end .mains) (u .end .alts))) e
+    ∙ ap (λ (t : Bytes). lineText entries k (w .peak) t) (end-is (w .end))
+
+-- The lines of a paper one behind another
+
+-- the fragments before k are accepted, and their lines are written
+pub record Printing (p : Bytes) (lent : List ℕ) (lentOut : Bytes) (k rows : ℕ) (log : List ℕ) (out : Bytes) (at : ℕ) : Type 0 where
+  pub peak : ℕ
+  pub text : Bytes
+  pub marking : Marking p lent k rows peak log
+  pub written : Written lentOut 0 text out at
+  pub printed : lines (entryCount p) 0 (markFrom builtIn 0 0 0 (fragments p) lent .verdicts)
+      ≡ text ++ lines (entryCount p) k (markFrom builtIn k rows peak (drop k (fragments p)) log .verdicts)
+  pub short : at ≤ 100 * k
+  pub reached : k ≤ length (fragments p)
+  pub kept : length out ≡ length lentOut
+
+pub last-refused : (r : PaperVerdict) → (r .number ≡ 0 → ⊥) → lastLine (paperOf r) ≡ refusedLine (r .entry) (answer (r .number) (r .offset) (r .first) (r .second))
+unfolding lastLine paperOf
+last-refused r h = rw (ne-eqb (r .number) 0 h)
+
+module _ (p : Bytes) (lent : List ℕ) (lentOut : Bytes) where
+  pub printing-none : Printing p lent lentOut 0 0 lent lentOut 0
+  printing-none = record {
+    peak = 0;
+    text = [];
+    marking = marking-none p lent;
+    written = record { ends = refl; holds = refl };
+    printed = refl;
+    short = omega arith;
+    reached = omega arith;
+    kept = refl;
+  }
+
+  module _ (k rows : ℕ) (log : List ℕ) (out : Bytes) (at : ℕ) (i : Printing p lent lentOut k rows log out at) where
+    -- the last line behind those written
+    ended : (r : PaperVerdict) (new : List ℕ) → Answers r new (markFrom builtIn 0 0 0 (fragments p) lent)
+        → markFrom builtIn k rows (i .peak) (drop k (fragments p)) log .verdicts ≡ [] → {t : Bytes} → lastLine (paperOf r) ≡ t
+        → {out′ : Bytes} {at′ : ℕ} → Written out at t out′ at′ → Prints (entryCount p) (markFrom builtIn 0 0 0 (fragments p) lent) lentOut out′ at′ new
+    ended r new a none {t} e {out′} {at′} w =
+        let s : lines (entryCount p) 0 (markFrom builtIn 0 0 0 (fragments p) lent .verdicts) ≡ i .text =
+        i .printed ∙ ap (λ (vs : List W.Verdict). i .text ++ lines (entryCount p) k vs) none ∙ append-nil (i .text) in
+        let l : lastLine (markFrom builtIn 0 0 0 (fragments p) lent .paper) ≡ t = ap lastLine (sym (a .same)) ∙ e in
+        record {
+          printed = subst (λ (u : Bytes). Written lentOut 0 u out′ at′) (sym (ap (λ (u : Bytes). u ++ lastLine (markFrom builtIn 0 0 0 (fragments p) lent .paper)) s ∙ ap (λ (u : Bytes). i .text ++ u) l)) (then-written (omega arith) (i .written) w);
+          logged = a .logged;
+        }
+
+    pub printing-end : length (fragments p) ≤ k → {out′ : Bytes} {at′ : ℕ} → Written out at (text "accepted\n") out′ at′
+        → Prints (entryCount p) (markFrom builtIn 0 0 0 (fragments p) lent) lentOut out′ at′ log
+    unfolding markFrom lastLine paperOf
+    printing-end h w =
+        ended _ _ (marking-end p lent k rows (i .peak) log (i .marking) h)
+        (ap (λ fs. markFrom builtIn k rows (i .peak) fs log .verdicts) (drop-of-length-le (fragments p) h)) refl w
+
+    module _ (more : k < length (fragments p)) (v : Verdict) (new : List ℕ) (m : Marks (fragmentMarked p k rows log) rows log v new) where
+      pub printing-stops : (v .number ≡ 0 → ⊥) → {out′ : Bytes} {at′ : ℕ}
+          → Written out at (refusedLine k (answer (v .number) (v .offset) (v .first) (v .second))) out′ at′
+          → Prints (entryCount p) (markFrom builtIn 0 0 0 (fragments p) lent) lentOut out′ at′ new
+      printing-stops z w =
+          ended _ _ (marking-stops p lent k rows (i .peak) log (i .marking) more v new m z)
+          (ap (λ (x : PaperMarked). x .verdicts) (told p lent k rows (i .peak) log (i .marking) more v new m z))
+          (last-refused _ z) w
+
+      pub printing-more : length new ≡ length log → v .number ≡ 0 → (entries : ℕ) → entries ≡ entryCount p → {out′ : Bytes} {at′ : ℕ}
+          → Written out at (lineText entries k (v .peak) (endText (v .ended) (v .end .mains) (v .end .alts))) out′ at′ → at′ ≤ at + 100
+          → length out′ ≡ length out → Printing p lent lentOut (k + 1) (rows + v .rows) new out′ at′
+      printing-more l z entries e {out′} {at′} w s n =
+          let verdict : W.Verdict = fragmentMarked p k rows log .verdict in
+          let next : ℕ = max (i .peak) (v .peak) in
+          let E : ℕ = entryCount p in
+          let rest : List W.Verdict = markFrom builtIn (k + 1) (rows + v .rows) next (drop (k + 1) (fragments p)) new .verdicts in
+          let o : markFrom builtIn k rows (i .peak) (drop k (fragments p)) log .verdicts ≡ verdict ∷ rest =
+          sym (ap (λ (x : PaperMarked). x .verdicts) (onto p lent k rows (i .peak) log (i .marking) more v new m z next refl)) in
+          let q : lineText entries k (v .peak) (endText (v .ended) (v .end .mains) (v .end .alts)) ≡ line E k verdict =
+          line-is entries k verdict v (m .same) ∙ ap (λ n. line n k verdict) e in
+          record {
+            peak = next;
+            text = i .text ++ line E k verdict;
+            marking = marking-more p lent k rows (i .peak) log (i .marking) more v new m l z next refl;
+            written = then-written (omega arith) (i .written) (subst (λ (t : Bytes). Written out at t out′ at′) q w);
+            printed = i .printed ∙ ap (λ (vs : List W.Verdict). i .text ++ lines E k vs) o ∙ sym (append-assoc (i .text) (line E k verdict) (lines E (k + 1) rest));
+            short = omega (arith, i .short, s);
+            reached = omega (arith, more);
+            kept = n ∙ i .kept;
+          }

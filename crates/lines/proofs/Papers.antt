@@ -1,0 +1,116 @@
+-- Laws of the lines of a whole paper, and of the bytes that hold them.
+use mathlib.Core.Bool.{Bool, true, false, _&&_, not}
+use mathlib.Core.List.{List, [], _∷_, _++_}
+use mathlib.Core.Path.{_≡_, refl, sym, ap, subst, _∙_}
+use Prim.Native.Nat.{ℕ, zero, suc, _+_, _-_, _*_, _≤_, _<_}
+use native.Mathlib.Omega.{arith}
+use borrow.Author.Tests.{lt-ltb, le-ltb, eqb-true, eqb-false, leb-true, ne-eqb, not-true, not-false}
+use lib.Dec.{leb, eqb}
+use lib.ListN.{length, take, drop, replicate, length-append, length-drop, length-replicate}
+use lib.Seq.{length-take-le}
+use Rattle.definition.specs.Basics.{Bytes}
+use Rattle.definition.specs.Lines.{refusedLine, lastLine, linesOf, printed}
+use Rattle.definition.specs.Papers.{field, fragments, entries, entryCount, headerSize, initialiser, bodies, goodParts, goodHeader, PaperMarked, refusedPaper, markFrom, dispatch, markPaper}
+use Rattle.definition.specs.Refusals.{Refusal, refusedAt, badHeader, dispatchTooLarge, longPaper, answer}
+use Rattle.definition.specs.Stacks.{builtIn}
+use Rattle.paper.specs.View.{dispatched}
+use Rattle.paper.specs.declared.Dispatch.{Dispatch}
+use Rattle.paper.specs.declared.Dispatch.the-variants.{Fits, Over}
+use Rattle.paper.proofs.Fragments.{count-without, count-with}
+use Rattle.lines.specs.View.{Written, Prints, linesIn, Within}
+use Rattle.lines.specs.declared.Lines.{Lines}
+
+-- How many fragments
+
+third : (a b c d : Bool) → (a && (b && (c && d))) ≡ true → c ≡ true
+third true true true d e = refl
+third true true false d e = e
+third true false c d e = cc
+third false b c d e = cc
+
+few-entries : (p : Bytes) → goodHeader p ≡ true → entryCount p ≤ 32
+unfolding goodHeader
+few-entries p h =
+    leb-true (entryCount p) 32
+    (third (leb 8 (length p)) (leb 1 (entryCount p)) (leb (entryCount p) 32)
+    (leb (headerSize p) (length p) && goodParts (headerSize p) (length p) (initialiser p ∷ bodies (entries p))) h)
+
+pub few-fragments : (p : Bytes) (t : Bool) → t ≡ goodHeader p → not t ≡ false → length (fragments p) ≤ 33
+few-fragments p t g h = by (eqb (field p 6) 0) refl
+  where
+    few : entryCount p ≤ 32
+    few = few-entries p (sym g ∙ not-false t h)
+
+    by : (b : Bool) → eqb (field p 6) 0 ≡ b → length (fragments p) ≤ 33
+    by true e = omega (arith, few, count-without p (field p 0) (field p 6) refl refl (eqb-true (field p 6) 0 e))
+    by false e = omega (arith, few, count-with p (field p 0) (field p 6) refl refl (eqb-false (field p 6) 0 e))
+
+-- The whole paper
+
+-- behind the header
+checked : (p : Bytes) (lent : List ℕ) → length p ≤ 8000 → (t : Bool) → t ≡ goodHeader p → not t ≡ false → (d : Dispatch)
+    → ((l : List ℕ) → dispatch builtIn p 0 (entries p) l ≡ dispatched p d l) → markPaper builtIn p lent ≡ dispatched p d lent
+unfolding markPaper
+checked p lent short t g h d f = rw (le-ltb 8000 (length p) short, ← g, not-false t h) (f lent)
+
+module _ (p : Bytes) (lent : List ℕ) {lentOut : Bytes} {new : Bytes} {next : ℕ} where
+  -- a refusal of the paper itself
+  refused-prints : (entry : ℕ) (r : Refusal) → markPaper builtIn p lent ≡ refusedPaper entry r lent → (refusedAt 0 r .number ≡ 0 → ⊥)
+      → Written lentOut 0 (refusedLine entry (refusedAt 0 r)) new next → Prints (entryCount p) (markPaper builtIn p lent) lentOut new next lent
+  unfolding lastLine
+  refused-prints entry r e h w =
+      subst (λ (m : PaperMarked). Prints (entryCount p) m lentOut new next lent) (sym e)
+      (record { printed = rw (ne-eqb (refusedAt 0 r .number) 0 h) w; logged = refl })
+
+  pub lines-long : 8000 < length p → Written lentOut 0 (refusedLine 0 (answer 21 0 (length p) 8000)) new next
+      → Prints (entryCount p) (markPaper builtIn p lent) lentOut new next lent
+  unfolding markPaper
+  lines-long h w = refused-prints 0 (longPaper (length p)) (rw (lt-ltb 8000 (length p) h)) (λ z. absurd (omega (arith, z))) w
+
+  module _ (short : length p ≤ 8000) (t : Bool) (g : t ≡ goodHeader p) where
+    pub lines-bad : not t ≡ true → Written lentOut 0 (refusedLine 0 (answer 19 0 0 0)) new next
+        → Prints (entryCount p) (markPaper builtIn p lent) lentOut new next lent
+    unfolding markPaper
+    lines-bad h w = refused-prints 0 badHeader (rw (le-ltb 8000 (length p) short, ← g, not-true t h)) (λ z. absurd (omega (arith, z))) w
+
+    module _ (h : not t ≡ false) (d : Dispatch) (f : (l : List ℕ) → dispatch builtIn p 0 (entries p) l ≡ dispatched p d l) where
+      pub lines-over : (entry sum : ℕ) → d ≡ Over entry sum → Written lentOut 0 (refusedLine entry (answer 20 0 sum 244)) new next
+          → Prints (entryCount p) (markPaper builtIn p lent) lentOut new next lent
+      lines-over entry sum q w =
+          refused-prints entry (dispatchTooLarge sum 244) (checked p lent short t g h d f ∙ ap (λ (x : Dispatch). dispatched p x lent) q) (λ z. absurd (omega (arith, z))) w
+
+      pub lines-marked : d ≡ Fits → {log : List ℕ} → Prints (entryCount p) (markFrom builtIn 0 0 0 (fragments p) lent) lentOut new next log
+          → Prints (entryCount p) (markPaper builtIn p lent) lentOut new next log
+      lines-marked q {log} w =
+          subst (λ (m : PaperMarked). Prints (entryCount p) m lentOut new next log) (sym (checked p lent short t g h d f ∙ ap (λ (x : Dispatch). dispatched p x lent) q)) w
+
+-- The bytes that hold the lines
+
+drop-replicate : (n m a : ℕ) → drop n (replicate m a) ≡ replicate (m - n) a
+drop-replicate zero m a =
+    let e : m ≡ m - 0 = omega arith in
+    ap (λ k. replicate k a) e
+drop-replicate (suc n) zero a =
+    let e : 0 ≡ 0 - suc n = omega arith in
+    ap (λ k. replicate k a) e
+drop-replicate (suc n) (suc m) a =
+    let e : m - n ≡ suc m - suc n = omega arith in
+    drop-replicate n m a ∙ ap (λ k. replicate k a) e
+
+module _ (p : Bytes) (lent : List ℕ) (new : Bytes) (size : ℕ) (log : List ℕ) (i : Prints (entryCount p) (markPaper builtIn p lent) (replicate 4096 0) new size log) where
+  pub lines-held : record { bytes = new; size = size } ≡ linesIn (printed builtIn p lent)
+  unfolding linesIn printed
+  lines-held =
+      let t : Bytes = linesOf (entryCount p) (markPaper builtIn p lent) in
+      let n : size ≡ length t = i .printed .ends ∙ omega arith in
+      let e : 0 + length t ≡ length t = omega arith in
+      let b : new ≡ t ++ replicate (4096 - length t) 0 =
+      i .printed .holds ∙ ap (λ k. t ++ drop k (replicate 4096 0)) e ∙ ap (λ (l : Bytes). t ++ l) (drop-replicate (length t) 4096 0) in
+      ap (λ (l : Bytes). record { bytes = l; size = size }) b ∙ ap (λ k. record { bytes = t ++ replicate (4096 - length t) 0; size = k }) n
+
+  pub lines-within : size ≤ 4096 → Within (record { bytes = new; size = size })
+  lines-within h =
+      let t : Bytes = linesOf (entryCount p) (markPaper builtIn p lent) in
+      let l : size ≤ length new =
+      omega (arith, h, i .printed .ends, ap length (i .printed .holds), length-append t (drop (0 + length t) (replicate 4096 0)), length-drop (0 + length t) (replicate {A = ℕ} 4096 0), length-replicate {A = ℕ} 4096 0) in
+      (l, sym (length-take-le size new l))

@@ -1,0 +1,125 @@
+use lib.ListN.{length}
+use Prim.Native.Nat.{_-_, _<_}
+use Rattle.definition.specs.Papers.{fragments}
+use Rattle.paper.specs.View.{fragmentMarked, Marks}
+use Rattle.lines.proofs.Fragments.{Printing, printing-none, printing-more, printing-stops, printing-end}
+use borrow.Author.Needs.{needs}
+use native.Mathlib.Omega.{arith}
+use Rattle.lines.proofs.write_fragments.Statement.{statement}
+use Rattle.lines.proofs.write_fragments.Tie as tie
+
+abbrev Inv-loop : tie.InvT-loop
+Inv-loop paper log₀ out₀ entries count k₀ rows₀ at₀ log out k rows at = Printing paper log₀ out₀ k rows log out at
+
+abbrev μ-loop : tie.MeasureT-loop
+μ-loop paper log₀ out₀ entries count k₀ rows₀ at₀ log out k rows at = count - k
+
+-- what `mark_fragment` promises of fragment k
+marked : (c : tie.After-mark-fragment Inv-loop μ-loop) → let l = c .before .before .before in
+    Marks (fragmentMarked (l .before .before .before .before .before .before .args .paper .now) (l .loop .k) (l .loop .rows) (l .loop .log)) (l .loop .rows) (l .loop .log) (c .mark-fragment .result) (c .mark-fragment .last .1 .1 .1 .0)
+marked c = record { same = c .mark-fragment .ensures .0; logged = c .mark-fragment .ensures .1 .0; room = c .mark-fragment .ensures .1 .1 }
+
+-- one more is left
+more : (c : tie.After-mark-fragment Inv-loop μ-loop) → let l = c .before .before .before in
+    l .loop .k < length (fragments (l .before .before .before .before .before .before .args .paper .now))
+more c =
+    let l = c .before .before .before in
+    omega (arith, c .before .before .loop-test .taken, l .before .fragment-count .ensures)
+
+field-requires : tie.Need-field-requires Inv-loop μ-loop
+field-requires c κs = search needs
+
+cast-entries : tie.Need-cast-entries Inv-loop μ-loop
+cast-entries c = search needs
+
+fragment-count-requires : tie.Need-fragment-count-requires Inv-loop μ-loop
+fragment-count-requires c κs = search needs
+
+loop-holds : tie.Need-loop-holds Inv-loop μ-loop
+loop-holds c = printing-none _ _ _
+
+mark-fragment-requires : tie.Need-mark-fragment-requires Inv-loop μ-loop
+mark-fragment-requires c κs = search needs
+
+add-rows : tie.Need-add-rows Inv-loop μ-loop
+add-rows c = search needs
+
+write-refused-requires : tie.Need-write-refused-requires Inv-loop μ-loop
+write-refused-requires c κs = search needs
+
+same-length : tie.Need-same-length Inv-loop μ-loop
+same-length c = search needs
+
+same-length-2 : tie.Need-same-length-2 Inv-loop μ-loop
+same-length-2 c = search needs
+
+returns : tie.Need-returns Inv-loop μ-loop
+returns c =
+    let w = c .before .before in
+    let b = w .before .before .before .before .before .before .before in
+    let l = b .before .before .before in
+    let s = l .before .before .before .before .before .before in (
+      printing-stops (s .args .paper .now) (s .args .log .now) (s .args .out .now) (l .loop .k) (l .loop .rows) (l .loop .log) (l .loop .out) (l .loop .at) (l .loop .inv) (more b) (b .mark-fragment .result) _ (marked b) (w .before .before .if1 .taken) (w .write-refused .ensures .0),
+      omega (arith, w .write-refused .ensures .1, l .loop .inv .short, more b, s .pre),
+    )
+
+write-line-requires : tie.Need-write-line-requires Inv-loop μ-loop
+write-line-requires c κs = search needs
+
+add-k : tie.Need-add-k Inv-loop μ-loop
+add-k c = search needs
+
+loop-less : tie.Need-loop-less Inv-loop μ-loop
+loop-less c = search needs
+
+loop-again : tie.Need-loop-again Inv-loop μ-loop
+loop-again c =
+    let w = c .before .before in
+    let b = w .before .before .before .before .before .before .before in
+    let l = b .before .before .before in
+    let f = l .before .before in
+    let s = f .before .before .before .before in
+    printing-more (s .args .paper .now) (s .args .log .now) (s .args .out .now) (l .loop .k) (l .loop .rows) (l .loop .log) (l .loop .out) (l .loop .at) (l .loop .inv) (more b) (b .mark-fragment .result) _ (marked b) (b .mark-fragment .kept .1 .1 .1 .0) (w .before .before .if1 .left) (f .field .result) (f .field .ensures .0) (w .write-line .ensures .0) (w .write-line .ensures .1) (w .write-line .kept .0)
+
+write-accepted-requires : tie.Need-write-accepted-requires Inv-loop μ-loop
+write-accepted-requires c κs = search needs
+
+same-length-3 : tie.Need-same-length-3 Inv-loop μ-loop
+same-length-3 c = search needs
+
+same-length-4 : tie.Need-same-length-4 Inv-loop μ-loop
+same-length-4 c = search needs
+
+returns-2 : tie.Need-returns-2 Inv-loop μ-loop
+returns-2 c =
+    let w = c .before .before in
+    let l = w .before .before .before in
+    let s = l .before .before .before .before .before .before in (
+      printing-end (s .args .paper .now) (s .args .log .now) (s .args .out .now) (l .loop .k) (l .loop .rows) (l .loop .log) (l .loop .out) (l .loop .at) (l .loop .inv) (omega (arith, w .before .before .loop-test .left, l .before .fragment-count .ensures)) (w .write-accepted .ensures .0),
+      omega (arith, w .write-accepted .ensures .1, l .loop .inv .short, l .loop .inv .reached, s .pre),
+    )
+
+pub write-fragments-spec : {M : Type 1} → statement M
+write-fragments-spec =
+    tie.close
+    (tie.spec
+    Inv-loop
+    μ-loop
+    field-requires
+    cast-entries
+    fragment-count-requires
+    loop-holds
+    mark-fragment-requires
+    add-rows
+    write-refused-requires
+    same-length
+    same-length-2
+    returns
+    write-line-requires
+    add-k
+    loop-less
+    loop-again
+    write-accepted-requires
+    same-length-3
+    same-length-4
+    returns-2)

@@ -1,0 +1,41 @@
+-- What a text written into lent bytes is, and the parts of a line by the numbers that the code holds.
+use mathlib.Core.Bool.{Bool, true, false}
+use mathlib.Core.List.{List, _++_}
+use mathlib.Core.Path.{_≡_}
+use Prim.Native.Nat.{ℕ, _+_, _-_, _≤_}
+use lib.ListN.{length, take, drop, replicate}
+use Rattle.definition.specs.Basics.{Bytes}
+use Rattle.definition.specs.Lines.{text, labelled, name, linesOf}
+use Rattle.definition.specs.Papers.{PaperMarked}
+use Rattle.lines.specs.declared.Lines.{Lines}
+
+-- the lent bytes with a text in place of those from `at` on
+abbrev pub placed : Bytes → ℕ → Bytes → Bytes
+placed lent at t = take at lent ++ t ++ drop (at + length t) lent
+
+-- the text is written into the lent bytes from `at` on, the rest is as lent, and `next` is the index after it
+pub record Written (lent : Bytes) (at : ℕ) (t : Bytes) (new : Bytes) (next : ℕ) : Type 0 where
+  pub ends : next ≡ at + length t
+  pub holds : new ≡ placed lent at t
+
+-- how a fragment ends: whether it has an end, and its heights
+abbrev pub endText : Bool → ℕ → ℕ → Bytes
+endText true main alt = labelled " end " main ++ labelled " " alt
+endText false main alt = text " end none"
+
+-- the line of an accepted fragment
+abbrev pub lineText : ℕ → ℕ → ℕ → Bytes → Bytes
+lineText entries k peak end = name entries k ++ labelled " peak " peak ++ end ++ text "\n"
+
+-- the lines of a marked paper with so many entries are written from the start on, and the log afterwards is its log
+pub record Prints (entries : ℕ) (m : PaperMarked) (lent : Bytes) (new : Bytes) (next : ℕ) (log : List ℕ) : Type 0 where
+  pub printed : Written lent 0 (linesOf entries m) new next
+  pub logged : log ≡ m .log
+
+-- the struct for a text: its bytes, zeros behind them, and its size
+unfoldable pub linesIn : Bytes → Lines
+linesIn t = record { bytes = t ++ replicate (4096 - length t) 0; size = length t }
+
+-- the size lies within the bytes, in both forms that lending the text asks for
+abbrev pub Within : Lines → Type 0
+Within l = (l .size ≤ length (l .bytes)) × (l .size ≡ length (take (l .size) (l .bytes)))

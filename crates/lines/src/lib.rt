@@ -1,0 +1,237 @@
+// The lines that `stackmark` prints: document 01, section 6. A text is written into lent bytes from an index on; the answer
+// is the index after it.
+ghost use mathlib.Core.List.{[], _∷_, _++_};
+ghost use mathlib.Core.Path.{_≡_};
+ghost use Prim.Native.Nat.{_+_, _≤_, _<_};
+ghost use lib.ListN.{length};
+ghost use Rattle.definition.specs.Lines.{text, decimal, name, refusedLine, printed};
+ghost use Rattle.definition.specs.Papers.{entryCount, fragments, markFrom, markPaper};
+ghost use Rattle.definition.specs.Refusals.{answer};
+ghost use Rattle.definition.specs.Stacks.{builtIn};
+ghost use Rattle.lines.specs.View.{Written, endText, lineText, Prints, linesIn, Within};
+use paper::Dispatch;
+
+// A word, byte by byte.
+fn write_word(out: &mut [u8], at: usize, word: &[u8]) -> usize
+    requires { ⌜ at + length (now word) ≤ length (now out) ⌝ }
+    ensures { λ r. ⌜ Written (now (out .entry)) at (now (word .entry)) (now (out .exit)) r ⌝ }
+{
+    let mut j = 0;
+    while j < word.len() {
+        out[at + j] = word[j];
+        j += 1;
+    }
+    at + j
+}
+
+// A digit.
+fn write_digit(out: &mut [u8], at: usize, d: u64) -> usize
+    requires { ⌜ (at < length (now out)) × (d < 10) ⌝ }
+    ensures { λ r. ⌜ Written (now (out .entry)) at ((48 + d) ∷ []) (now (out .exit)) r ⌝ }
+{
+    out[at] = 48 + d as u8;
+    at + 1
+}
+
+// A number in decimal: all digits but the last, and the last.
+fn write_number(out: &mut [u8], at: usize, n: u64) -> usize
+    requires { ⌜ at + length (decimal n) ≤ length (now out) ⌝ }
+    ensures { λ r. ⌜ Written (now (out .entry)) at (decimal n) (now (out .exit)) r ⌝ }
+{
+    if n < 10 {
+        return write_digit(out, at, n);
+    }
+    let next = write_number(out, at, n / 10);
+    write_digit(out, next, n % 10)
+}
+
+// A word and the number behind it, of at most 20 digits.
+fn write_labelled(out: &mut [u8], at: usize, word: &[u8], n: u64) -> usize
+    requires { ⌜ at + length (now word) + 20 ≤ length (now out) ⌝ }
+    ensures same { λ r. ⌜ Written (now (out .entry)) at (now (word .entry) ++ decimal n) (now (out .exit)) r ⌝ }
+    ensures short { λ r. ⌜ r ≤ at + length (now (word .entry)) + 20 ⌝ }
+{
+    let next = write_word(out, at, word);
+    write_number(out, next, n)
+}
+
+// Fragment k of a paper with so many entries: `entry k`, or `state` at the initialiser.
+fn write_name(out: &mut [u8], at: usize, entries: usize, k: usize) -> usize
+    requires { ⌜ at + 26 ≤ length (now out) ⌝ }
+    ensures same { λ r. ⌜ Written (now (out .entry)) at (name entries k) (now (out .exit)) r ⌝ }
+    ensures short { λ r. ⌜ r ≤ at + 26 ⌝ }
+{
+    if k < entries {
+        return write_labelled(out, at, b"entry ", k as u64);
+    }
+    write_word(out, at, b"state")
+}
+
+// How a fragment ends: `end M A`, or `end none`.
+fn write_end(out: &mut [u8], at: usize, ended: bool, main: u32, alt: u32) -> usize
+    requires { ⌜ at + 46 ≤ length (now out) ⌝ }
+    ensures same { λ r. ⌜ Written (now (out .entry)) at (endText ended main alt) (now (out .exit)) r ⌝ }
+    ensures short { λ r. ⌜ r ≤ at + 46 ⌝ }
+{
+    if ended {
+        let next = write_labelled(out, at, b" end ", main as u64);
+        return write_labelled(out, next, b" ", alt as u64);
+    }
+    write_word(out, at, b" end none")
+}
+
+// The line of an accepted fragment, of at most 99 bytes.
+fn write_line(
+    out: &mut [u8],
+    at: usize,
+    entries: usize,
+    k: usize,
+    peak: u32,
+    ended: bool,
+    main: u32,
+    alt: u32,
+) -> usize
+    requires { ⌜ at + 100 ≤ length (now out) ⌝ }
+    ensures same { λ r.
+        ⌜
+        Written
+        (now (out .entry))
+        at
+        (lineText entries k peak (endText ended main alt))
+        (now (out .exit))
+        r
+        ⌝ }
+    ensures short { λ r. ⌜ r ≤ at + 100 ⌝ }
+{
+    let named = write_name(out, at, entries, k);
+    let peaked = write_labelled(out, named, b" peak ", peak as u64);
+    let next = write_end(out, peaked, ended, main, alt);
+    write_word(out, next, b"\n")
+}
+
+// The last line of a refused paper, of at most 116 bytes.
+fn write_refused(
+    out: &mut [u8],
+    at: usize,
+    number: u32,
+    entry: usize,
+    offset: usize,
+    first: u64,
+    second: u64,
+) -> usize
+    requires { ⌜ at + 120 ≤ length (now out) ⌝ }
+    ensures same { λ r.
+        ⌜
+        Written
+        (now (out .entry))
+        at
+        (refusedLine entry (answer number offset first second))
+        (now (out .exit))
+        r
+        ⌝ }
+    ensures short { λ r. ⌜ r ≤ at + 120 ⌝ }
+{
+    let a = write_labelled(out, at, b"refused ", number as u64);
+    let b = write_labelled(out, a, b" at ", entry as u64);
+    let c = write_labelled(out, b, b" ", offset as u64);
+    let d = write_labelled(out, c, b" ", first);
+    let e = write_labelled(out, d, b" ", second);
+    write_word(out, e, b"\n")
+}
+
+// The last line of an accepted paper.
+fn write_accepted(out: &mut [u8], at: usize) -> usize
+    requires { ⌜ at + 9 ≤ length (now out) ⌝ }
+    ensures same { λ r. ⌜ Written (now (out .entry)) at (text "accepted\n") (now (out .exit)) r ⌝ }
+    ensures short { λ r. ⌜ r ≤ at + 9 ⌝ }
+{
+    write_word(out, at, b"accepted\n")
+}
+
+// The lines of all fragments, each marked in its order with its rows in the log, and the last line. 33 lines of at most 100
+// bytes and one of at most 120 have room in 4,096.
+fn write_fragments(paper: &[u8], log: &mut [u16], out: &mut [u8]) -> usize
+    requires { ⌜ (length (fragments (now paper)) ≤ 33) × (4096 ≤ length (now out)) ⌝ }
+    ensures same { λ r.
+        ⌜
+        Prints
+        (entryCount (now (paper .entry)))
+        (markFrom builtIn 0 0 0 (fragments (now (paper .entry))) (now (log .entry)))
+        (now (out .entry))
+        (now (out .exit))
+        r
+        (now (log .exit))
+        ⌝ }
+    ensures short { λ r. ⌜ r ≤ 4096 ⌝ }
+{
+    let entries = paper::field(paper, 0) as usize;
+    let count = paper::fragment_count(paper);
+    let mut k: usize = 0;
+    let mut rows: usize = 0;
+    let mut at: usize = 0;
+    while k < count {
+        let v = paper::mark_fragment(paper, k, rows, log);
+        rows += v.rows;
+        if v.number != 0 {
+            return write_refused(out, at, v.number, k, v.offset, v.first, v.second);
+        }
+        at = write_line(
+            out,
+            at,
+            entries,
+            k,
+            v.peak,
+            v.ended,
+            v.end.mains,
+            v.end.alts,
+        );
+        k += 1;
+    }
+    write_accepted(out, at)
+}
+
+// The lines of a paper: 21, 19, the dispatch check of each entry, the bodies in order, then the initialiser.
+fn write_lines(paper: &[u8], log: &mut [u16], out: &mut [u8]) -> usize
+    requires { ⌜ 4096 ≤ length (now out) ⌝ }
+    ensures same { λ r.
+        ⌜
+        Prints
+        (entryCount (now (paper .entry)))
+        (markPaper builtIn (now (paper .entry)) (now (log .entry)))
+        (now (out .entry))
+        (now (out .exit))
+        r
+        (now (log .exit))
+        ⌝ }
+    ensures short { λ r. ⌜ r ≤ 4096 ⌝ }
+{
+    if paper.len() > 8000 {
+        return write_refused(out, 0, 21, 0, 0, paper.len() as u64, 8000);
+    }
+    if !paper::header_ok(paper) {
+        return write_refused(out, 0, 19, 0, 0, 0, 0);
+    }
+    let d = paper::dispatch_check(paper);
+    match d {
+        Dispatch::Over { entry, sum } => write_refused(out, 0, 20, entry, 0, sum as u64, 244),
+        Dispatch::Fits => write_fragments(paper, log, out),
+    }
+}
+
+// So many bytes of text, and zeros behind them.
+pub struct Lines {
+    pub bytes: [u8; 4096],
+    pub size: usize,
+}
+
+// Marks a paper, and gives the lines that are printed of it. Every input comes to its lines.
+pub fn mark_lines(paper: &[u8], log: &mut [u16]) -> Lines
+    ensures same { λ r. ⌜ r ≡ linesIn (printed builtIn (now (paper .entry)) (now (log .entry))) ⌝ }
+    ensures logged { λ r.
+        ⌜ now (log .exit) ≡ markPaper builtIn (now (paper .entry)) (now (log .entry)) .log ⌝ }
+    ensures within { λ r. ⌜ Within r ⌝ }
+{
+    let mut bytes = [0u8; 4096];
+    let size = write_lines(paper, log, &mut bytes);
+    Lines { bytes, size }
+}

@@ -1,0 +1,19 @@
+-- An input cut at 8,001 bytes, and one that is not.
+use mathlib.Core.Path.{_≡_, ap, sym, _∙_}
+use Prim.Native.Nat.{ℕ, _≤_}
+use lib.ListN.{length, take, replicate}
+use lib.Seq.{take-all}
+use Rattle.definition.specs.Basics.{Bytes}
+use Rattle.definition.specs.Lines.{printed, stackmark}
+use Rattle.definition.specs.Stacks.{builtIn}
+use Rattle.lines.specs.View.{linesIn}
+use Rattle.lines.specs.declared.Lines.{Lines}
+
+module _ (input : Bytes) (r : Lines) where
+  pub input-cut : r ≡ linesIn (printed builtIn (take 8001 input) (replicate 24000 0)) → r ≡ linesIn (stackmark input)
+  unfolding stackmark
+  input-cut e = e
+
+  pub input-whole : length input ≤ 8001 → r ≡ linesIn (printed builtIn input (replicate 24000 0)) → r ≡ linesIn (stackmark input)
+  unfolding stackmark
+  input-whole h e = e ∙ ap (λ (l : Bytes). linesIn (printed builtIn l (replicate 24000 0))) (sym (take-all 8001 input h))

@@ -1,0 +1,28 @@
+// `stackmark` reads a paper from standard input, marks it and prints the lines of document 01, section 6. No contract can
+// speak of what a program reads or writes: the work is `marked`.
+ghost use mathlib.Core.Path.{_≡_};
+ghost use Rattle.definition.specs.Lines.{stackmark};
+ghost use Rattle.lines.specs.View.{linesIn, Within};
+use lines::Lines;
+
+// The lines that are printed of an input: at most 8,001 bytes of it are read, and a log of 24,000 numbers is lent.
+fn marked(input: &[u8]) -> Lines
+    ensures same { λ r. ⌜ r ≡ linesIn (stackmark (now (input .entry))) ⌝ }
+    ensures within { λ r. ⌜ Within r ⌝ }
+{
+    let mut log = [0u16; 24000];
+    if input.len() > 8001 {
+        return lines::mark_lines(&input[..8001], &mut log);
+    }
+    lines::mark_lines(input, &mut log)
+}
+
+// Reads until 8,001 bytes are held, the input ends or a read fails, however few bytes a read gives.
+fn main() {
+    let mut input = [0u8; 8001];
+    let n = io::read_full(0, &mut input);
+    let l = marked(&input[..n]);
+    let bytes = l.bytes;
+    let size = l.size;
+    io::write_all(1, &bytes[..size]);
+}
