@@ -15,6 +15,10 @@ use Rattle.paper.specs.declared.Dispatch.{Dispatch}
 use Rattle.paper.specs.declared.Dispatch.the-variants.{Fits, Over}
 use Rattle.paper.specs.declared.PaperVerdict.{PaperVerdict}
 
+-- Offset and length of part k stand at 4 + 6 * k, the initialiser being part 0; E is below 65,536, and so is no part's further on.
+abbrev pub lastPart : ℕ
+lastPart = 4 + 6 * 65536
+
 -- n parts, offset and length of the first of them at this offset
 abbrev pub partsAt : Bytes → ℕ → ℕ → List Part
 partsAt paper offset zero = []
