@@ -8,7 +8,7 @@ use Prim.Native.Nat.{ℕ, zero, suc, _+_, _*_, _≤_, _<_, max}
 use native.Mathlib.Omega.{arith}
 use borrow.Author.Tests.{eqb-true, eqb-false}
 use lib.Dec.{ltb, eqb}
-use lib.ListN.{length, take, drop, length-append, length-drop}
+use lib.ListN.{length, take, drop, length-take, length-drop}
 use lib.Seq.{length-take-le, take-at, drop-at, take-take, drop-drop}
 use Rattle.definition.specs.Basics.{Bytes, pick}
 use Rattle.definition.specs.Decoding.{Instruction, decode, instructions}
@@ -88,29 +88,23 @@ same-heights from n a b e k h = two a ∙ ap (λ l. take 2 (drop (from + (3 * k 
     two : (l : List ℕ) → heightsAt k (drop from l) ≡ take 2 (drop (from + (3 * k + 1)) (take n l))
     two l = ap (λ r. take 2 r) (drop-drop (3 * k + 1) from l) ∙ sym (within-front (from + (3 * k + 1)) 2 n l (omega arith))
 
--- the log after an accepted analysis behind so many rows, and a last log that keeps the rows up to its own
-module _ (rows : ℕ) (log : List ℕ) (is : List Instruction) (m : Marked) (lent : 3 * rows ≤ length log) (r : Rows is (drop (3 * rows) log) m) where
-  abbrev out : List ℕ
-  out = take (3 * rows) log ++ m .log
-
-  front-length : length (take (3 * rows) log) ≡ 3 * rows
-  front-length = length-take-le (3 * rows) log lent
-
+-- a log with the rows before it as they were and then what the analysis left, and a last log that keeps all rows so far
+module _ (rows : ℕ) (log out : List ℕ) (is : List Instruction) (m : Marked) (lent : 3 * rows ≤ length log) (r : Rows is (drop (3 * rows) log) m)
+    (front : take (3 * rows) out ≡ take (3 * rows) log) (behind : drop (3 * rows) out ≡ m .log) where
   still-lent : 3 * (rows + m .verdict .rows) ≤ length out
   still-lent =
-      let l : length out ≡ length (take (3 * rows) log) + length (m .log) = length-append (take (3 * rows) log) (m .log) in
-      omega (arith, l, front-length, r .all, r .room, r .kept)
+      let f : length (take (3 * rows) out) ≡ 3 * rows = ap length front ∙ length-take-le (3 * rows) log lent in
+      omega (arith, f, length-take (3 * rows) out, ap length behind, length-drop (3 * rows) out, r .all, r .room, r .kept)
 
   module _ (last : List ℕ) (keeps : take (3 * (rows + m .verdict .rows)) last ≡ take (3 * (rows + m .verdict .rows)) out) where
     keeps-before : take (3 * rows) last ≡ take (3 * rows) log
     keeps-before =
         sym (take-take (3 * rows) (3 * (rows + m .verdict .rows)) last (omega arith)) ∙ ap (λ l. take (3 * rows) l) keeps
-        ∙ take-take (3 * rows) (3 * (rows + m .verdict .rows)) out (omega arith) ∙ take-at (take (3 * rows) log) (m .log) (3 * rows) front-length
+        ∙ take-take (3 * rows) (3 * (rows + m .verdict .rows)) out (omega arith) ∙ front
 
     keeps-heights : (k : ℕ) → k < length is → heightsAt k (m .log) ≡ heightsAt k (drop (3 * rows) last)
     keeps-heights k h =
-        ap (λ l. heightsAt k l) (sym (drop-at (take (3 * rows) log) (m .log) (3 * rows) front-length))
-        ∙ sym (same-heights (3 * rows) (3 * (rows + m .verdict .rows)) last out keeps k (omega (arith, r .all)))
+        ap (λ l. heightsAt k l) (sym behind) ∙ sym (same-heights (3 * rows) (3 * (rows + m .verdict .rows)) last out keeps k (omega (arith, r .all)))
 
 -- The fragments one after another
 
@@ -124,7 +118,9 @@ trueFrom : (k rows peak : ℕ) (fs : List Fragment) (log : List ℕ) → 3 * row
 unfolding markFrom EachTrue
 trueFrom k rows peak [] log l h = (refl, tt)
 trueFrom k rows peak (f ∷ fs) log l h =
-    by (λ s g. trueFrom (k + 1) (rows + v .rows) (max peak (v .peak)) fs after-it s g) (eqb (v .answer .number) 0) refl h
+    by _ (eqb (v .answer .number) 0) refl h (λ s g. trueFrom (k + 1) (rows + v .rows) (max peak (v .peak)) fs _ s g)
+    (take-at (take (3 * rows) log) (m .log) (3 * rows) (length-take-le (3 * rows) log l))
+    (drop-at (take (3 * rows) log) (m .log) (3 * rows) (length-take-le (3 * rows) log l))
   where
     is : List Instruction
     is = instructions (decode (f .bytes))
@@ -135,31 +131,29 @@ trueFrom k rows peak (f ∷ fs) log l h =
     v : Verdict
     v = m .verdict
 
-    after-it : List ℕ
-    after-it = take (3 * rows) log ++ m .log
+    rest : List ℕ → PaperMarked
+    rest out = markFrom builtIn (k + 1) (rows + v .rows) (max peak (v .peak)) fs out
 
-    rest : PaperMarked
-    rest = markFrom builtIn (k + 1) (rows + v .rows) (max peak (v .peak)) fs after-it
-
-    stop : PaperMarked
-    stop = record {
+    stop : List ℕ → PaperMarked
+    stop out = record {
       paper = record { entry = k; verdict = record { answer = v .answer; rows = rows + v .rows; peak = 0; end = dead } };
       verdicts = [];
-      log = after-it;
+      log = out;
     }
 
-    by : (3 * (rows + v .rows) ≤ length after-it → rest .paper .verdict .answer .number ≡ 0 → Marks (rows + v .rows) fs after-it rest)
-        → (b : Bool) → eqb (v .answer .number) 0 ≡ b → pick b (after v rest) stop .paper .verdict .answer .number ≡ 0
-        → Marks rows (f ∷ fs) log (pick b (after v rest) stop)
-    by onward true e h =
+    by : (out : List ℕ) (b : Bool) → eqb (v .answer .number) 0 ≡ b → pick b (after v (rest out)) (stop out) .paper .verdict .answer .number ≡ 0
+        → (3 * (rows + v .rows) ≤ length out → rest out .paper .verdict .answer .number ≡ 0 → Marks (rows + v .rows) fs out (rest out))
+        → take (3 * rows) out ≡ take (3 * rows) log → drop (3 * rows) out ≡ m .log → Marks rows (f ∷ fs) log (pick b (after v (rest out)) (stop out))
+    by out true e h onward front behind =
         let z : v .answer .number ≡ 0 = eqb-true (v .answer .number) 0 e in
         let r = analysis-rows builtIn (f .bytes) (f .main) (f .alt) (drop (3 * rows) log) z in
-        let t = onward (still-lent rows log is m l r) h in
+        let t = onward (still-lent rows log out is m l r front behind) h in
         let d =
-        other-log builtIn is (unknowns (f .main) (f .alt)) m (drop (3 * rows) (rest .log)) (keeps-heights rows log is m l r (rest .log) (t .0))
+        other-log builtIn is (unknowns (f .main) (f .alt)) m (drop (3 * rows) (rest out .log))
+        (keeps-heights rows log out is m l r front behind (rest out .log) (t .0))
         (trueOfEveryReplay (f .bytes) (f .main) (f .alt) (drop (3 * rows) log) z) in
-        (keeps-before rows log is m l r (rest .log) (t .0), (d, t .1))
-    by onward false e h = absurd (eqb-false (v .answer .number) 0 e h)
+        (keeps-before rows log out is m l r front behind (rest out .log) (t .0), (d, t .1))
+    by out false e h onward front behind = absurd (eqb-false (v .answer .number) 0 e h)
 
 -- The whole paper
 

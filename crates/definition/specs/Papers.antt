@@ -191,8 +191,8 @@ markPaper R paper log =
 
 -- What acceptance of a paper means
 
--- demand 3 of each of these fragments, from its start heights: of its verdict, and of its rows in this log, the first of them
--- at row `rows`
+-- demand 3 of each of these fragments, from its start heights: of its verdict, one to a fragment, and of its rows in this log,
+-- the first of them at row `rows`
 unfoldable pub EachTrue : Rules → ℕ → List Fragment → List Verdict → List ℕ → Type 0
 EachTrue R rows [] [] log = Unit {0}
 EachTrue R rows [] (v ∷ vs) log = ⊥

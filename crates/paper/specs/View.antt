@@ -15,9 +15,10 @@ use Rattle.paper.specs.declared.Dispatch.{Dispatch}
 use Rattle.paper.specs.declared.Dispatch.the-variants.{Fits, Over}
 use Rattle.paper.specs.declared.PaperVerdict.{PaperVerdict}
 
--- Offset and length of part k stand at 4 + 6 * k, the initialiser being part 0; E is below 65,536, and so is no part's further on.
+-- where offset and length of the last part stand at most: those of part k stand at 4 + 6 * k, the initialiser is part 0, and
+-- E is at most 65,535
 abbrev pub lastPart : ℕ
-lastPart = 4 + 6 * 65536
+lastPart = 4 + 6 * 65535
 
 -- n parts, offset and length of the first of them at this offset
 abbrev pub partsAt : Bytes → ℕ → ℕ → List Part
