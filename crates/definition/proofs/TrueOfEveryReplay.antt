@@ -202,7 +202,8 @@ refused-number at (dispatchTooLarge n m) h = omega (arith, h)
 -- what holds wherever the walk passes with room in the log holds of an accepted analysis
 module _ (R : Rules) (P : Marked → Type 0) where
   ofCode : (code : Code) (s : Stacks Item) (log : List ℕ)
-      → ((t : State) → 3 * length (instructions code) ≤ length log → walk R (instructions code) (begin s log) ≡ passed t → P (marked (passed t)))
+      → ((t : State) → 3 * length (instructions code) ≤ length log → walk R (instructions code) (begin s log) ≡ passed t
+      → P (marked (passed t)))
       → analysisOf R code s log .verdict .answer .number ≡ 0 → P (analysisOf R code s log)
   unfolding analysisOf
   ofCode code s log f h = whole (malformedAt code) h
@@ -210,7 +211,8 @@ module _ (R : Rules) (P : Marked → Type 0) where
       is : List Instruction
       is = instructions code
 
-      ended : 3 * length is ≤ length log → (w : Walked) → walk R is (begin s log) ≡ w → marked w .verdict .answer .number ≡ 0 → P (marked w)
+      ended : 3 * length is ≤ length log → (w : Walked) → walk R is (begin s log) ≡ w → marked w .verdict .answer .number ≡ 0
+          → P (marked w)
       ended l (passed t) e h = f t l e
       ended l (stopped r t) e h = absurd (refused-number (t .offset) r h)
 
@@ -250,7 +252,8 @@ module _ (R : Rules) (small : R .limit < 65535) where
   pub trueOfCode : (code : Code) (s : Stacks Item) (log : List ℕ) → total s ≤ R .limit → ExactBytes s
       → analysisOf R code s log .verdict .answer .number ≡ 0 → Demand3 R (instructions code) s (analysisOf R code s log)
   trueOfCode code s log start exacts h =
-      ofCode R (Demand3 R (instructions code) s) code s log (λ t l e. trueOfWalk R (instructions code) s log t small start exacts l e) h
+      ofCode R (Demand3 R (instructions code) s) code s log
+      (λ t l e. trueOfWalk R (instructions code) s log t small start exacts l e) h
 
   unknown-strings : (n : ℕ) → AreStrings (stringsFor (replicate n unknown))
   unknown-strings zero = tt

@@ -24,8 +24,8 @@ use Rattle.definition.proofs.TrueOfEveryReplay.{ofAnalysis, trueOfEvery
 
 -- a replay reaches places below the number of instructions
 module _ (R : Rules) (k : ℕ) (u : Stacks Bytes) where
-  traced-below : (n : ℕ) (a : Carried) (s : Stacks Bytes) (next : Mode → Replay → Trace) → ((m : Mode) (r : Replay) → Reaches k u (next m r) → k < n)
-      → Reaches k u (traced a s next) → k < n
+  traced-below : (n : ℕ) (a : Carried) (s : Stacks Bytes) (next : Mode → Replay → Trace)
+      → ((m : Mode) (r : Replay) → Reaches k u (next m r) → k < n) → Reaches k u (traced a s next) → k < n
   traced-below n (goesOn m r) s next f h = f m r h
   traced-below n halts s next f h = absurd h
   traced-below n faults s next f h = absurd h
@@ -41,8 +41,9 @@ module _ (R : Rules) (k : ℕ) (u : Stacks Bytes) where
   reached-below (i ∷ is) j (toEndif n) r h = omega (arith, reached-below is (j + 1) (pastEndif (R .classOf (i .opcode)) n) r h)
 
 -- demand 3 holds of any log with the same heights for each instruction
-other-log : (R : Rules) (is : List Instruction) (s : Stacks Item) (m : Marked) (log : List ℕ) → ((k : ℕ) → k < length is → heightsAt k (m .log) ≡ heightsAt k log)
-    → Demand3 R is s m → Demand3 R is s (record { verdict = m .verdict; log = log })
+other-log : (R : Rules) (is : List Instruction) (s : Stacks Item) (m : Marked) (log : List ℕ)
+    → ((k : ℕ) → k < length is → heightsAt k (m .log) ≡ heightsAt k log) → Demand3 R is s m
+    → Demand3 R is s (record { verdict = m .verdict; log = log })
 other-log R is s m log e d = record {
   noFault = d .noFault;
   withinLimit = d .withinLimit;
@@ -62,7 +63,8 @@ record Rows (is : List Instruction) (log : List ℕ) (m : Marked) : Type 0 where
   pub room : 3 * length is ≤ length log
   pub kept : length (m .log) ≡ length log
 
-analysis-rows : (R : Rules) (fragment : Bytes) (main alt : ℕ) (log : List ℕ) → analysis R fragment main alt log .verdict .answer .number ≡ 0
+analysis-rows : (R : Rules) (fragment : Bytes) (main alt : ℕ) (log : List ℕ)
+    → analysis R fragment main alt log .verdict .answer .number ≡ 0
     → Rows (instructions (decode fragment)) log (analysis R fragment main alt log)
 analysis-rows R fragment main alt log h =
     let is : List Instruction = instructions (decode fragment) in
@@ -82,15 +84,17 @@ within-front (suc i) j zero l h = absurd (omega arith)
 within-front (suc i) j (suc n) [] h = refl
 within-front (suc i) j (suc n) (x ∷ l) h = within-front i j n l (omega arith)
 
-same-heights : (from n : ℕ) (a b : List ℕ) → take n a ≡ take n b → (k : ℕ) → from + 3 * (k + 1) ≤ n → heightsAt k (drop from a) ≡ heightsAt k (drop from b)
+same-heights : (from n : ℕ) (a b : List ℕ) → take n a ≡ take n b → (k : ℕ) → from + 3 * (k + 1) ≤ n
+    → heightsAt k (drop from a) ≡ heightsAt k (drop from b)
 same-heights from n a b e k h = two a ∙ ap (λ l. take 2 (drop (from + (3 * k + 1)) l)) e ∙ sym (two b)
   where
     two : (l : List ℕ) → heightsAt k (drop from l) ≡ take 2 (drop (from + (3 * k + 1)) (take n l))
     two l = ap (λ r. take 2 r) (drop-drop (3 * k + 1) from l) ∙ sym (within-front (from + (3 * k + 1)) 2 n l (omega arith))
 
 -- a log with the rows before it as they were and then what the analysis left, and a last log that keeps all rows so far
-module _ (rows : ℕ) (log out : List ℕ) (is : List Instruction) (m : Marked) (lent : 3 * rows ≤ length log) (r : Rows is (drop (3 * rows) log) m)
-    (front : take (3 * rows) out ≡ take (3 * rows) log) (behind : drop (3 * rows) out ≡ m .log) where
+module _ (rows : ℕ) (log out : List ℕ) (is : List Instruction) (m : Marked) (lent : 3 * rows ≤ length log)
+    (r : Rows is (drop (3 * rows) log) m) (front : take (3 * rows) out ≡ take (3 * rows) log)
+    (behind : drop (3 * rows) out ≡ m .log) where
   still-lent : 3 * (rows + m .verdict .rows) ≤ length out
   still-lent =
       let f : length (take (3 * rows) out) ≡ 3 * rows = ap length front ∙ length-take-le (3 * rows) log lent in
@@ -104,7 +108,8 @@ module _ (rows : ℕ) (log out : List ℕ) (is : List Instruction) (m : Marked) 
 
     keeps-heights : (k : ℕ) → k < length is → heightsAt k (m .log) ≡ heightsAt k (drop (3 * rows) last)
     keeps-heights k h =
-        ap (λ l. heightsAt k l) (sym behind) ∙ sym (same-heights (3 * rows) (3 * (rows + m .verdict .rows)) last out keeps k (omega (arith, r .all)))
+        ap (λ l. heightsAt k l) (sym behind)
+        ∙ sym (same-heights (3 * rows) (3 * (rows + m .verdict .rows)) last out keeps k (omega (arith, r .all)))
 
 -- The fragments one after another
 
@@ -114,7 +119,8 @@ Marks rows fs log m = (take (3 * rows) (m .log) ≡ take (3 * rows) log) × (Eac
 
 -- of the fragments from one on
 trueFrom : (k rows peak : ℕ) (fs : List Fragment) (log : List ℕ) → 3 * rows ≤ length log
-    → markFrom builtIn k rows peak fs log .paper .verdict .answer .number ≡ 0 → Marks rows fs log (markFrom builtIn k rows peak fs log)
+    → markFrom builtIn k rows peak fs log .paper .verdict .answer .number ≡ 0
+    → Marks rows fs log (markFrom builtIn k rows peak fs log)
 unfolding markFrom EachTrue
 trueFrom k rows peak [] log l h = (refl, tt)
 trueFrom k rows peak (f ∷ fs) log l h =
@@ -141,9 +147,12 @@ trueFrom k rows peak (f ∷ fs) log l h =
       log = out;
     }
 
-    by : (out : List ℕ) (b : Bool) → eqb (v .answer .number) 0 ≡ b → pick b (after v (rest out)) (stop out) .paper .verdict .answer .number ≡ 0
-        → (3 * (rows + v .rows) ≤ length out → rest out .paper .verdict .answer .number ≡ 0 → Marks (rows + v .rows) fs out (rest out))
-        → take (3 * rows) out ≡ take (3 * rows) log → drop (3 * rows) out ≡ m .log → Marks rows (f ∷ fs) log (pick b (after v (rest out)) (stop out))
+    by : (out : List ℕ) (b : Bool) → eqb (v .answer .number) 0 ≡ b
+        → pick b (after v (rest out)) (stop out) .paper .verdict .answer .number ≡ 0
+        → (3 * (rows + v .rows) ≤ length out → rest out .paper .verdict .answer .number ≡ 0
+        → Marks (rows + v .rows) fs out (rest out))
+        → take (3 * rows) out ≡ take (3 * rows) log → drop (3 * rows) out ≡ m .log
+        → Marks rows (f ∷ fs) log (pick b (after v (rest out)) (stop out))
     by out true e h onward front behind =
         let z : v .answer .number ≡ 0 = eqb-true (v .answer .number) 0 e in
         let r = analysis-rows builtIn (f .bytes) (f .main) (f .alt) (drop (3 * rows) log) z in
