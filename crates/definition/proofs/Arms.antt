@@ -120,6 +120,11 @@ module _ (R : Rules) (t : State) where
   log-length [] s h = ap (λ (u : State). length (u .log)) (sym (at-end s h .1))
   log-length (i ∷ is) s h = goes-on i is s h (λ c fs e g. log-length is (onward c fs (met i s)) g ∙ row-length (s .rows) (i .offset) (s .arm) (s .log))
 
+  -- there is a row for every instruction
+  pub rows-all : (is : List Instruction) (s : State) → walk R is s ≡ passed t → t .rows ≡ s .rows + length is
+  rows-all [] s h = omega (arith, ap (λ (u : State). u .rows) (at-end s h .1))
+  rows-all (i ∷ is) s h = goes-on i is s h (λ c fs e g. omega (arith, rows-all is (onward c fs (met i s)) g))
+
   -- each instruction's row is that of the arm before it
   pub row-at : (is : List Instruction) (s : State) → walk R is s ≡ passed t → 3 * (s .rows + length is) ≤ length (s .log)
       → (j : ℕ) → j < length is → Row (t .log) (s .rows + j) (armAt R is (s .arm) (s .frames) j)

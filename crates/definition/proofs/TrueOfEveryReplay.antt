@@ -199,29 +199,61 @@ refused-number at (stacksFull n m) h = omega (arith, h)
 refused-number at (mainDry n m) h = omega (arith, h)
 refused-number at (dispatchTooLarge n m) h = omega (arith, h)
 
-module _ (R : Rules) (small : R .limit < 65535) where
-  -- of decoded code, from any stacks within the limit whose exact items are byte strings
-  pub trueOfCode : (code : Code) (s : Stacks Item) (log : List ℕ) → total s ≤ R .limit → ExactBytes s
-      → analysisOf R code s log .verdict .answer .number ≡ 0 → Demand3 R (instructions code) s (analysisOf R code s log)
+-- what holds wherever the walk passes with room in the log holds of an accepted analysis
+module _ (R : Rules) (P : Marked → Type 0) where
+  ofCode : (code : Code) (s : Stacks Item) (log : List ℕ)
+      → ((t : State) → 3 * length (instructions code) ≤ length log → walk R (instructions code) (begin s log) ≡ passed t
+      → P (marked (passed t)))
+      → analysisOf R code s log .verdict .answer .number ≡ 0 → P (analysisOf R code s log)
   unfolding analysisOf
-  trueOfCode code s log start exacts h = whole (malformedAt code) h
+  ofCode code s log f h = whole (malformedAt code) h
     where
       is : List Instruction
       is = instructions code
 
-      ended : 3 * length is ≤ length log → (w : Walked) → walk R is (begin s log) ≡ w → marked w .verdict .answer .number ≡ 0 → Demand3 R is s (marked w)
-      ended l (passed t) e h = trueOfWalk R is s log t small start exacts l e
+      ended : 3 * length is ≤ length log → (w : Walked) → walk R is (begin s log) ≡ w → marked w .verdict .answer .number ≡ 0
+          → P (marked w)
+      ended l (passed t) e h = f t l e
       ended l (stopped r t) e h = absurd (refused-number (t .offset) r h)
 
       lent : (b : Bool) → leb (3 * length is) (length log) ≡ b
           → pick b (marked (walk R is (begin s log))) (refusedEarly 0 (shortLog (3 * length is) (length log)) log) .verdict .answer .number ≡ 0
-          → Demand3 R is s (pick b (marked (walk R is (begin s log))) (refusedEarly 0 (shortLog (3 * length is) (length log)) log))
+          → P (pick b (marked (walk R is (begin s log))) (refusedEarly 0 (shortLog (3 * length is) (length log)) log))
       lent true e h = ended (leb-true (3 * length is) (length log) e) (walk R is (begin s log)) refl h
       lent false e h = absurd (omega (arith, h))
 
-      whole : (m : Option ℕ) → tested R m is s log .verdict .answer .number ≡ 0 → Demand3 R is s (tested R m is s log)
+      whole : (m : Option ℕ) → tested R m is s log .verdict .answer .number ≡ 0 → P (tested R m is s log)
       whole (some offset) h = absurd (omega (arith, h))
       whole none h = lent (leb (3 * length is) (length log)) refl h
+
+  pub ofAnalysis : (fragment : Bytes) (main alt : ℕ) (log : List ℕ)
+      → (main + alt ≤ R .limit → (t : State) → 3 * length (instructions (decode fragment)) ≤ length log
+      → walk R (instructions (decode fragment)) (begin (unknowns main alt) log) ≡ passed t → P (marked (passed t)))
+      → analysis R fragment main alt log .verdict .answer .number ≡ 0 → P (analysis R fragment main alt log)
+  unfolding analysis
+  ofAnalysis fragment main alt log f h = long (ltb maxFragment (length fragment)) h
+    where
+      large : (b : Bool) → ltb (R .limit) (main + alt) ≡ b
+          → pick b (refusedEarly 0 (startTooLarge (main + alt) (R .limit)) log) (analysisOf R (decode fragment) (unknowns main alt) log) .verdict .answer .number ≡ 0
+          → P (pick b (refusedEarly 0 (startTooLarge (main + alt) (R .limit)) log) (analysisOf R (decode fragment) (unknowns main alt) log))
+      large true e h = absurd (omega (arith, h))
+      large false e h = ofCode (decode fragment) (unknowns main alt) log (f (ltb-false (R .limit) (main + alt) e)) h
+
+      rest : Marked
+      rest = pick (ltb (R .limit) (main + alt)) (refusedEarly 0 (startTooLarge (main + alt) (R .limit)) log) (analysisOf R (decode fragment) (unknowns main alt) log)
+
+      long : (b : Bool) → pick b (refusedEarly 0 (longFragment (length fragment)) log) rest .verdict .answer .number ≡ 0
+          → P (pick b (refusedEarly 0 (longFragment (length fragment)) log) rest)
+      long true h = absurd (omega (arith, h))
+      long false h = large (ltb (R .limit) (main + alt)) refl h
+
+module _ (R : Rules) (small : R .limit < 65535) where
+  -- of decoded code, from any stacks within the limit whose exact items are byte strings
+  pub trueOfCode : (code : Code) (s : Stacks Item) (log : List ℕ) → total s ≤ R .limit → ExactBytes s
+      → analysisOf R code s log .verdict .answer .number ≡ 0 → Demand3 R (instructions code) s (analysisOf R code s log)
+  trueOfCode code s log start exacts h =
+      ofCode R (Demand3 R (instructions code) s) code s log
+      (λ t l e. trueOfWalk R (instructions code) s log t small start exacts l e) h
 
   unknown-strings : (n : ℕ) → AreStrings (stringsFor (replicate n unknown))
   unknown-strings zero = tt
@@ -229,27 +261,11 @@ module _ (R : Rules) (small : R .limit < 65535) where
 
   -- of a fragment, from so many unknown items, for any rules with a limit below 65,535
   pub trueOfAnalysis : (fragment : Bytes) (main alt : ℕ) (log : List ℕ) → TrueOfEveryReplay R fragment main alt log
-  unfolding analysis
-  trueOfAnalysis fragment main alt log h = long (ltb maxFragment (length fragment)) h
-    where
-      is : List Instruction
-      is = instructions (decode fragment)
-
-      large : (b : Bool) → ltb (R .limit) (main + alt) ≡ b
-          → pick b (refusedEarly 0 (startTooLarge (main + alt) (R .limit)) log) (analysisOf R (decode fragment) (unknowns main alt) log) .verdict .answer .number ≡ 0
-          → Demand3 R is (unknowns main alt) (pick b (refusedEarly 0 (startTooLarge (main + alt) (R .limit)) log) (analysisOf R (decode fragment) (unknowns main alt) log))
-      large true e h = absurd (omega (arith, h))
-      large false e h =
-          trueOfCode (decode fragment) (unknowns main alt) log (simp length-replicate (ltb-false (R .limit) (main + alt) e))
-          (record { main = unknown-strings main; alt = unknown-strings alt }) h
-
-      rest : Marked
-      rest = pick (ltb (R .limit) (main + alt)) (refusedEarly 0 (startTooLarge (main + alt) (R .limit)) log) (analysisOf R (decode fragment) (unknowns main alt) log)
-
-      long : (b : Bool) → pick b (refusedEarly 0 (longFragment (length fragment)) log) rest .verdict .answer .number ≡ 0
-          → Demand3 R is (unknowns main alt) (pick b (refusedEarly 0 (longFragment (length fragment)) log) rest)
-      long true h = absurd (omega (arith, h))
-      long false h = large (ltb (R .limit) (main + alt)) refl h
+  trueOfAnalysis fragment main alt log h =
+      let is : List Instruction = instructions (decode fragment) in
+      ofAnalysis R (Demand3 R is (unknowns main alt)) fragment main alt log
+      (λ start t l e. trueOfWalk R is (unknowns main alt) log t small (simp length-replicate start)
+      (record { main = unknown-strings main; alt = unknown-strings alt }) l e) h
 
 -- Demand 3: of every fragment, start heights and log, if the analysis accepts, what it answers is true of every replay.
 pub trueOfEveryReplay : (fragment : Bytes) (main alt : ℕ) (log : List ℕ) → TrueOfEveryReplay builtIn fragment main alt log

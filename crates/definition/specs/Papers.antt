@@ -191,17 +191,22 @@ markPaper R paper log =
 
 -- What acceptance of a paper means
 
--- demand 3 of each of these fragments, from its start heights, on what the log has left behind the rows before it
-unfoldable pub EachTrue : Rules → ℕ → List Fragment → List ℕ → Type 0
-EachTrue R rows [] log = Unit {0}
-EachTrue R rows (f ∷ fs) log =
-    let m : Marked = analysis R (f .bytes) (f .main) (f .alt) (drop (3 * rows) log) in
-    (Demand3 R (instructions (decode (f .bytes))) (unknowns (f .main) (f .alt)) m)
-    × (EachTrue R (rows + m .verdict .rows) fs (take (3 * rows) log ++ m .log))
+-- demand 3 of each of these fragments, from its start heights: of its verdict, one to a fragment, and of its rows in this log,
+-- the first of them at row `rows`
+unfoldable pub EachTrue : Rules → ℕ → List Fragment → List Verdict → List ℕ → Type 0
+EachTrue R rows [] [] log = Unit {0}
+EachTrue R rows [] (v ∷ vs) log = ⊥
+EachTrue R rows (f ∷ fs) [] log = ⊥
+EachTrue R rows (f ∷ fs) (v ∷ vs) log =
+    let m : Marked = record { verdict = v; log = drop (3 * rows) log } in
+    (Demand3 R (instructions (decode (f .bytes))) (unknowns (f .main) (f .alt)) m) × (EachTrue R (rows + v .rows) fs vs log)
 
--- demand 3 as one claim about a paper: where it is accepted, what was answered for each fragment is true of every replay
+-- demand 3 as one claim about a paper: where it is accepted, its verdicts and its log, as they are in the end, are true of every
+-- replay of each fragment
 abbrev pub TrueOfPaper : Rules → Bytes → List ℕ → Type 0
-TrueOfPaper R paper log = markPaper R paper log .paper .verdict .answer .number ≡ 0 → EachTrue R 0 (fragments paper) log
+TrueOfPaper R paper log =
+    let m : PaperMarked = markPaper R paper log in
+    m .paper .verdict .answer .number ≡ 0 → EachTrue R 0 (fragments paper) (m .verdicts) (m .log)
 
 -- The display
 

@@ -183,6 +183,8 @@ module _ (p : Bytes) (log : List ℕ) where
 
 -- what acceptance means
 pub paper-replays : (p : Bytes) (log : List ℕ) (r : PaperVerdict) (new : List ℕ) → Answers r new (markPaper builtIn p log) → r .number ≡ 0
-    → EachTrue builtIn 0 (fragments p) log
+    → EachTrue builtIn 0 (fragments p) (markPaper builtIn p log .verdicts) new
 unfolding paperOf
-paper-replays p log r new m h = trueOfPaper p log (sym (ap (λ (u : P.PaperVerdict). u .verdict .answer .number) (m .same)) ∙ h)
+paper-replays p log r new m h =
+    subst (λ l. EachTrue builtIn 0 (fragments p) (markPaper builtIn p log .verdicts) l) (sym (m .logged))
+    (trueOfPaper p log (sym (ap (λ (u : P.PaperVerdict). u .verdict .answer .number) (m .same)) ∙ h))

@@ -15,6 +15,11 @@ use Rattle.paper.specs.declared.Dispatch.{Dispatch}
 use Rattle.paper.specs.declared.Dispatch.the-variants.{Fits, Over}
 use Rattle.paper.specs.declared.PaperVerdict.{PaperVerdict}
 
+-- where offset and length of the last part stand at most: those of part k stand at 4 + 6 * k, the initialiser is part 0, and
+-- E is at most 65,535
+abbrev pub lastPart : ℕ
+lastPart = 4 + 6 * 65535
+
 -- n parts, offset and length of the first of them at this offset
 abbrev pub partsAt : Bytes → ℕ → ℕ → List Part
 partsAt paper offset zero = []

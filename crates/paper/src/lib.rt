@@ -8,7 +8,7 @@ ghost use Rattle.definition.specs.Stacks.{builtIn};
 ghost use Rattle.definition.specs.Refusals.{answer};
 ghost use Rattle.definition.specs.Walk.{analysis, dead};
 ghost use Rattle.stack_analysis.specs.View.{packedVerdict};
-ghost use Rattle.paper.specs.View.{partsAt, dispatched, fragmentAt, fragmentMarked, Marks, paperOf};
+ghost use Rattle.paper.specs.View.{lastPart, partsAt, dispatched, fragmentAt, fragmentMarked, Marks, paperOf};
 use stack_analysis::Verdict;
 
 // The verdict on a paper: the entry that it is about (E for the initialiser), number, offset and two figures, the rows
@@ -64,7 +64,7 @@ fn smaller(a: u32, b: u32) -> u32
 
 // Whether the part whose offset and length stand at `at` lies after the header and within the paper.
 fn within(paper: &[u8], header: usize, at: usize) -> bool
-    requires { ⌜ at ≤ 1000000 ⌝ }
+    requires { ⌜ at ≤ lastPart ⌝ }
     ensures { λ r. ⌜ r ≡ within header (length (now (paper .entry))) (partAt (now (paper .entry)) at) ⌝ }
 {
     let offset = field(paper, at) as usize;
@@ -77,7 +77,7 @@ fn within(paper: &[u8], header: usize, at: usize) -> bool
 
 // Whether the parts whose offset and length stand at `a` and `b` share a byte.
 fn share(paper: &[u8], a: usize, b: usize) -> bool
-    requires { ⌜ (a ≤ 1000000) × (b ≤ 1000000) ⌝ }
+    requires { ⌜ (a ≤ lastPart) × (b ≤ lastPart) ⌝ }
     ensures { λ r. ⌜ r ≡ share (partAt (now (paper .entry)) a) (partAt (now (paper .entry)) b) ⌝ }
 {
     let first = field(paper, a);
@@ -89,7 +89,7 @@ fn share(paper: &[u8], a: usize, b: usize) -> bool
 
 // Whether the part at `at` shares no byte with `count` parts, the first of them at `from`.
 fn apart_from(paper: &[u8], at: usize, from: usize, count: usize) -> bool
-    requires { ⌜ (at ≤ 1000000) × (from + 6 * count ≤ 1000000) ⌝ }
+    requires { ⌜ (at ≤ lastPart) × (from + 6 * count ≤ lastPart) ⌝ }
     ensures { λ r. ⌜ r ≡ sharesNone (partAt (now (paper .entry)) at) (partsAt (now (paper .entry)) from count) ⌝ }
 {
     let mut next = from;
@@ -106,7 +106,7 @@ fn apart_from(paper: &[u8], at: usize, from: usize, count: usize) -> bool
 
 // Whether each of `count` parts, the first of them at `from`, lies where it may, and no two share a byte.
 fn parts_ok(paper: &[u8], header: usize, from: usize, count: usize) -> bool
-    requires { ⌜ from + 6 * count ≤ 1000000 ⌝ }
+    requires { ⌜ from + 6 * count ≤ lastPart ⌝ }
     ensures { λ r.
         ⌜ r ≡ goodParts header (length (now (paper .entry))) (partsAt (now (paper .entry)) from count) ⌝ }
 {
@@ -191,7 +191,7 @@ fn most_parameters(paper: &[u8]) -> u32
 
 // The bytes of the part whose offset and length stand at `at`, as far as the paper has them.
 fn part<'a>(paper: &'a [u8], at: usize) -> &'a [u8]
-    requires { ⌜ at ≤ 1000000 ⌝ }
+    requires { ⌜ at ≤ lastPart ⌝ }
     ensures { λ r. ⌜ now r ≡ bytesOf (now (paper .entry)) (partAt (now (paper .entry)) at) ⌝ }
 {
     let offset = field(paper, at) as usize;
@@ -219,7 +219,7 @@ pub fn fragment_count(paper: &[u8]) -> usize
 // The part whose offset and length stand at `at`, analysed from these heights; its rows are written from row `rows` on,
 // and 4 weighs it against what the log has left there.
 fn mark_part(paper: &[u8], at: usize, main: u32, alt: u32, rows: usize, log: &mut [u16]) -> Verdict
-    requires { ⌜ (at ≤ 1000000) × (3 * rows ≤ length (now log)) ⌝ }
+    requires { ⌜ (at ≤ lastPart) × (3 * rows ≤ length (now log)) ⌝ }
     ensures { λ r.
         ⌜
         Marks
@@ -336,7 +336,15 @@ pub fn mark_paper(paper: &[u8], log: &mut [u16]) -> PaperVerdict
     ensures logged { λ r.
         ⌜ now (log .exit) ≡ markPaper builtIn (now (paper .entry)) (now (log .entry)) .log ⌝ }
     ensures replayed { λ r.
-        ⌜ (r .number ≡ 0 → EachTrue builtIn 0 (fragments (now (paper .entry))) (now (log .entry))) ⌝ }
+        ⌜
+        (r .number ≡ 0
+        → EachTrue
+        builtIn
+        0
+        (fragments (now (paper .entry)))
+        (markPaper builtIn (now (paper .entry)) (now (log .entry)) .verdicts)
+        (now (log .exit)))
+        ⌝ }
 {
     if paper.len() > 8000 {
         return refused(0, 21, paper.len() as u64, 8000);
