@@ -165,8 +165,8 @@ module _ (s : Stacks) (c : Count) (k : Pops s c) (n : ℕ) (e : c ≡ C.At n) wh
   at-small : (n < 2 ^ 63) × (1 ≤ s .mains)
   at-small = rw e at (k .small)
 
-  pub next-fits : Fits w64 (n + 1)
-  next-fits = let h = at-small .0 in record { fits = omega arith }
+  pub next-fits : (m : ℕ) → m ≤ 2 → Fits w64 (n + m)
+  next-fits m g = let h = at-small .0 in record { fits = omega arith }
 
   pub had-one : 1 ≤ s .mains
   had-one = at-small .1

@@ -10,7 +10,7 @@ use Rattle.stack.proofs.suffices.Reads as suffices-reads
 
 -- src/lib.rt:179:9
 returns : tie.Need-returns
-returns c = search (joined-code)
+returns c = search (joined-code, needs)
 
 -- src/lib.rt:181:8
 suffices-requires : tie.Need-suffices-requires
@@ -22,7 +22,7 @@ returns-2 c = let e = sym (c .before .suffices .ensures) ∙ c .if2 .taken in se
 
 -- src/lib.rt:185:9
 returns-3 : tie.Need-returns-3
-returns-3 c = let e = sym (c .before .before .suffices .ensures) ∙ c .before .if2 .left in search (joined-bytes)
+returns-3 c = let e = sym (c .before .before .suffices .ensures) ∙ c .before .if2 .left in search (joined-bytes, needs)
 
 -- src/lib.rt:174:1
 returns-4 : tie.Need-returns-4

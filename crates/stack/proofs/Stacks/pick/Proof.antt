@@ -23,7 +23,7 @@ sub-self c = search (had-one)
 
 -- src/lib.rt:789:41
 add-extend-from-within : tie.Need-add-extend-from-within
-add-extend-from-within c = search (next-fits)
+add-extend-from-within c = search (next-fits, needs)
 
 -- src/lib.rt:789:17
 extend-from-within-requires : tie.Need-extend-from-within-requires

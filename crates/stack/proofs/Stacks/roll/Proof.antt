@@ -23,7 +23,7 @@ sub-self c = search (had-one)
 
 -- src/lib.rt:806:34
 add-rotate-left : tie.Need-add-rotate-left
-add-rotate-left c = search (next-fits)
+add-rotate-left c = search (next-fits, needs)
 
 -- src/lib.rt:806:17
 rotate-left-requires : tie.Need-rotate-left-requires
