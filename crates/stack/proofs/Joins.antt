@@ -4,24 +4,19 @@ use mathlib.Core.Path.{_≡_, refl, sym, ap, _∙_}
 use mathlib.Core.List.{List, [], _∷_}
 use Prim.Native.Nat.{ℕ, zero, suc, _+_, _-_, _≤_, _<_}
 use native.Mathlib.Omega.{arith}
-use borrow.Author.Tests.{leb-true, eq-eqb, ne-eqb, eqb-true}
-use lib.Dec.{leb, eqb}
+use borrow.Author.Tests.{eq-eqb, ne-eqb, eqb-true, ltb-true, ltb-false}
+use lib.Dec.{eqb, ltb}
 use lib.ListN.{length, getD, set}
-use lib.Seq.{set-getD}
 use Rattle.definition.specs.Basics.{Bytes, pick}
-use Rattle.definition.specs.Decoding.{number}
 use Rattle.definition.specs.Stacks as S
 use Rattle.definition.specs.Walk.{Item, unknown, exact, sameBytes, joinItem, joinItems, joinStacks}
-use Rattle.decode.specs.View.{lowBytes}
-use Rattle.decode.proofs.Bytes.{length-low, number-low}
-use Rattle.stack.specs.View.{slotItem, cells, backs, tops, view, Canon, Sound, Fit, Says}
+use Rattle.stack.specs.View.{Slots, slots, slotsOf, slotItem, sufficient, slotCode, slotBytes, cells, backs, tops, view, Canon, Sound, Fit, Says}
 use Rattle.stack.specs.Parts.{Joined, Each, JoinedAt}
-use Rattle.stack.specs.declared.Items.{Items}
 use Rattle.stack.specs.declared.Stacks.{Stacks}
 use Rattle.stack.specs.declared.Refusal.the-variants.{ArmsDiffer}
-use Rattle.stack.proofs.Laws.{length-tops, Slot, kept-cell}
-use Rattle.stack.proofs.Mains.{stepped, refusing, refuses, canon-unknown}
-use Rattle.stack.proofs.Loops.{each-more}
+use Rattle.stack.proofs.Codes.{canon-unknown, same-item, code-is, clear-some}
+use Rattle.stack.proofs.Laws.{length-tops, each-more}
+use Rattle.stack.proofs.Mains.{stepped, refusing, refuses}
 
 -- Bytes
 
@@ -52,36 +47,60 @@ join-exact l m h = by (sameBytes l m) refl
     by true e = absurd (h (same-true l m e))
     by false e = refl
 
--- slots that differ, and are not both unknown, hold different items
-module _ (len n len′ n′ : ℕ) (c : Canon len n) (c′ : Canon len′ n′) where
-  differ : (len ≡ len′ → n ≡ n′ → ⊥) → joinItem (slotItem len n) (slotItem len′ n′) ≡ unknown
-  differ h = by (leb len 8) refl (leb len′ 8) refl
-    where
-      by : (t : Bool) → leb len 8 ≡ t → (t′ : Bool) → leb len′ 8 ≡ t′
-          → joinItem (pick t (exact (lowBytes len n)) unknown) (pick t′ (exact (lowBytes len′ n′)) unknown) ≡ unknown
-      by false e t′ e′ = refl
-      by true e false e′ = refl
-      by true e true e′ = join-exact (lowBytes len n) (lowBytes len′ n′) (λ g.
-          h (sym (length-low len n) ∙ ap length g ∙ length-low len′ n′)
-          (sym (number-low len n (c .held (leb-true len 8 e))) ∙ ap number g ∙ number-low len′ n′ (c′ .held (leb-true len′ 8 e′))))
-
-  pub joined-len : (len ≡ len′ → ⊥) → Joined len n len′ n′ 9
-  joined-len h = record { item = sym (differ (λ e _. h e)); canon = canon-unknown }
-
-  pub joined-bytes : (n ≡ n′ → ⊥) → Joined len n len′ n′ 9
-  joined-bytes h = record { item = sym (differ (λ _ e. h e)); canon = canon-unknown }
-
-  pub joined-same : len ≡ len′ → n ≡ n′ → Joined len n len′ n′ len
-  joined-same e f = record { item = rw (← e, ← f) (sym (join-refl (slotItem len n))); canon = c }
+join-differ : (x y : Item) → (x ≡ y → ⊥) → joinItem x y ≡ unknown
+join-differ unknown y h = refl
+join-differ (exact l) unknown h = refl
+join-differ (exact l) (exact m) h = join-exact l m (λ e. h (ap exact e))
 
 -- Slots
 
-pub joining-more : (p t q : Items) (a i e z : ℕ) → a ≤ i → i < e → e ≤ 244 → Each (JoinedAt p t) p a i q
-    → Joined (getD (q .lens) i 0) (getD (q .bytes) i 0) (getD (t .lens) i 0) (getD (t .bytes) i 0) z
-    → Each (JoinedAt p t) p a (i + 1) (record { bytes = q .bytes; lens = set (q .lens) i z })
-joining-more p t q a i e z h lt g v k =
-    rw (set-getD (q .bytes) i 0) at (each-more (JoinedAt p t) p a q i (record { len = z; bytes = getD (q .bytes) i 0 }) h (omega arith) (k .canon)
-    (k .item ∙ rw (kept-cell p q i (v .above i (omega arith)))) v)
+module _ (code n code′ n′ : ℕ) (c : Canon code n) (c′ : Canon code′ n′) where
+  pub joined-code : (code ≡ code′ → ⊥) → Joined code n code′ n′ 9
+  joined-code h = record {
+    item = sym (join-differ (slotItem code n) (slotItem code′ n′) (λ e. h (sym (code-is code n c) ∙ ap slotCode e ∙ code-is code′ n′ c′)));
+    canon = canon-unknown;
+  }
+
+  module _ (e : code ≡ code′) where
+    pub joined-suffices : sufficient code ≡ true → Joined code n code′ n′ code
+    joined-suffices s = record { item = sym (ap (joinItem (slotItem code n)) (ap (λ x. slotItem x n′) (sym e) ∙ same-item code n′ n s) ∙ join-refl (slotItem code n)); canon = c }
+
+    pub joined-bytes : sufficient code ≡ false → (n ≡ n′ → ⊥) → Joined code n code′ n′ 9
+    joined-bytes s h = record {
+      item = sym (join-differ (slotItem code n) (slotItem code′ n′) (λ g. h (clear-some code n c s ∙ ap slotBytes g ∙ sym (clear-some code′ n′ c′ (rw e at s)))));
+      canon = canon-unknown;
+    }
+
+    pub joined-same : n ≡ n′ → Joined code n code′ n′ code
+    joined-same g = record { item = rw (← e, ← g) (sym (join-refl (slotItem code n))); canon = c }
+
+pub joining-more : (p t : Slots) (q : List ℕ) (a i e x : ℕ) → Sound p → a ≤ i → i < e → e ≤ 244 → Each (JoinedAt p t) (p .codes) a i q
+    → Joined (getD q i 0) (getD (p .bytes) i 0) (getD (t .codes) i 0) (getD (t .bytes) i 0) x → Each (JoinedAt p t) (p .codes) a (i + 1) (set q i x)
+joining-more p t q a i e x s h lt g v k =
+    each-more (JoinedAt p t) (p .codes) a q i x h (omega (arith, s .wholeCodes)) (rw (v .above i (omega arith)) at k) v
+
+-- a code that is not joined yet is as it was
+pub joined-now : (p : Slots) (q : List ℕ) (a i : ℕ) (P : ℕ → ℕ → Type 0) → Sound p → Each P (p .codes) a i q → (j : ℕ) → i ≤ j → Canon (getD q j 0) (getD (p .bytes) j 0)
+joined-now p q a i P s v j h = rw (v .above j h) (s .canon j)
+
+-- the codes joined from a on: the slots are sound, and each has what the two have in common, or is as it was
+module _ (y c c′ : List ℕ) (t : Slots) (a e : ℕ) (s : Sound (slots y c)) (v : Each (JoinedAt (slots y c) t) c a e c′) where
+  pub joined-sound : Sound (slots y c′)
+  joined-sound = record { wholeBytes = s .wholeBytes; wholeCodes = v .whole ∙ s .wholeCodes; canon = λ j. by j (ltb j a) refl (ltb j e) refl }
+    where
+      by : (j : ℕ) (t : Bool) → ltb j a ≡ t → (u : Bool) → ltb j e ≡ u → Canon (getD c′ j 0) (getD y j 0)
+      by j true g u h = rw (v .below j (ltb-true j a g)) (s .canon j)
+      by j false g true h = v .each j (ltb-false j a g) (ltb-true j e h) .canon
+      by j false g false h = rw (v .above j (ltb-false j e h)) (s .canon j)
+
+  pub joined-cell : (j : ℕ) → a ≤ j → j < e → cells (slots y c′) j ≡ joinItem (cells (slots y c) j) (cells t j)
+  joined-cell j h g = v .each j h g .item
+
+  pub joined-below : (j : ℕ) → j < a → cells (slots y c′) j ≡ cells (slots y c) j
+  joined-below j h = rw (v .below j h)
+
+  pub joined-above : (j : ℕ) → e ≤ j → cells (slots y c′) j ≡ cells (slots y c) j
+  joined-above j h = rw (v .above j h)
 
 -- Stacks
 
@@ -99,22 +118,27 @@ module _ (s t : Stacks) (f : Fit s) where
     unfolding joinStacks view
     join-alt h = refuses s f ArmsDiffer (joinStacks (view s) (view t)) (rw (length-tops, length-tops, length-tops, length-tops, eq-eqb (s .mains) (t .mains) e, ne-eqb (s .alts) (t .alts) h))
 
-    pub join-done : s .alts ≡ t .alts → (q r : Items) → Each (JoinedAt (s .items) (t .items)) (s .items) 0 (s .mains) q → Each (JoinedAt q (t .items)) q (244 - s .alts) 244 r
-        → Says (stepped r (s .mains) (s .alts)) (joinStacks (view s) (view t))
+    pub join-done : s .alts ≡ t .alts → (d c : List ℕ) → Each (JoinedAt (slotsOf s) (slotsOf t)) (s .codes) 0 (s .mains) d → Each (JoinedAt (slots (s .bytes) d) (slotsOf t)) d (244 - s .alts) 244 c
+        → Says (stepped (s .bytes) c (s .mains) (s .alts)) (joinStacks (view s) (view t))
     unfolding joinStacks view
-    join-done g q r v w = record {
-      fit = record { room = f .room; sound = w .sound };
-      same = rw (
-        length-tops,
-        length-tops,
-        length-tops,
-        length-tops,
-        eq-eqb (s .mains) (t .mains) e,
-        eq-eqb (s .alts) (t .alts) g,
-        tops-join (cells (s .items)) (cells (t .items)) (cells r) (s .mains) (λ j lt. kept-cell q r j (w .below j (omega (arith, f .room))) ∙ v .each j (omega arith) lt),
-        tops-join (backs (s .items)) (backs (t .items)) (backs r) (s .alts)
-            (λ j lt. w .each (243 - j) (omega arith) (omega arith) ∙ rw (kept-cell (s .items) q (243 - j) (v .above (243 - j) (omega (arith, f .room))))),
-        ← e,
-        ← g,
-      );
-    }
+    join-done g d c v w =
+        let y = s .bytes in
+        let q : Sound (slots y d) = joined-sound y (s .codes) d (slotsOf t) 0 (s .mains) (f .sound) v in
+        record {
+          fit = record { room = f .room; sound = joined-sound y d c (slotsOf t) (244 - s .alts) 244 q w };
+          same = rw (
+            length-tops,
+            length-tops,
+            length-tops,
+            length-tops,
+            eq-eqb (s .mains) (t .mains) e,
+            eq-eqb (s .alts) (t .alts) g,
+            tops-join (cells (slotsOf s)) (cells (slotsOf t)) (cells (slots y c)) (s .mains)
+                (λ j lt. joined-below y d c (slotsOf t) (244 - s .alts) 244 q w j (omega (arith, f .room)) ∙ joined-cell y (s .codes) d (slotsOf t) 0 (s .mains) (f .sound) v j (omega arith) lt),
+            tops-join (backs (slotsOf s)) (backs (slotsOf t)) (backs (slots y c)) (s .alts)
+                (λ j lt. joined-cell y d c (slotsOf t) (244 - s .alts) 244 q w (243 - j) (omega arith) (omega arith)
+                ∙ rw (joined-above y (s .codes) d (slotsOf t) 0 (s .mains) (f .sound) v (243 - j) (omega (arith, f .room)))),
+            ← e,
+            ← g,
+          );
+        }

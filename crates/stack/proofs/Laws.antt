@@ -1,21 +1,26 @@
--- The slots of the pool as lists of items: what is written, and what stays.
+-- The slots as lists of numbers and of items: what is written, and what stays.
 use mathlib.Core.Bool.{Bool, true, false}
 use mathlib.Core.Path.{_≡_, refl, sym, ap, _∙_, subst⁻¹}
 use mathlib.Core.List.{List, [], _∷_, _++_, append-assoc}
 use Prim.Native.Nat.{ℕ, zero, suc, _+_, _-_, _≤_, _<_}
 use native.Mathlib.Nat.{add-zero, add-suc, add-assoc}
-use native.Mathlib.Numerals.{add-one}
 use native.Mathlib.Omega.{arith}
-use borrow.Author.Tests.{eqb-true, eqb-false, ltb-true, ltb-false}
-use lib.Dec.{eqb, ltb}
-use lib.ListN.{length, take, drop, getD, set, replicate, length-set, length-append}
+use borrow.Author.Tests.{ltb-true, ltb-false, lt-ltb, le-ltb}
+use lib.Dec.{ltb}
+use lib.ListN.{length, take, drop, getD, set, length-set, length-append}
 use lib.Seq.{getD-set-same, getD-set-other, set-set, take-at, drop-at}
-use Rattle.definition.specs.Walk.{Item, unknown}
-use Rattle.stack.specs.View.{slotItem, cells, backs, tops, Canon, Sound}
-use Rattle.stack.specs.Parts.{Blank, Kept, seg, Wrote, Copied, Turned}
-use Rattle.stack.specs.declared.Items.{Items}
+use Rattle.definition.specs.Basics.{pick}
+use Rattle.definition.specs.Walk.{Item}
+use Rattle.stack.specs.View.{Slots, slots, slotItem, sufficient, cells, tops, Canon, Sound}
+use Rattle.stack.specs.Parts.{Suffice, Each, Moved, apart, Copied, turn, Turned}
+use Rattle.stack.proofs.Codes.{either, same-item, same-canon}
 
 -- Lists
+
+-- f at a + n - 1, .., a
+abbrev pub seg : {A : Type 0} → (ℕ → A) → ℕ → ℕ → List A
+seg f a zero = []
+seg f a (suc n) = f (a + n) ∷ seg f a n
 
 module _ {A : Type 0} where
   pub length-tops : (f : ℕ → A) (n : ℕ) → length (tops f n) ≡ n
@@ -42,9 +47,9 @@ module _ {A : Type 0} where
   pub tops-parts : (f : ℕ → A) (b k n m : ℕ) → m ≡ b + (k + n) → tops f m ≡ seg f (b + k) n ++ (seg f b k ++ tops f b)
   tops-parts f b k n m e = tops-seg f b (k + n) m e ∙ rw (seg-add f b k n, append-assoc)
 
-  pub seg-same : (f : ℕ → A) (a n : ℕ) (x : A) → ((j : ℕ) → j < n → f (a + j) ≡ x) → seg f a n ≡ replicate n x
-  seg-same f a zero x h = refl
-  seg-same f a (suc n) x h = rw (h n (omega arith), seg-same f a n x (λ j lt. h j (omega arith)))
+  pub seg-ext : (f g : ℕ → A) (a b n : ℕ) → ((j : ℕ) → j < n → f (a + j) ≡ g (b + j)) → seg f a n ≡ seg g b n
+  seg-ext f g a b zero h = refl
+  seg-ext f g a b (suc n) h = rw (h n (omega arith), seg-ext f g a b n (λ j lt. h j (omega arith)))
 
   -- X is the top of a list, Y the next: Y alone, and Y before X
   module _ (X Y T : List A) (n t : ℕ) (ex : length X ≡ n) (et : length (X ++ Y) ≡ t) where
@@ -59,162 +64,232 @@ module _ {A : Type 0} where
   pub length-parts : (f : ℕ → A) (b k n : ℕ) → length (seg f (b + k) n ++ seg f b k) ≡ n + k
   length-parts f b k n = length-append (seg f (b + k) n) (seg f b k) ∙ rw (length-seg f (b + k) n, length-seg f b k)
 
--- Slots
+-- Codes that suffice
 
-pub record Slot : Type 0 where
-  pub len : ℕ
-  pub bytes : ℕ
+pub suffice-none : (codes : List ℕ) (a : ℕ) → Suffice codes a 0
+suffice-none codes a j h = absurd (omega arith)
 
-abbrev pub item : Slot → Item
-item x = slotItem (x .len) (x .bytes)
+pub suffice-more : (codes : List ℕ) (a n : ℕ) → Suffice codes a n → sufficient (getD codes (a + n) 0) ≡ true → Suffice codes a (n + 1)
+suffice-more codes a n b e j h = either j n (sufficient (getD codes (a + j) 0) ≡ true) (λ g. rw g e) (λ g. b j (omega (arith, g)))
 
-abbrev pub raw : Items → ℕ → Slot
-raw p j = record { len = getD (p .lens) j 0; bytes = getD (p .bytes) j 0 }
+pub suffice-end : (codes : List ℕ) (a n m : ℕ) → m ≤ n → Suffice codes a n → Suffice codes a m
+suffice-end codes a n m h b j lt = b j (omega arith)
 
-abbrev pub Good : Slot → Type 0
-Good x = Canon (x .len) (x .bytes)
+-- Numbers written one by one
 
--- the slot x at i
-abbrev pub put : Items → ℕ → Slot → Items
-put p i x = record { bytes = set (p .bytes) i (x .bytes); lens = set (p .lens) i (x .len) }
+module _ (P : ℕ → ℕ → Type 0) (l : List ℕ) (a : ℕ) where
+  pub each-none : Each P l a a l
+  each-none = record { whole = refl; each = λ j h g. absurd (omega arith); below = λ j h. refl; above = λ j h. refl }
 
-pub either : (i j : ℕ) (C : Type 0) → (i ≡ j → C) → ((i ≡ j → ⊥) → C) → C
-either i j C f g = by (eqb i j) refl
-  where
-    by : (b : Bool) → eqb i j ≡ b → C
-    by true e = f (eqb-true i j e)
-    by false e = g (eqb-false i j e)
+  pub each-end : (q : List ℕ) (i e : ℕ) → i ≤ e → e ≤ i → Each P l a i q → Each P l a e q
+  each-end q i e h g v = let k : i ≡ e = omega arith in rw k at v
 
-pub blank-none : (lens : List ℕ) (a : ℕ) → Blank lens a 0
-blank-none lens a j h = absurd (omega arith)
-
-pub blank-more : (lens : List ℕ) (a n : ℕ) → Blank lens a n → getD lens (a + n) 0 ≡ 9 → Blank lens a (n + 1)
-blank-more lens a n b e j h = either j n (getD lens (a + j) 0 ≡ 9) (λ g. rw g e) (λ g. b j (omega arith))
-
-pub blank-less : (lens : List ℕ) (a n m : ℕ) → m ≤ n → Blank lens a n → Blank lens a m
-blank-less lens a n m h b j lt = b j (omega arith)
-
-module _ (p : Items) (i : ℕ) (x : Slot) where
-  pub raw-other : (j : ℕ) → (j ≡ i → ⊥) → raw (put p i x) j ≡ raw p j
-  raw-other j h = rw (getD-set-other (p .bytes) i j (x .bytes) 0 h, getD-set-other (p .lens) i j (x .len) 0 h)
-
-  module _ (s : Sound p) (lt : i < 244) where
-    pub raw-same : raw (put p i x) i ≡ x
-    raw-same = rw (getD-set-same (p .bytes) i (x .bytes) 0 (omega (arith, s .wholeBytes)), getD-set-same (p .lens) i (x .len) 0 (omega (arith, s .wholeLens)))
-
-    pub sound-put : Good x → Sound (put p i x)
-    sound-put c = record {
-      wholeBytes = length-set (p .bytes) i (x .bytes) ∙ s .wholeBytes;
-      wholeLens = length-set (p .lens) i (x .len) ∙ s .wholeLens;
-      canon = λ j. either j i (Good (raw (put p i x) j)) (λ e. rw e (subst⁻¹ Good raw-same c)) (λ h. subst⁻¹ Good (raw-other j h) (s .canon j));
-    }
-
-pub kept : (p : Items) (j : ℕ) → Kept p p j
-kept p j = record { len = refl; bytes = refl }
-
-pub kept-trans : (p q r : Items) (j : ℕ) → Kept p q j → Kept q r j → Kept p r j
-kept-trans p q r j k l = record { len = l .len ∙ k .len; bytes = l .bytes ∙ k .bytes }
-
-pub kept-put : (p q : Items) (i : ℕ) (x : Slot) (j : ℕ) → (j ≡ i → ⊥) → Kept p q j → Kept p (put q i x) j
-kept-put p q i x j h k = record {
-  len = ap (λ (y : Slot). y .len) (raw-other q i x j h) ∙ k .len;
-  bytes = ap (λ (y : Slot). y .bytes) (raw-other q i x j h) ∙ k .bytes;
-}
-
-pub kept-cell : (p q : Items) (j : ℕ) → Kept p q j → cells q j ≡ cells p j
-kept-cell p q j k = rw (k .len, k .bytes)
-
--- Slots in a row
-
-module _ (p : Items) (b : ℕ) where
-  pub wrote-none : Sound p → Wrote p b 0 [] p
-  wrote-none s = record { sound = s; main = rw add-zero; below = λ j h. kept p j; above = λ j h. kept p j }
-
-  -- one slot more
-  pub wrote-put : (q : Items) (n : ℕ) (l : List Item) → Wrote p b n l q → (i : ℕ) → i ≡ b + n → i < 244 → (x : Slot) → Good x → Wrote p b (n + 1) (item x ∷ l) (put q i x)
-  wrote-put q n l w i e lt x c = record {
-    sound = sound-put q i x (w .sound) lt c;
-    main =
-        let e₁ : b + (n + 1) ≡ suc i = omega arith in
-        rw (e₁, ap item (raw-same q i x (w .sound) lt), tops-ext (cells (put q i x)) (cells q) i (λ j h. ap item (raw-other q i x j (λ g. omega arith))), e, w .main);
-    below = λ j h. kept-put p q i x j (λ g. omega arith) (w .below j h);
-    above = λ j h. kept-put p q i x j (λ g. omega arith) (w .above j (omega arith));
+  pub each-more : (q : List ℕ) (i x : ℕ) → a ≤ i → i < length l → P i x → Each P l a i q → Each P l a (i + 1) (set q i x)
+  each-more q i x h lt k v = record {
+    whole = length-set q i x ∙ v .whole;
+    each = λ j f g. either j i (P j (getD (set q i x) j 0))
+        (λ e. rw e (subst⁻¹ (P i) (getD-set-same q i x 0 (omega (arith, v .whole))) k))
+        (λ n. subst⁻¹ (P j) (getD-set-other q i j x 0 n) (v .each j f (omega (arith, n))));
+    below = λ j g. getD-set-other q i j x 0 (λ e. omega arith) ∙ v .below j g;
+    above = λ j g. getD-set-other q i j x 0 (λ e. omega arith) ∙ v .above j (omega arith);
   }
 
-  -- the slots are unknown already
-  pub still : Sound p → (n : ℕ) → Blank (p .lens) b n → Wrote p b n (replicate n unknown) p
-  still s n h = record {
-    sound = s;
-    main = tops-seg (cells p) b n (b + n) refl ∙ rw (seg-same (cells p) b n unknown (λ j lt. rw (h j lt)));
-    below = λ j g. kept p j;
-    above = λ j g. kept p j;
-  }
+  pub each-map : (Q : ℕ → ℕ → Type 0) (e : ℕ) (q : List ℕ) → ((j : ℕ) → a ≤ j → j < e → (x : ℕ) → P j x → Q j x) → Each P l a e q → Each Q l a e q
+  each-map Q e q f v = record { whole = v .whole; each = λ j h g. f j h g _ (v .each j h g); below = v .below; above = v .above }
 
--- one slot copied
-pub copied-one : (p : Items) (a b : ℕ) (q : Items) → Copied p a b 1 q → cells q b ≡ cells p a
-copied-one p a b q w =
-    let e : cells q b ∷ tops (cells q) b ≡ cells p a ∷ tops (cells p) b = rw (add-one, add-zero) at (w .main) in
-    cc
+-- Numbers copied
 
-pub copied-kept : (p : Items) (a b : ℕ) (q : Items) → Copied p a b 1 q → (j : ℕ) → (j ≡ b → ⊥) → Kept p q j
-copied-kept p a b q w j h = by (ltb j b) refl
-  where
-    by : (t : Bool) → ltb j b ≡ t → Kept p q j
-    by true e = w .below j (ltb-true j b e)
-    by false e = w .above j (omega (arith, ltb-false j b e, h))
+pub apart-at : (a b j : ℕ) → apart a b (b + j) ≡ a + j
+unfolding apart
+apart-at a b j = omega arith
 
-module _ (p : Items) (a b n : ℕ) where
-  -- j of the n slots from a on are copied to b on
-  pub record Copying (q : Items) (j : ℕ) : Type 0 where
+module _ (l : List ℕ) (a b n : ℕ) where
+  -- j of the n numbers from a on are copied to b on
+  pub record Copying (q : List ℕ) (j : ℕ) : Type 0 where
     pub bound : j ≤ n
-    pub copied : Copied p a b j q
+    pub copied : Copied l a b j q
 
-  pub copying-none : Sound p → Copying p 0
-  copying-none s = record { bound = omega arith; copied = wrote-none p b s }
+  pub copying-none : Copying l 0
+  copying-none = record { bound = omega arith; copied = rw add-zero (each-none _ l b) }
 
-  module _ (g : b + n ≤ 244) (h : a < b → a + n ≤ b) (q : Items) (j : ℕ) (lt : j < n) (v : Copying q j) where
-    -- the slot to be read is not written yet
-    unread : cells q (a + j) ≡ cells p (a + j)
+  module _ (w : length l ≡ 244) (g : b + n ≤ 244) (h : a < b → a + n ≤ b) (q : List ℕ) (j : ℕ) (lt : j < n) (v : Copying q j) where
+    -- the number to be read is not written yet
+    unread : getD q (a + j) 0 ≡ getD l (a + j) 0
     unread = by (ltb a b) refl
       where
-        by : (t : Bool) → ltb a b ≡ t → cells q (a + j) ≡ cells p (a + j)
-        by true e = let k : a + n ≤ b = h (ltb-true a b e) in kept-cell p q (a + j) (v .copied .below (a + j) (omega arith))
-        by false e = kept-cell p q (a + j) (v .copied .above (a + j) (omega (arith, ltb-false a b e)))
+        by : (t : Bool) → ltb a b ≡ t → getD q (a + j) 0 ≡ getD l (a + j) 0
+        by true e = let k : a + n ≤ b = h (ltb-true a b e) in v .copied .below (a + j) (omega arith)
+        by false e = v .copied .above (a + j) (omega (arith, ltb-false a b e))
 
-    pub copying-more : Copying (put q (b + j) (raw q (a + j))) (j + 1)
+    pub copying-more : Copying (set q (b + j) (getD q (a + j) 0)) (j + 1)
     copying-more = record {
       bound = omega arith;
       copied =
-          let l : cells q (a + j) ∷ seg (cells p) a j ≡ seg (cells p) a (j + 1) = rw (add-one, unread) in
-          rw l at (wrote-put p b q j (seg (cells p) a j) (v .copied) (b + j) refl (omega arith) (raw q (a + j)) (v .copied .sound .canon (a + j)));
+          let e : b + (j + 1) ≡ b + j + 1 = omega arith in
+          rw e (each-more _ l b q (b + j) (getD q (a + j) 0) (omega arith) (omega arith) (unread ∙ rw (apart-at a b j)) (v .copied));
     }
 
-  pub copying-done : (q : Items) (j : ℕ) → n ≤ j → Copying q j → Copied p a b n q
+  pub copying-done : (q : List ℕ) (j : ℕ) → n ≤ j → Copying q j → Copied l a b n q
   copying-done q j h v = let e : j ≡ n = omega (arith, v .bound) in rw e at (v .copied)
 
-pub copying-down : (p : Items) (b k n : ℕ) → b + k + n ≤ 244 → (q : Items) (j : ℕ) → j < n → Copying p (b + k) b n q j → Copying p (b + k) b n (put q (b + j) (raw q (b + k + j))) (j + 1)
-copying-down p b k n h q j lt v = copying-more p (b + k) b n (omega arith) (λ g. absurd (omega arith)) q j lt v
+pub copying-down : (l : List ℕ) (b k n : ℕ) → length l ≡ 244 → b + k + n ≤ 244 → (q : List ℕ) (j : ℕ) → j < n → Copying l (b + k) b n q j → Copying l (b + k) b n (set q (b + j) (getD q (b + k + j) 0)) (j + 1)
+copying-down l b k n w h q j lt v = copying-more l (b + k) b n w (omega arith) (λ g. absurd (omega arith)) q j lt v
 
--- the slots b and b + k - 1, which are one if k is 1, on top of those that came down
-module _ (p : Items) (s : Sound p) (b n : ℕ) (q : Items) where
-  turned-by : (k : ℕ) → 1 ≤ k → k ≤ 2 → b + k + n ≤ 244 → Copied p (b + k) b n q → Turned p b n k (put (put q (b + n) (raw p b)) (b + k + n - 1) (raw p (b + k - 1)))
-  turned-by zero g h r w = absurd (omega arith)
-  turned-by (suc zero) g h r w =
+-- Numbers turned
+
+module _ (b n k j : ℕ) where
+  pub turn-low : j < b + n → turn b n k j ≡ j + k
+  unfolding turn
+  turn-low h = rw (lt-ltb j (b + n) h)
+
+  pub turn-high : b + n ≤ j → turn b n k j ≡ j - n
+  unfolding turn
+  turn-high h = rw (le-ltb j (b + n) h)
+
+-- the numbers at b and b + k - 1, which are one if k is 1, on top of those that came down
+module _ (l : List ℕ) (w : length l ≡ 244) (b n : ℕ) (q : List ℕ) where
+  down : (k : ℕ) → Copied l (b + k) b n q → Moved (turn b n k) l b (b + n) q
+  unfolding apart
+  down k v = each-map _ l b _ (b + n) q (λ j h g x e. e ∙ (let z : apart (b + k) b j ≡ turn b n k j = omega (arith, turn-low b n k j g) in rw z)) v
+
+  turned-by : (k : ℕ) → 1 ≤ k → k ≤ 2 → b + k + n ≤ 244 → Copied l (b + k) b n q → Turned l b n k (set (set q (b + n) (getD l b 0)) (b + k + n - 1) (getD l (b + k - 1) 0))
+  turned-by zero g h r v = absurd (omega arith)
+  turned-by (suc zero) g h r v =
       let e₁ : b + 1 + n - 1 ≡ b + n = omega arith in
       let e₂ : b + 1 - 1 ≡ b = omega arith in
-      let e₃ : 1 + n ≡ n + 1 = omega arith in
-      rw (e₁, e₂, e₃, set-set (q .bytes) (b + n) (raw p b .bytes) (raw p b .bytes), set-set (q .lens) (b + n) (raw p b .len) (raw p b .len), add-zero)
-      (wrote-put p b q n (seg (cells p) (b + 1) n) w (b + n) refl (omega arith) (raw p b) (s .canon b))
-  turned-by (suc (suc zero)) g h r w =
+      let e₃ : b + (1 + n) ≡ b + n + 1 = omega arith in
+      let z : turn b n 1 (b + n) ≡ b = turn-high b n 1 (b + n) (omega arith) ∙ omega arith in
+      rw (e₁, e₂, e₃, set-set q (b + n) (getD l b 0) (getD l b 0))
+      (each-more _ l b q (b + n) (getD l b 0) (omega arith) (omega arith) (rw z) (down 1 v))
+  turned-by (suc (suc zero)) g h r v =
       let e₁ : b + 2 + n - 1 ≡ b + n + 1 = omega arith in
       let e₂ : b + 2 - 1 ≡ b + 1 = omega arith in
-      let e₃ : 2 + n ≡ n + 1 + 1 = omega arith in
-      let l = cells p b ∷ seg (cells p) (b + 2) n in
-      rw (e₁, e₂, e₃, add-zero)
-      (wrote-put p b (put q (b + n) (raw p b)) (n + 1) l
-      (wrote-put p b q n (seg (cells p) (b + 2) n) w (b + n) refl (omega arith) (raw p b) (s .canon b))
-      (b + n + 1) (add-assoc b n 1) (omega arith) (raw p (b + 1)) (s .canon (b + 1)))
-  turned-by (suc (suc (suc k))) g h r w = absurd (omega arith)
+      let e₃ : b + (2 + n) ≡ b + n + 1 + 1 = omega arith in
+      let z : turn b n 2 (b + n) ≡ b = turn-high b n 2 (b + n) (omega arith) ∙ omega arith in
+      let y : turn b n 2 (b + n + 1) ≡ b + 1 = turn-high b n 2 (b + n + 1) (omega arith) ∙ omega arith in
+      rw (e₁, e₂, e₃)
+      (each-more _ l b (set q (b + n) (getD l b 0)) (b + n + 1) (getD l (b + 1) 0) (omega arith) (omega arith) (rw y)
+      (each-more _ l b q (b + n) (getD l b 0) (omega arith) (omega arith) (rw z) (down 2 v)))
+  turned-by (suc (suc (suc k))) g h r v = absurd (omega arith)
 
-  pub turned : (k j : ℕ) → 1 ≤ k → k ≤ 2 → b + k + n ≤ 244 → n ≤ j → Copying p (b + k) b n q j → Turned p b n k (put (put q (b + n) (raw p b)) (b + k + n - 1) (raw p (b + k - 1)))
-  turned k j g h r l v = turned-by k g h r (copying-done p (b + k) b n q j l v)
+  pub turned : (k j : ℕ) → 1 ≤ k → k ≤ 2 → b + k + n ≤ 244 → n ≤ j → Copying l (b + k) b n q j → Turned l b n k (set (set q (b + n) (getD l b 0)) (b + k + n - 1) (getD l (b + k - 1) 0))
+  turned k j g h r m v = turned-by k g h r (copying-done l (b + k) b n q j m v)
+
+-- Slots
+
+-- the slots of r from b up to e have the items of p at the places that f names, the others those of p
+pub record Placed (f : ℕ → ℕ) (p : Slots) (b e : ℕ) (r : Slots) : Type 0 where
+  pub sound : Sound r
+  pub there : (j : ℕ) → b ≤ j → j < e → cells r j ≡ cells p (f j)
+  pub below : (j : ℕ) → j < b → cells r j ≡ cells p j
+  pub above : (j : ℕ) → e ≤ j → cells r j ≡ cells p j
+
+module _ (f : ℕ → ℕ) (p : Slots) (s : Sound p) (b e : ℕ) (c : List ℕ) (v : Moved f (p .codes) b e c) where
+  -- with the bytes x, the slot that has the code of place f j has its item
+  Beside : ℕ → ℕ → Type 0
+  Beside j x = (slotItem (getD (p .codes) (f j) 0) x ≡ cells p (f j)) × Canon (getD (p .codes) (f j) 0) x
+
+  placed : (y : List ℕ) → Each Beside (p .bytes) b e y → Placed f p b e (slots y c)
+  unfolding Beside
+  placed y w = record {
+    sound = record {
+      wholeBytes = w .whole ∙ s .wholeBytes;
+      wholeCodes = v .whole ∙ s .wholeCodes;
+      canon = λ j. by j (ltb j b) refl (ltb j e) refl;
+    };
+    there = λ j h g. ap (λ x. slotItem x (getD y j 0)) (v .each j h g) ∙ w .each j h g .0;
+    below = λ j h. rw (v .below j h, w .below j h);
+    above = λ j h. rw (v .above j h, w .above j h);
+  }
+    where
+      by : (j : ℕ) (t : Bool) → ltb j b ≡ t → (u : Bool) → ltb j e ≡ u → Canon (getD c j 0) (getD y j 0)
+      by j true g u h = let k = ltb-true j b g in rw (v .below j k, w .below j k) (s .canon j)
+      by j false g true h = let k = ltb-false j b g in let m = ltb-true j e h in rw (v .each j k m) (w .each j k m .1)
+      by j false g false h = let k = ltb-false j e h in rw (v .above j k, w .above j k) (s .canon j)
+
+  -- the bytes are moved as the codes are
+  pub placed-both : (y : List ℕ) → Moved f (p .bytes) b e y → Placed f p b e (slots y c)
+  unfolding Beside
+  placed-both y w = placed y (each-map _ (p .bytes) b Beside e y (λ j h g x k. rw k (refl, s .canon (f j))) w)
+
+  -- the bytes stay
+  pub placed-codes : ((j : ℕ) → b ≤ j → j < e → sufficient (getD (p .codes) (f j) 0) ≡ true) → Placed f p b e (slots (p .bytes) c)
+  unfolding Beside
+  placed-codes k = placed (p .bytes) (record {
+    whole = refl;
+    each = λ j h g. (same-item _ _ _ (k j h g), same-canon _ _ _ (k j h g) (s .canon (f j)));
+    below = λ j h. refl;
+    above = λ j h. refl;
+  })
+
+-- the n slots of r from b on hold the items l, the last first, the others are those of p
+pub record Wrote (p : Slots) (b n : ℕ) (l : List Item) (r : Slots) : Type 0 where
+  pub sound : Sound r
+  pub main : tops (cells r) (b + n) ≡ l ++ tops (cells p) b
+  pub below : (j : ℕ) → j < b → cells r j ≡ cells p j
+  pub above : (j : ℕ) → b + n ≤ j → cells r j ≡ cells p j
+
+module _ (p : Slots) (b n : ℕ) (r : Slots) where
+  -- n slots copied from a on
+  pub wrote-copies : (a : ℕ) → Placed (apart a b) p b (b + n) r → Wrote p b n (seg (cells p) a n) r
+  wrote-copies a v = record {
+    sound = v .sound;
+    main = tops-seg (cells r) b n (b + n) refl ∙ rw (
+      seg-ext (cells r) (cells p) b a n (λ j h. v .there (b + j) (omega arith) (omega arith) ∙ ap (cells p) (apart-at a b j)),
+      tops-ext (cells r) (cells p) b (v .below),
+    );
+    below = v .below;
+    above = v .above;
+  }
+
+  -- k slots put on top of n
+  pub wrote-turned : (k : ℕ) → Placed (turn b n k) p b (b + (k + n)) r → Wrote p b (k + n) (seg (cells p) b k ++ seg (cells p) (b + k) n) r
+  wrote-turned k v = record {
+    sound = v .sound;
+    main =
+        let e : b + (k + n) ≡ b + (n + k) = omega arith in
+        tops-parts (cells r) b n k (b + (k + n)) e ∙ rw (
+          seg-ext (cells r) (cells p) (b + n) b k (λ j h. v .there (b + n + j) (omega arith) (omega arith) ∙ ap (cells p) (turn-high b n k (b + n + j) (omega arith) ∙ omega arith)),
+          seg-ext (cells r) (cells p) b (b + k) n (λ j h. v .there (b + j) (omega arith) (omega arith) ∙ ap (cells p) (turn-low b n k (b + j) (omega arith) ∙ omega arith)),
+          tops-ext (cells r) (cells p) b (v .below),
+          append-assoc,
+        );
+    below = v .below;
+    above = v .above;
+  }
+
+-- one slot copied
+pub placed-one : (p : Slots) (a b : ℕ) (r : Slots) → Placed (apart a b) p b (b + 1) r → cells r b ≡ cells p a
+unfolding apart
+placed-one p a b r v = v .there b (omega arith) (omega arith) ∙ ap (cells p) (omega arith)
+
+pub placed-other : (f : ℕ → ℕ) (p : Slots) (b : ℕ) (r : Slots) → Placed f p b (b + 1) r → (j : ℕ) → (j ≡ b → ⊥) → cells r j ≡ cells p j
+placed-other f p b r v j h = by (ltb j b) refl
+  where
+    by : (t : Bool) → ltb j b ≡ t → cells r j ≡ cells p j
+    by true e = v .below j (ltb-true j b e)
+    by false e = v .above j (omega (arith, ltb-false j b e, h))
+
+-- what the code says of copies and turns
+module _ (p : Slots) (s : Sound p) (c : List ℕ) where
+  module _ (a b n : ℕ) (v : Copied (p .codes) a b n c) where
+    pub copied-both : (y : List ℕ) → Copied (p .bytes) a b n y → Placed (apart a b) p b (b + n) (slots y c)
+    copied-both = placed-both (apart a b) p s b (b + n) c v
+
+    pub copied-codes : Suffice (p .codes) a n → Placed (apart a b) p b (b + n) (slots (p .bytes) c)
+    unfolding apart
+    copied-codes k = placed-codes (apart a b) p s b (b + n) c v (λ j h g. k (j - b) (omega arith))
+
+  module _ (b n k : ℕ) (v : Turned (p .codes) b n k c) where
+    pub turned-both : (y : List ℕ) → Turned (p .bytes) b n k y → Placed (turn b n k) p b (b + (k + n)) (slots y c)
+    turned-both = placed-both (turn b n k) p s b (b + (k + n)) c v
+
+    pub turned-codes : Suffice (p .codes) b (k + n) → Placed (turn b n k) p b (b + (k + n)) (slots (p .bytes) c)
+    turned-codes m = placed-codes (turn b n k) p s b (b + (k + n)) c v (λ j h g. by j h g (ltb j (b + n)) refl)
+      where
+        at : (i : ℕ) → b ≤ i → i < b + (k + n) → sufficient (getD (p .codes) i 0) ≡ true
+        at i h g = let e : b + (i - b) ≡ i = omega arith in rw e at (m (i - b) (omega arith))
+
+        by : (j : ℕ) → b ≤ j → j < b + (k + n) → (t : Bool) → ltb j (b + n) ≡ t → sufficient (getD (p .codes) (turn b n k j) 0) ≡ true
+        by j h g true e = let z = ltb-true j (b + n) e in rw (turn-low b n k j z) (at (j + k) (omega arith) (omega arith))
+        by j h g false e = let z = ltb-false j (b + n) e in rw (turn-high b n k j z) (at (j - n) (omega arith) (omega arith))

@@ -1,7 +1,7 @@
+pub mod Codes
 pub mod Laws
 pub mod Mains
 pub mod Alts
-pub mod Loops
 pub mod Joins
 pub mod Packs
 pub mod Values

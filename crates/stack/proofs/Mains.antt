@@ -1,4 +1,5 @@
 -- What each method on main returns, as its contract says it: the premises are the tests of its branches.
+use mathlib.Core.Bool.{true}
 use mathlib.Core.Path.{_≡_, refl, sym, ap, _∙_}
 use mathlib.Core.List.{List, [], _∷_, _++_}
 use Prim.Native.Nat.{ℕ, zero, suc, _+_, _-_, _≤_, _<_}
@@ -6,32 +7,32 @@ use native.Mathlib.Nat.{add-zero, add-suc, add-assoc, add-comm, sub-zero}
 use native.Mathlib.Numerals.{add-one}
 use native.Mathlib.Omega.{arith}
 use borrow.Author.Tests.{le-leb, lt-leb}
-use lib.ListN.{length, take, drop, getD, set, replicate, replicate-append-replicate, length-append}
-use lib.Seq.{set-getD, drop-at}
+use lib.ListN.{length, take, drop, getD, set, length-set}
+use lib.Seq.{set-getD, drop-at, getD-set-same, getD-set-other}
 use Rattle.definition.specs.Classes.{Ordinary}
 use Rattle.definition.specs.Decoding.{Instruction}
 use Rattle.definition.specs.Refusals as D
 use Rattle.definition.specs.Stacks as S
 use Rattle.definition.specs.Stacks.{pushItem, dropItems, copyItems, rotateItems, tuckTop, nipSecond}
 use Rattle.definition.specs.Walk.{Item, unknown, marking}
-use Rattle.stack.specs.View.{refusalOf, slotItem, cells, backs, tops, view, plain, Canon, Sound, Fit, Says, Steps}
-use Rattle.stack.specs.Parts.{Blank, seg, Wrote, Copied, Turned}
-use Rattle.stack.specs.declared.Items.{Items}
+use Rattle.stack.specs.View.{refusalOf, Slots, slots, slotsOf, slotItem, sufficient, codeOf, cells, backs, tops, view, plain, Canon, Sound, Fit, Says, Steps}
+use Rattle.stack.specs.Parts.{Suffice, apart, Copied, turn, Turned, without}
 use Rattle.stack.specs.declared.Stacks.{Stacks}
 use Rattle.stack.specs.declared.Refusal.{Refusal}
 use Rattle.stack.specs.declared.Refusal.the-variants.{StacksFull, MainDry}
 use Rattle.stack.specs.declared.Answer.the-variants.{Done, Refused}
 use Rattle.stack.specs.declared.Stepped.{Stepped}
-use Rattle.stack.proofs.Laws.{length-tops, tops-ext, length-seg, tops-seg, tops-parts, seg-same, length-parts, low-part, turned-list, Slot, item, raw, Good, put, kept-trans, kept-cell, copied-one, wrote-none, wrote-put, still}
+use Rattle.stack.proofs.Codes.{either, same-item, sufficient-high, canon-sufficient}
+use Rattle.stack.proofs.Laws.{seg, length-tops, tops-ext, length-seg, tops-seg, tops-parts, length-parts, low-part, turned-list, Placed, Wrote, wrote-copies, wrote-turned, placed-one, copied-both, copied-codes, turned-both, turned-codes}
 
-abbrev pub stepped : Items → ℕ → ℕ → Stepped
-stepped p m a = record { stacks = record { items = p; mains = m; alts = a }; answer = Done }
+abbrev pub stepped : List ℕ → List ℕ → ℕ → ℕ → Stepped
+stepped y c m a = record { stacks = record { bytes = y; mains = m; alts = a; codes = c }; answer = Done }
 
 abbrev pub refusing : Stacks → Refusal → Stepped
 refusing s r = record { stacks = s; answer = Refused r }
 
 -- the definition's stacks: main as given, alt as in the slots of p
-abbrev pub changed : Items → List Item → ℕ → S.Outcome Item
+abbrev pub changed : Slots → List Item → ℕ → S.Outcome Item
 changed p l a = S.done (record { main = l; alt = tops (backs p) a })
 
 pub refuses : (s : Stacks) → Fit s → (r : Refusal) (o : S.Outcome Item) → o ≡ S.refused (refusalOf r) → Says (refusing s r) o
@@ -41,16 +42,13 @@ pub steps : {r : Stepped} {limit : ℕ} {o : Ordinary} {s : S.Stacks Item} {x : 
     → ((R : S.Rules) (i : Instruction) → R .limit ≡ limit → x ≡ S.step marking R i o s) → Steps r limit o s
 steps v k = record { fit = v .fit; same = λ R i e. v .same ∙ k R i e }
 
-pub says-main : (s : Stacks) → Fit s → (q : Items) (b n : ℕ) (l : List Item) → Wrote (s .items) b n l q → (m : ℕ) → m ≡ b + n → m + s .alts ≤ 244
-    → (o : S.Outcome Item) → o ≡ changed (s .items) (l ++ tops (cells (s .items)) b) (s .alts) → Says (stepped q m (s .alts)) o
+pub says-main : (s : Stacks) → Fit s → (y c : List ℕ) (b n : ℕ) (l : List Item) → Wrote (slotsOf s) b n l (slots y c) → (m : ℕ) → m ≡ b + n → m + s .alts ≤ 244
+    → (o : S.Outcome Item) → o ≡ changed (slotsOf s) (l ++ tops (cells (slotsOf s)) b) (s .alts) → Says (stepped y c m (s .alts)) o
 unfolding view
-says-main s f q b n l w m e h o g =
-    let k : tops (backs q) (s .alts) ≡ tops (backs (s .items)) (s .alts) =
-    tops-ext (backs q) (backs (s .items)) (s .alts) (λ j lt. kept-cell (s .items) q (243 - j) (w .above (243 - j) (omega arith))) in
+says-main s f y c b n l w m e h o g =
+    let k : tops (backs (slots y c)) (s .alts) ≡ tops (backs (slotsOf s)) (s .alts) =
+    tops-ext (backs (slots y c)) (backs (slotsOf s)) (s .alts) (λ j lt. w .above (243 - j) (omega arith)) in
     record { fit = record { room = h; sound = w .sound }; same = rw (e, w .main, k, g) }
-
-pub canon-unknown : {n : ℕ} → Canon 9 n
-canon-unknown = record { short = omega arith; held = λ h. absurd (omega arith) }
 
 -- Pushes and drops
 
@@ -61,26 +59,39 @@ module _ (s : Stacks) (f : Fit s) (limit : ℕ) where
       (rw (length-tops, length-tops, lt-leb (s .mains + s .alts + 1) limit h))
 
   module _ (t : limit ≤ 244) (h : s .mains + s .alts + 1 ≤ limit) where
-    push-is : (x : Item) → pushItem limit x (view s) ≡ changed (s .items) (x ∷ tops (cells (s .items)) (s .mains)) (s .alts)
+    push-is : (x : Item) → pushItem limit x (view s) ≡ changed (slotsOf s) (x ∷ tops (cells (slotsOf s)) (s .mains)) (s .alts)
     unfolding pushItem view
     push-is x = rw (length-tops, length-tops, le-leb (s .mains + s .alts + 1) limit h)
 
-    pub push-put : (x : Slot) → Good x → Says (stepped (put (s .items) (s .mains) x) (s .mains + 1) (s .alts)) (pushItem limit (item x) (view s))
-    push-put x c = says-main s f _ (s .mains) 1 (item x ∷ [])
-        (wrote-put (s .items) (s .mains) (s .items) 0 [] (wrote-none (s .items) (s .mains) (f .sound)) (s .mains) (sym (add-zero (s .mains))) (omega arith) x c)
-        _ refl (omega arith) _ (push-is (item x))
+    -- the code x and the bytes n in the slot on top of main
+    pub push-put : (x n : ℕ) → Canon x n → Says (stepped (set (s .bytes) (s .mains) n) (set (s .codes) (s .mains) x) (s .mains + 1) (s .alts)) (pushItem limit (slotItem x n) (view s))
+    push-put x n c = says-main s f _ _ (s .mains) 1 (slotItem x n ∷ []) (record {
+      sound = record {
+        wholeBytes = length-set (s .bytes) (s .mains) n ∙ f .sound .wholeBytes;
+        wholeCodes = length-set (s .codes) (s .mains) x ∙ f .sound .wholeCodes;
+        canon = λ j. either j (s .mains) (Canon (getD (set (s .codes) (s .mains) x) j 0) (getD (set (s .bytes) (s .mains) n) j 0))
+            (λ e. rw (e, code, bytes) c)
+            (λ e. rw (getD-set-other (s .codes) (s .mains) j x 0 e, getD-set-other (s .bytes) (s .mains) j n 0 e) (f .sound .canon j));
+      };
+      main = rw (add-one, code, bytes, tops-ext _ (cells (slotsOf s)) (s .mains) (λ j lt. other j (λ e. omega arith)));
+      below = λ j lt. other j (λ e. omega arith);
+      above = λ j lt. other j (λ e. omega arith);
+    }) _ refl (omega arith) _ (push-is (slotItem x n))
+      where
+        code : getD (set (s .codes) (s .mains) x) (s .mains) 0 ≡ x
+        code = getD-set-same (s .codes) (s .mains) x 0 (omega (arith, f .sound .wholeCodes))
 
-    -- the bytes of an unknown slot do not matter
-    pub push-mark : Says (stepped (record { bytes = s .items .bytes; lens = set (s .items .lens) (s .mains) 9 }) (s .mains + 1) (s .alts)) (pushItem limit unknown (view s))
-    push-mark = rw (set-getD (s .items .bytes) (s .mains) 0) at (push-put (record { len = 9; bytes = getD (s .items .bytes) (s .mains) 0 }) canon-unknown)
+        bytes : getD (set (s .bytes) (s .mains) n) (s .mains) 0 ≡ n
+        bytes = getD-set-same (s .bytes) (s .mains) n 0 (omega (arith, f .sound .wholeBytes))
 
-    pub push-still : getD (s .items .lens) (s .mains) 0 ≡ 9 → Says (stepped (s .items) (s .mains + 1) (s .alts)) (pushItem limit unknown (view s))
-    push-still e = says-main s f _ (s .mains) 1 (unknown ∷ [])
-        (still (s .items) (s .mains) (f .sound) 1 (λ j lt. let g : s .mains + j ≡ s .mains = omega arith in rw g e)) _ refl (omega arith) _ (push-is unknown)
+        other : (j : ℕ) → (j ≡ s .mains → ⊥) → cells (slots (set (s .bytes) (s .mains) n) (set (s .codes) (s .mains) x)) j ≡ cells (slotsOf s) j
+        other j e = rw (getD-set-other (s .codes) (s .mains) j x 0 e, getD-set-other (s .bytes) (s .mains) j n 0 e)
 
--- the stacks without the top k of main
-abbrev pub without : Stacks → ℕ → Stacks
-without s k = record { items = s .items; mains = s .mains - k; alts = s .alts }
+    -- the bytes stay
+    pub push-mark : (x : ℕ) → x < 256 → sufficient x ≡ true → Says (stepped (s .bytes) (set (s .codes) (s .mains) x) (s .mains + 1) (s .alts)) (pushItem limit (slotItem x 0) (view s))
+    push-mark x h e =
+        let n : ℕ = getD (s .bytes) (s .mains) 0 in
+        rw (same-item x n 0 e, set-getD (s .bytes) (s .mains) 0) at (push-put x n (canon-sufficient x n h e))
 
 module _ (s : Stacks) (f : Fit s) (k : ℕ) where
   pub drop-dry : s .mains < k → Says (refusing s (MainDry k (s .mains))) (dropItems k (view s))
@@ -94,7 +105,7 @@ module _ (s : Stacks) (f : Fit s) (k : ℕ) where
     pub drop-is : dropItems k (view s) ≡ S.done (view (without s k))
     unfolding dropItems view
     drop-is =
-        let c = cells (s .items) in
+        let c = cells (slotsOf s) in
         rw (
           length-tops,
           le-leb k (s .mains) h,
@@ -102,7 +113,7 @@ module _ (s : Stacks) (f : Fit s) (k : ℕ) where
           drop-at (seg c (s .mains - k) k) (tops c (s .mains - k)) k (length-seg c (s .mains - k) k),
         )
 
-    pub drop-done : Says (stepped (s .items) (s .mains - k) (s .alts)) (dropItems k (view s))
+    pub drop-done : Says (stepped (s .bytes) (s .codes) (s .mains - k) (s .alts)) (dropItems k (view s))
     drop-done = record { fit = without-fit; same = sym drop-is }
 
   -- a plain class: a push, after the drop
@@ -112,7 +123,7 @@ module _ (s : Stacks) (f : Fit s) (k : ℕ) where
     effect-dry zero h = steps (drop-dry h) (λ R i e. refl)
     effect-dry (suc pushes) h = steps (drop-dry h) (λ R i e. sym (drop-dry h .same) ∙ rw (← drop-dry h .same))
 
-    pub effect-none : (pushes : ℕ) → pushes ≡ 0 → k ≤ s .mains → Steps (stepped (s .items) (s .mains - k) (s .alts)) limit (plain k pushes) (view s)
+    pub effect-none : (pushes : ℕ) → pushes ≡ 0 → k ≤ s .mains → Steps (stepped (s .bytes) (s .codes) (s .mains - k) (s .alts)) limit (plain k pushes) (view s)
     unfolding S.step
     effect-none pushes g h = rw g (steps (drop-done h) (λ R i e. refl))
 
@@ -129,11 +140,8 @@ module _ (s : Stacks) (f : Fit s) (k : ℕ) where
       effect-full g = effect-one _ (push-full (without s k) without-fit limit unknown g)
 
       module _ (t : limit ≤ 244) (g : s .mains - k + s .alts + 1 ≤ limit) where
-        pub effect-still : getD (s .items .lens) (s .mains - k) 0 ≡ 9 → Steps (stepped (s .items) (s .mains - k + 1) (s .alts)) limit (plain k pushes) (view s)
-        effect-still e = effect-one _ (push-still (without s k) without-fit limit t g e)
-
-        pub effect-mark : Steps (stepped (record { bytes = s .items .bytes; lens = set (s .items .lens) (s .mains - k) 9 }) (s .mains - k + 1) (s .alts)) limit (plain k pushes) (view s)
-        effect-mark = effect-one _ (push-mark (without s k) without-fit limit t g)
+        pub effect-mark : Steps (stepped (s .bytes) (set (s .codes) (s .mains - k) 9) (s .mains - k + 1) (s .alts)) limit (plain k pushes) (view s)
+        effect-mark = effect-one _ (push-mark (without s k) without-fit limit t g 9 (omega arith) (sufficient-high 9 (omega arith)))
 
 -- Copies and rotations
 
@@ -149,10 +157,10 @@ module _ (s : Stacks) (f : Fit s) (limit depth count : ℕ) where
         (rw (length-tops, length-tops, le-leb depth (s .mains) h, lt-leb (s .mains + s .alts + count) limit g))
 
     module _ (k : count ≤ depth) (g : s .mains + s .alts + count ≤ limit) where
-      copy-is : copyItems limit depth count (view s) ≡ changed (s .items) (seg (cells (s .items)) (s .mains - depth) count ++ tops (cells (s .items)) (s .mains)) (s .alts)
+      copy-is : copyItems limit depth count (view s) ≡ changed (slotsOf s) (seg (cells (slotsOf s)) (s .mains - depth) count ++ tops (cells (slotsOf s)) (s .mains)) (s .alts)
       unfolding copyItems view
       copy-is =
-          let c = cells (s .items) in
+          let c = cells (slotsOf s) in
           let b : ℕ = s .mains - depth in
           let d : ℕ = depth - count in
           let t : length (seg c (b + count) d ++ seg c b count) ≡ depth = length-parts c b count d ∙ omega arith in
@@ -160,13 +168,15 @@ module _ (s : Stacks) (f : Fit s) (limit depth count : ℕ) where
           rw (tops-parts c b count d (s .mains) (omega arith)) (low-part (seg c (b + count) d) (seg c b count) (tops c b) d depth (length-seg c (b + count) d) t) in
           rw (length-tops, length-tops, le-leb depth (s .mains) h, le-leb (s .mains + s .alts + count) limit g, low)
 
-      pub copy-done : limit ≤ 244 → (q : Items) → Copied (s .items) (s .mains - depth) (s .mains) count q → Says (stepped q (s .mains + count) (s .alts)) (copyItems limit depth count (view s))
-      copy-done t q w = says-main s f q (s .mains) count _ w _ refl (omega arith) _ copy-is
+      module _ (t : limit ≤ 244) (c : List ℕ) (v : Copied (s .codes) (s .mains - depth) (s .mains) count c) where
+        copied : (y : List ℕ) → Placed (apart (s .mains - depth) (s .mains)) (slotsOf s) (s .mains) (s .mains + count) (slots y c) → Says (stepped y c (s .mains + count) (s .alts)) (copyItems limit depth count (view s))
+        copied y w = says-main s f y c (s .mains) count _ (wrote-copies (slotsOf s) (s .mains) count (slots y c) (s .mains - depth) w) _ refl (omega arith) _ copy-is
 
-      pub copy-still : limit ≤ 244 → Blank (s .items .lens) (s .mains - depth) count → Blank (s .items .lens) (s .mains) count
-          → Says (stepped (s .items) (s .mains + count) (s .alts)) (copyItems limit depth count (view s))
-      copy-still t x y = says-main s f _ (s .mains) count _ (still (s .items) (s .mains) (f .sound) count y) _ refl (omega arith) _
-          (copy-is ∙ rw (seg-same (cells (s .items)) (s .mains - depth) count unknown (λ j lt. rw (x j lt))))
+        pub copy-done : (y : List ℕ) → Copied (s .bytes) (s .mains - depth) (s .mains) count y → Says (stepped y c (s .mains + count) (s .alts)) (copyItems limit depth count (view s))
+        copy-done y w = copied y (copied-both (slotsOf s) (f .sound) c (s .mains - depth) (s .mains) count v y w)
+
+        pub copy-codes : Suffice (s .codes) (s .mains - depth) count → Says (stepped (s .bytes) c (s .mains + count) (s .alts)) (copyItems limit depth count (view s))
+        copy-codes k = copied (s .bytes) (copied-codes (slotsOf s) (f .sound) c (s .mains - depth) (s .mains) count v k)
 
 module _ (s : Stacks) (f : Fit s) (count shift : ℕ) where
   pub rotate-dry : s .mains < count → Says (refusing s (MainDry count (s .mains))) (rotateItems count shift (view s))
@@ -174,10 +184,10 @@ module _ (s : Stacks) (f : Fit s) (count shift : ℕ) where
   rotate-dry h = refuses s f (MainDry count (s .mains)) (rotateItems count shift (view s)) (rw (length-tops, lt-leb count (s .mains) h))
 
   module _ (h : count ≤ s .mains) (k : shift ≤ count) where
-    rotate-is : rotateItems count shift (view s) ≡ changed (s .items) ((seg (cells (s .items)) (s .mains - count) shift ++ seg (cells (s .items)) (s .mains - count + shift) (count - shift)) ++ tops (cells (s .items)) (s .mains - count)) (s .alts)
+    rotate-is : rotateItems count shift (view s) ≡ changed (slotsOf s) ((seg (cells (slotsOf s)) (s .mains - count) shift ++ seg (cells (slotsOf s)) (s .mains - count + shift) (count - shift)) ++ tops (cells (slotsOf s)) (s .mains - count)) (s .alts)
     unfolding rotateItems view
     rotate-is =
-        let c = cells (s .items) in
+        let c = cells (slotsOf s) in
         let b : ℕ = s .mains - count in
         let d : ℕ = count - shift in
         let t : length (seg c (b + shift) d ++ seg c b shift) ≡ count = length-parts c b shift d ∙ omega arith in
@@ -188,21 +198,17 @@ module _ (s : Stacks) (f : Fit s) (count shift : ℕ) where
           turned-list (seg c (b + shift) d) (seg c b shift) (tops c b) d count (length-seg c (b + shift) d) t,
         )
 
-    pub rotate-done : (q : Items) → Turned (s .items) (s .mains - count) (count - shift) shift q → Says (stepped q (s .mains) (s .alts)) (rotateItems count shift (view s))
-    rotate-done q w = says-main s f q (s .mains - count) (shift + (count - shift)) _ w _ (omega arith) (f .room) _ rotate-is
+    module _ (c : List ℕ) (v : Turned (s .codes) (s .mains - count) (count - shift) shift c) where
+      turned : (y : List ℕ) → Placed (turn (s .mains - count) (count - shift) shift) (slotsOf s) (s .mains - count) (s .mains - count + (shift + (count - shift))) (slots y c) → Says (stepped y c (s .mains) (s .alts)) (rotateItems count shift (view s))
+      turned y w = says-main s f y c (s .mains - count) (shift + (count - shift)) _ (wrote-turned (slotsOf s) (s .mains - count) (count - shift) (slots y c) shift w) _ (omega arith) (f .room) _ rotate-is
 
-    pub rotate-still : Blank (s .items .lens) (s .mains - count) count → Says (stepped (s .items) (s .mains) (s .alts)) (rotateItems count shift (view s))
-    rotate-still x =
-        let c = cells (s .items) in
-        let b : ℕ = s .mains - count in
-        let e : shift + (count - shift) ≡ count = omega arith in
-        says-main s f _ b count _ (still (s .items) b (f .sound) count x) _ (omega arith) (f .room) _
-        (rotate-is ∙ rw (
-          seg-same c b shift unknown (λ j lt. rw (x j (omega arith))),
-          seg-same c (b + shift) (count - shift) unknown (λ j lt. rw (add-assoc, x (shift + j) (omega arith))),
-          replicate-append-replicate,
-          e,
-        ))
+      pub rotate-done : (y : List ℕ) → Turned (s .bytes) (s .mains - count) (count - shift) shift y → Says (stepped y c (s .mains) (s .alts)) (rotateItems count shift (view s))
+      rotate-done y w = turned y (turned-both (slotsOf s) (f .sound) c (s .mains - count) (count - shift) shift v y w)
+
+      pub rotate-codes : Suffice (s .codes) (s .mains - count) count → Says (stepped (s .bytes) c (s .mains) (s .alts)) (rotateItems count shift (view s))
+      rotate-codes m =
+          let w : Suffice (s .codes) (s .mains - count) (shift + (count - shift)) = λ j lt. m j (omega arith) in
+          turned (s .bytes) (turned-codes (slotsOf s) (f .sound) c (s .mains - count) (count - shift) shift v w)
 
 -- TUCK and NIP
 
@@ -227,50 +233,66 @@ module _ (s : Stacks) (f : Fit s) where
 
       module _ (t : limit ≤ 244) (h : s .mains + s .alts + 1 ≤ limit) where
         tuck-is : tuckTop limit (view s)
-            ≡ changed (s .items) (cells (s .items) (s .mains - 2 + 1) ∷ cells (s .items) (s .mains - 2) ∷ cells (s .items) (s .mains - 2 + 1) ∷ tops (cells (s .items)) (s .mains - 2)) (s .alts)
+            ≡ changed (slotsOf s) (cells (slotsOf s) (s .mains - 2 + 1) ∷ cells (slotsOf s) (s .mains - 2) ∷ cells (slotsOf s) (s .mains - 2 + 1) ∷ tops (cells (slotsOf s)) (s .mains - 2)) (s .alts)
         unfolding tuckTop view
-        tuck-is = rw (length-tops, length-tops, le-leb 1 (s .mains) (omega arith), le-leb 2 (s .mains) g, le-leb (s .mains + s .alts + 1) limit h, two (cells (s .items)) (s .mains) g)
+        tuck-is = rw (length-tops, length-tops, le-leb 1 (s .mains) (omega arith), le-leb 2 (s .mains) g, le-leb (s .mains + s .alts + 1) limit h, two (cells (slotsOf s)) (s .mains) g)
 
-        pub tuck-done : (q r : Items) → Copied (s .items) (s .mains - 2 + 1) (s .mains - 2 + 2) 1 q → Turned q (s .mains - 2) 1 2 r → Says (stepped r (s .mains + 1) (s .alts)) (tuckTop limit (view s))
-        tuck-done q r v w =
-            let p = s .items in
+        -- the top copied, and then the two below the copy put on top of it
+        tucked : (q : Slots) (y c : List ℕ) → Placed (apart (s .mains - 2 + 1) (s .mains - 2 + 2)) (slotsOf s) (s .mains - 2 + 2) (s .mains - 2 + 2 + 1) q
+            → Wrote q (s .mains - 2) 3 (seg (cells q) (s .mains - 2) 2 ++ seg (cells q) (s .mains - 2 + 2) 1) (slots y c) → Says (stepped y c (s .mains + 1) (s .alts)) (tuckTop limit (view s))
+        tucked q y c v w =
+            let p = slotsOf s in
             let b : ℕ = s .mains - 2 in
-            let same : (j : ℕ) → j < b + 2 → cells q j ≡ cells p j = λ j lt. kept-cell p q j (v .below j lt) in
             let l : List Item = cells p (b + 1) ∷ cells p b ∷ cells p (b + 1) ∷ [] in
             let e : (seg (cells q) b 2 ++ seg (cells q) (b + 2) 1) ++ tops (cells q) b ≡ l ++ tops (cells p) b =
             rw (
               add-zero b,
               add-zero (b + 2),
-              same (b + 1) (omega arith),
-              same b (omega arith),
-              copied-one p (b + 1) (b + 2) q v,
-              tops-ext (cells q) (cells p) b (λ j lt. same j (omega arith)),
+              v .below (b + 1) (omega arith),
+              v .below b (omega arith),
+              placed-one p (b + 1) (b + 2) q v,
+              tops-ext (cells q) (cells p) b (λ j lt. v .below j (omega arith)),
             ) in
-            says-main s f r b 3 l (record {
+            says-main s f y c b 3 l (record {
               sound = w .sound;
               main = w .main ∙ e;
-              below = λ j lt. kept-trans p q r j (v .below j (omega arith)) (w .below j lt);
-              above = λ j k. kept-trans p q r j (v .above j (omega arith)) (w .above j k);
+              below = λ j lt. w .below j lt ∙ v .below j (omega arith);
+              above = λ j k. w .above j k ∙ v .above j (omega arith);
             }) _ (omega arith) (omega arith) _ tuck-is
 
-        pub tuck-still : Blank (s .items .lens) (s .mains - 2) 3 → Says (stepped (s .items) (s .mains + 1) (s .alts)) (tuckTop limit (view s))
-        tuck-still x =
-            let b : ℕ = s .mains - 2 in
-            let e : getD (s .items .lens) b 0 ≡ 9 = rw add-zero at (x 0 (omega arith)) in
-            says-main s f _ b 3 _ (still (s .items) b (f .sound) 3 x) _ (omega arith) (omega arith) _ (tuck-is ∙ rw (x 1 (omega arith), e))
+        module _ (d c : List ℕ) (v : Copied (s .codes) (s .mains - 2 + 1) (s .mains - 2 + 2) 1 d) (w : Turned d (s .mains - 2) 1 2 c) where
+          pub tuck-done : (x y : List ℕ) → Copied (s .bytes) (s .mains - 2 + 1) (s .mains - 2 + 2) 1 x → Turned x (s .mains - 2) 1 2 y → Says (stepped y c (s .mains + 1) (s .alts)) (tuckTop limit (view s))
+          tuck-done x y m o =
+              let b : ℕ = s .mains - 2 in
+              let q = copied-both (slotsOf s) (f .sound) d (b + 1) (b + 2) 1 v x m in
+              tucked (slots x d) y c q (wrote-turned (slots x d) b 1 (slots y c) 2 (turned-both (slots x d) (q .sound) c b 1 2 w y o))
+
+          pub tuck-codes : Suffice (s .codes) (s .mains - 2) 2 → Says (stepped (s .bytes) c (s .mains + 1) (s .alts)) (tuckTop limit (view s))
+          unfolding apart
+          tuck-codes m =
+              let b : ℕ = s .mains - 2 in
+              let k : Suffice (s .codes) (b + 1) 1 = λ j lt. let e : b + 1 + j ≡ b + 1 = omega arith in rw e (m 1 (omega arith)) in
+              let q = copied-codes (slotsOf s) (f .sound) d (b + 1) (b + 2) 1 v k in
+              let n : Suffice d b (2 + 1) = λ j lt. either j 2 (sufficient (getD d (b + j) 0) ≡ true)
+              (λ e. rw (e, v .each (b + 2) (omega arith) (omega arith)) (let z : b + 1 + (b + 2 - (b + 2)) ≡ b + 1 = omega arith in rw z (m 1 (omega arith))))
+              (λ e. rw (v .below (b + j) (omega (arith, e))) (m j (omega (arith, e)))) in
+              tucked (slots (s .bytes) d) (s .bytes) c q (wrote-turned (slots (s .bytes) d) b 1 (slots (s .bytes) c) 2 (turned-codes (slots (s .bytes) d) (q .sound) c b 1 2 w n))
 
   pub nip-dry : s .mains < 2 → Says (refusing s (MainDry 2 (s .mains))) (nipSecond (view s))
   unfolding nipSecond view
   nip-dry h = refuses s f (MainDry 2 (s .mains)) (nipSecond (view s)) (rw (length-tops, lt-leb 2 (s .mains) h))
 
   module _ (g : 2 ≤ s .mains) where
-    nip-is : nipSecond (view s) ≡ changed (s .items) (cells (s .items) (s .mains - 2 + 1) ∷ tops (cells (s .items)) (s .mains - 2)) (s .alts)
+    nip-is : nipSecond (view s) ≡ changed (slotsOf s) (cells (slotsOf s) (s .mains - 2 + 1) ∷ tops (cells (slotsOf s)) (s .mains - 2)) (s .alts)
     unfolding nipSecond view
-    nip-is = rw (length-tops, le-leb 2 (s .mains) g, two (cells (s .items)) (s .mains) g)
+    nip-is = rw (length-tops, le-leb 2 (s .mains) g, two (cells (slotsOf s)) (s .mains) g)
 
-    pub nip-done : (q : Items) → Copied (s .items) (s .mains - 2 + 1) (s .mains - 2) 1 q → Says (stepped q (s .mains - 1) (s .alts)) (nipSecond (view s))
-    nip-done q w = says-main s f q (s .mains - 2) 1 _ w _ (omega arith) (omega (arith, f .room)) _ (nip-is ∙ rw add-zero)
+    module _ (c : List ℕ) (v : Copied (s .codes) (s .mains - 2 + 1) (s .mains - 2) 1 c) where
+      nipped : (y : List ℕ) → Placed (apart (s .mains - 2 + 1) (s .mains - 2)) (slotsOf s) (s .mains - 2) (s .mains - 2 + 1) (slots y c) → Says (stepped y c (s .mains - 1) (s .alts)) (nipSecond (view s))
+      nipped y w = says-main s f y c (s .mains - 2) 1 _ (wrote-copies (slotsOf s) (s .mains - 2) 1 (slots y c) (s .mains - 2 + 1) w) _ (omega arith) (omega (arith, f .room)) _ (nip-is ∙ rw add-zero)
 
-    pub nip-still : Blank (s .items .lens) (s .mains - 2) 2 → Says (stepped (s .items) (s .mains - 1) (s .alts)) (nipSecond (view s))
-    nip-still x = says-main s f _ (s .mains - 2) 1 _ (still (s .items) (s .mains - 2) (f .sound) 1 (λ j lt. x j (omega arith))) _ (omega arith) (omega (arith, f .room)) _
-        (nip-is ∙ rw (x 1 (omega arith)))
+      pub nip-done : (y : List ℕ) → Copied (s .bytes) (s .mains - 2 + 1) (s .mains - 2) 1 y → Says (stepped y c (s .mains - 1) (s .alts)) (nipSecond (view s))
+      nip-done y w = nipped y (copied-both (slotsOf s) (f .sound) c (s .mains - 2 + 1) (s .mains - 2) 1 v y w)
+
+      pub nip-codes : Suffice (s .codes) (s .mains - 2 + 1) 1 → Says (stepped (s .bytes) c (s .mains - 1) (s .alts)) (nipSecond (view s))
+      nip-codes k = nipped (s .bytes) (copied-codes (slotsOf s) (f .sound) c (s .mains - 2 + 1) (s .mains - 2) 1 v k)

@@ -2,33 +2,32 @@
 use mathlib.Core.Bool.{Bool, true, false}
 use mathlib.Core.Path.{_≡_, refl, ap, _∙_, subst⁻¹}
 use mathlib.Core.List.{List, [], _∷_, _++_, reverse, reverseAux, reverse-cons, append-assoc}
-use Prim.Native.Nat.{ℕ, zero, suc, _+_, _-_, _≤_}
+use Prim.Native.Nat.{ℕ, zero, suc, _+_, _-_, _≤_, _<_}
 use native.Mathlib.Omega.{arith}
-use borrow.Author.Tests.{leb-true, leb-false, le-leb}
-use lib.Dec.{leb}
 use lib.ListN.{length, getD, replicate, length-map, length-append, length-reverse, length-replicate, List·getD-map}
 use lib.Seq.{getD-append-seam}
-use Rattle.definition.specs.Basics.{pick}
+use Rattle.definition.specs.Basics.{Bytes}
+use Rattle.definition.specs.Decoding.{number}
 use Rattle.definition.specs.Replay.{AreBytes}
 use Rattle.definition.specs.Stacks as S
 use Rattle.definition.specs.Walk.{Item, unknown, exact}
 use Rattle.decode.specs.View.{lowBytes}
 use Rattle.decode.proofs.Bytes.{length-low, low-number, number-below, bytes-low}
-use Rattle.stack.specs.View.{slotItem, cells, backs, tops, view, slotLen, slotBytes, pool, packed, Canon, Fit}
+use Rattle.stack.specs.View.{slotsOf, slotItem, sufficient, codeOf, cells, backs, tops, view, slotCode, slotBytes, pool, packed, Canon, Fit}
 use Rattle.stack.specs.declared.Stacks.{Stacks}
-use Rattle.stack.proofs.Laws.{length-tops, tops-ext, Slot, item, raw, Good}
-use Rattle.stack.proofs.Mains.{canon-unknown}
+use Rattle.stack.proofs.Codes.{either, either-le, by-code, item-low, item-high, item-none, sufficient-high, sufficient-low, canon-sufficient, canon-unknown, canon-none, code-long, code-small, code-large}
+use Rattle.stack.proofs.Laws.{length-tops, tops-ext}
 
 -- Heights
 
 module _ (t : Stacks) where
   pub main-length : length (view t .main) ≡ t .mains
   unfolding view
-  main-length = length-tops (cells (t .items)) (t .mains)
+  main-length = length-tops (cells (slotsOf t)) (t .mains)
 
   pub alt-length : length (view t .alt) ≡ t .alts
   unfolding view
-  alt-length = length-tops (backs (t .items)) (t .alts)
+  alt-length = length-tops (backs (slotsOf t)) (t .alts)
 
   pub total-is : S.total (view t) ≡ t .mains + t .alts
   total-is = rw (main-length, alt-length)
@@ -40,29 +39,43 @@ abbrev pub HeldItem : Item → Type 0
 HeldItem unknown = Unit {0}
 HeldItem (exact l) = (length l ≤ 8) × AreBytes l
 
--- the slot of an item
-abbrev slotOf : Item → Slot
-slotOf x = record { len = slotLen x; bytes = slotBytes x }
+-- a slot of this code and these bytes has the item x, as it is written
+pub record SlotOf (x : Item) (code n : ℕ) : Type 0 where
+  pub same : slotItem code n ≡ x
+  pub canon : Canon code n
 
-slot-item : (x : Item) → HeldItem x → item (slotOf x) ≡ x
-slot-item unknown h = refl
-slot-item (exact l) h = rw (le-leb (length l) 8 (h .0), low-number l (h .1))
+-- by its length and its bytes
+slot-low : (l : Bytes) → AreBytes l → 1 ≤ length l → length l ≤ 8 → length l ≡ codeOf (length l) (number l) → (length l ≡ 1 → 245 < number l) → SlotOf (exact l) (slotCode (exact l)) (slotBytes (exact l))
+slot-low l b g h e k = rw (← e, sufficient-low (length l) g h) (record {
+  same = item-low (length l) (number l) h ∙ ap exact (low-number l b);
+  canon = record { byte = omega arith; held = λ _ _. number-below l b; large = k };
+})
 
-slot-good : (x : Item) → HeldItem x → Good (slotOf x)
-slot-good unknown h = canon-unknown
-slot-good (exact l) h = record { short = omega (arith, h .0); held = λ g. number-below l (h .1) }
+slot-none : SlotOf (exact []) (slotCode (exact [])) (slotBytes (exact []))
+unfolding codeOf sufficient
+slot-none = record { same = refl; canon = canon-none }
+
+slot-exact : (l : Bytes) → length l ≤ 8 → AreBytes l → SlotOf (exact l) (slotCode (exact l)) (slotBytes (exact l))
+slot-exact [] h b = slot-none
+slot-exact (x ∷ []) h b = either-le (number (x ∷ [])) 245 (SlotOf (exact (x ∷ [])) (slotCode (exact (x ∷ []))) (slotBytes (exact (x ∷ []))))
+    (λ k. rw (← code-small 1 (number (x ∷ [])) refl k) (record {
+      same = item-high (10 + number (x ∷ [])) _ (omega arith) ∙ (let e : 10 + number (x ∷ []) - 10 ≡ x = omega arith in rw e);
+      canon = canon-sufficient (10 + number (x ∷ [])) _ (omega arith) (sufficient-high (10 + number (x ∷ [])) (omega arith));
+    }))
+    (λ k. slot-low (x ∷ []) b (omega arith) h (code-large 1 (number (x ∷ [])) refl k) (λ _. k))
+slot-exact (x ∷ y ∷ l) h b = slot-low (x ∷ y ∷ l) b (omega arith) h (code-long (length (x ∷ y ∷ l)) (number (x ∷ y ∷ l)) (λ e. omega arith)) (λ e. absurd (omega arith))
+
+slot-of : (x : Item) → HeldItem x → SlotOf x (slotCode x) (slotBytes x)
+slot-of unknown h = record { same = refl; canon = canon-unknown }
+slot-of (exact l) h = slot-exact l (h .0) (h .1)
 
 -- the item of a slot
-module _ (len n : ℕ) (c : Canon len n) where
-  pub by-len : (P : Item → Type 0) → (len ≤ 8 → P (exact (lowBytes len n))) → (len ≡ 9 → P unknown) → P (slotItem len n)
-  by-len P f g = by (leb len 8) refl
-    where
-      by : (b : Bool) → leb len 8 ≡ b → P (pick b (exact (lowBytes len n)) unknown)
-      by true e = f (leb-true len 8 e)
-      by false e = g (omega (arith, leb-false len 8 e, c .short))
-
-  pub item-held : HeldItem (slotItem len n)
-  item-held = by-len HeldItem (λ h. (rw (length-low len n) h, bytes-low len n)) (λ h. tt)
+module _ (code n : ℕ) (c : Canon code n) where
+  pub item-held : HeldItem (slotItem code n)
+  item-held = by-code code n (HeldItem (slotItem code n))
+      (λ h. subst⁻¹ HeldItem (item-low code n h) (rw (length-low code n) h, bytes-low code n))
+      (λ e. subst⁻¹ HeldItem (item-none code n e) tt)
+      (λ h. subst⁻¹ HeldItem (item-high code n h) (omega arith, (omega (arith, c .byte), tt)))
 
 -- Stacks
 
@@ -125,12 +138,19 @@ module _ (s : S.Stacks Item) (h : HeldStacks s) where
   abbrev at : ℕ → Item
   at j = getD (pool s) j (exact [])
 
-  packed-raw : (j : ℕ) → raw (packed s .items) j ≡ slotOf (at j)
-  unfolding packed
-  packed-raw j = rw (List·getD-map slotLen (pool s) j (exact []), List·getD-map slotBytes (pool s) j (exact []))
+  slot-at : (j : ℕ) → SlotOf (at j) (slotCode (at j)) (slotBytes (at j))
+  slot-at j = slot-of (at j) (held-at (pool s) pool-held j)
 
-  packed-cells : (j : ℕ) → cells (packed s .items) j ≡ at j
-  packed-cells j = ap item (packed-raw j) ∙ slot-item (at j) (held-at (pool s) pool-held j)
+  packed-code : (j : ℕ) → getD (packed s .codes) j 0 ≡ slotCode (at j)
+  unfolding packed codeOf
+  packed-code j = rw (List·getD-map slotCode (pool s) j (exact []))
+
+  packed-bytes : (j : ℕ) → getD (packed s .bytes) j 0 ≡ slotBytes (at j)
+  unfolding packed codeOf sufficient
+  packed-bytes j = rw (List·getD-map slotBytes (pool s) j (exact []))
+
+  packed-cells : (j : ℕ) → cells (slotsOf (packed s)) j ≡ at j
+  packed-cells j = rw (packed-code j, packed-bytes j) (slot-at j .same)
 
   pub packed-fit : Fit (packed s)
   unfolding packed
@@ -138,15 +158,15 @@ module _ (s : S.Stacks Item) (h : HeldStacks s) where
     room = h .room;
     sound = record {
       wholeBytes = length-map (pool s) slotBytes ∙ pool-length;
-      wholeLens = length-map (pool s) slotLen ∙ pool-length;
-      canon = λ j. subst⁻¹ Good (packed-raw j) (slot-good (at j) (held-at (pool s) pool-held j));
+      wholeCodes = length-map (pool s) slotCode ∙ pool-length;
+      canon = λ j. rw (packed-code j, packed-bytes j) (slot-at j .canon);
     };
   }
 
-  packed-main : tops (cells (packed s .items)) (length (s .main)) ≡ s .main
+  packed-main : tops (cells (slotsOf (packed s))) (length (s .main)) ≡ s .main
   packed-main = tops-ext _ at (length (s .main)) (λ j l. packed-cells j) ∙ tops-reverse (exact []) (s .main) _
 
-  packed-alt : tops (backs (packed s .items)) (length (s .alt)) ≡ s .alt
+  packed-alt : tops (backs (slotsOf (packed s))) (length (s .alt)) ≡ s .alt
   packed-alt = tops-ext _ (λ j. at (243 - j)) (length (s .alt)) (λ j l. packed-cells (243 - j))
       ∙ rw (← append-assoc) (tops-end (exact []) (reverse (s .main) ++ replicate (244 - S.total s) unknown) (s .alt)
       (simp (length-append, length-reverse, length-replicate) (omega (arith, h .room))))
@@ -159,11 +179,11 @@ module _ (t : Stacks) (f : Fit t) where
   pub held-view : HeldStacks (view t)
   unfolding view
   held-view =
-      let c : (j : ℕ) → HeldItem (cells (t .items) j) = λ j. item-held _ _ (f .sound .canon j) in
+      let c : (j : ℕ) → HeldItem (cells (slotsOf t) j) = λ j. item-held _ _ (f .sound .canon j) in
       record {
         room = rw (total-is t) (f .room);
-        main = helds-tops (cells (t .items)) c (t .mains);
-        alt = helds-tops (backs (t .items)) (λ j. c (243 - j)) (t .alts);
+        main = helds-tops (cells (slotsOf t)) c (t .mains);
+        alt = helds-tops (backs (slotsOf t)) (λ j. c (243 - j)) (t .alts);
       }
 
   pub packed-view-fit : Fit (packed (view t))

@@ -6,81 +6,62 @@ use Prim.Native.Nat.{ℕ, zero, suc, _+_, _-_, _≤_, _<_}
 use native.Mathlib.Nat.{add-zero, add-suc, suc-add, zero-add}
 use native.Mathlib.Numerals.{add-one}
 use native.Mathlib.Omega.{arith}
-use borrow.Author.Tests.{le-leb, leb-true, leb-false, ltb-true, ltb-false}
-use lib.Dec.{leb, ltb}
-use lib.ListN.{length, getD, replicate, getD-replicate, List·getD-eq-default}
+use borrow.Author.Tests.{ltb-true, ltb-false}
+use lib.Dec.{ltb}
+use lib.ListN.{length, getD, set, replicate, getD-replicate, List·getD-eq-default}
 use Rattle.definition.specs.Walk.{Item, unknown, unknowns}
-use Rattle.decode.proofs.Bytes.{length-low, number-low}
-use Rattle.stack.specs.View.{slotItem, cells, backs, tops, view, Canon, Sound, Fit, Fresh, slotLen, slotBytes, pool, packed}
-use Rattle.stack.specs.Parts.{Kept, Each, ClearAt}
-use Rattle.stack.specs.declared.Items.{Items}
+use Rattle.stack.specs.View.{Slots, slots, slotsOf, slotItem, sufficient, cells, backs, tops, view, Canon, Sound, Fit, Fresh, slotCode, slotBytes, pool, packed}
+use Rattle.stack.specs.Parts.{Each, ClearAt, SameAt}
 use Rattle.stack.specs.declared.Stacks.{Stacks}
-use Rattle.stack.proofs.Laws.{length-tops, tops-ext, Slot, raw, put}
-use Rattle.stack.proofs.Mains.{canon-unknown}
-use Rattle.stack.proofs.Loops.{each-more}
+use Rattle.stack.proofs.Codes.{canon-unknown, canon-none, clear-code}
+use Rattle.stack.proofs.Laws.{length-tops, tops-ext, each-more}
 
 -- Fresh stacks
 
-abbrev pub blanks : Items
-blanks = record { bytes = replicate 244 0; lens = replicate 244 9 }
+abbrev pub blanks : Slots
+blanks = slots (replicate 244 0) (replicate 244 9)
 
-blank-len : (j : ℕ) → j < 244 → getD (blanks .lens) j 0 ≡ 9
-blank-len j h = getD-replicate {A = ℕ} 244 j 9 0 h
+blank-code : (j : ℕ) → j < 244 → getD (blanks .codes) j 0 ≡ 9
+blank-code j h = getD-replicate {A = ℕ} 244 j 9 0 h
 
 blank-bytes : (j : ℕ) → j < 244 → getD (blanks .bytes) j 0 ≡ 0
 blank-bytes j h = getD-replicate {A = ℕ} 244 j 0 0 h
 
-blank-canon : (j : ℕ) → Canon (getD (blanks .lens) j 0) (getD (blanks .bytes) j 0)
+blank-canon : (j : ℕ) → Canon (getD (blanks .codes) j 0) (getD (blanks .bytes) j 0)
 blank-canon j = by (ltb j 244) refl
   where
-    by : (b : Bool) → ltb j 244 ≡ b → Canon (getD (blanks .lens) j 0) (getD (blanks .bytes) j 0)
-    by true e = rw (blank-len j (ltb-true j 244 e)) canon-unknown
+    by : (b : Bool) → ltb j 244 ≡ b → Canon (getD (blanks .codes) j 0) (getD (blanks .bytes) j 0)
+    by true e = rw (blank-code j (ltb-true j 244 e)) canon-unknown
     by false e =
         let g : 244 ≤ j = ltb-false j 244 e in
         rw (List·getD-eq-default {A = ℕ} (replicate 244 9) 0 {n = j} g, List·getD-eq-default {A = ℕ} (replicate 244 0) 0 {n = j} g)
-        (record { short = omega arith; held = λ h. omega arith })
+        canon-none
 
 pub blank-sound : Sound blanks
-blank-sound = record { wholeBytes = refl; wholeLens = refl; canon = blank-canon }
+blank-sound = record { wholeBytes = refl; wholeCodes = refl; canon = blank-canon }
 
 tops-same : (f : ℕ → Item) (n : ℕ) → ((j : ℕ) → j < n → f j ≡ unknown) → tops f n ≡ replicate n unknown
 tops-same f zero h = refl
 tops-same f (suc n) h = rw (h n (omega arith), tops-same f n (λ j lt. h j (omega arith)))
 
-pub fresh : (main alt : ℕ) → main + alt ≤ 244 → Fresh main alt (record { items = blanks; mains = main; alts = alt })
+pub fresh : (main alt : ℕ) → main + alt ≤ 244 → Fresh main alt (record { bytes = replicate 244 0; mains = main; alts = alt; codes = replicate 244 9 })
 unfolding view
 fresh main alt h = record {
   fit = record { room = h; sound = blank-sound };
-  same = rw (tops-same (cells blanks) main (λ j lt. rw (blank-len j (omega arith))), tops-same (backs blanks) alt (λ j lt. rw (blank-len (243 - j) (omega arith))));
+  same = rw (tops-same (cells blanks) main (λ j lt. rw (blank-code j (omega arith))), tops-same (backs blanks) alt (λ j lt. rw (blank-code (243 - j) (omega arith))));
 }
 
 -- The one form of a slot
 
-module _ (len n : ℕ) (c : Canon len n) where
-  pub clear-len : len ≡ slotLen (slotItem len n)
-  clear-len = by (leb len 8) refl
-    where
-      by : (b : Bool) → leb len 8 ≡ b → len ≡ slotLen (slotItem len n)
-      by true e = rw e (sym (length-low len n))
-      by false e = rw e (omega (arith, leb-false len 8 e, c .short))
+no-bytes : 0 ≡ slotBytes unknown
+unfolding sufficient
+no-bytes = refl
 
-  pub clear-bytes : (len ≡ 9 → ⊥) → n ≡ slotBytes (slotItem len n)
-  clear-bytes h =
-      let g : len ≤ 8 = omega (arith, c .short, h) in
-      rw (le-leb len 8 g) (sym (number-low len n (c .held g)))
+pub clearing-more : (p : Slots) (o q : List ℕ) (a i e x : ℕ) → length o ≡ 244 → a ≤ i → i < e → e ≤ 244 → x ≡ slotBytes (cells p i) → Each (ClearAt p) o a i q → Each (ClearAt p) o a (i + 1) (set q i x)
+clearing-more p o q a i e x w h lt g k v = each-more (ClearAt p) o a q i x h (omega arith) k v
 
-  pub clear-unknown : len ≡ 9 → 0 ≡ slotBytes (slotItem len n)
-  clear-unknown e = rw e
-
-  clear-canon : Canon len (slotBytes (slotItem len n))
-  clear-canon = record { short = c .short; held = λ h. let e : (len ≡ 9 → ⊥) = λ g. omega arith in rw (← clear-bytes e) (c .held h) }
-
-pub clearing-more : (p o q : Items) (a i e z : ℕ) → Sound p → a ≤ i → i < e → e ≤ 244 → z ≡ slotBytes (cells p i) → Each (ClearAt p) o a i q
-    → Each (ClearAt p) o a (i + 1) (put q i (record { len = getD (p .lens) i 0; bytes = z }))
-clearing-more p o q a i e z s h lt k g v =
-    let c = s .canon i in
-    each-more (ClearAt p) o a q i (record { len = getD (p .lens) i 0; bytes = z }) h (omega arith)
-    (rw g (clear-canon _ _ c)) (clear-len _ _ c, g) v
+pub keeping-more : (l o q : List ℕ) (a i e : ℕ) → length o ≡ 244 → a ≤ i → i < e → e ≤ 244 → Each (SameAt l) o a i q → Each (SameAt l) o a (i + 1) (set q i (getD l i 0))
+keeping-more l o q a i e w h lt g v = each-more (SameAt l) o a q i (getD l i 0) h (omega arith) refl v
 
 -- Lists of slots
 
@@ -139,26 +120,24 @@ module _ (φ : Item → ℕ) (c : ℕ → Item) (l : List ℕ) where
       rw (map-append φ, map-append φ, row-tops c m, map-row 0 m (λ j p q. lo j (omega arith)), map-same m d (λ j p q. mid j p (omega arith)), map-backs a (omega arith) hi)
       (sym all ∙ ap (row g 0) e₁ ∙ row-list l 0)
 
-module _ (s : Stacks) (f : Fit s) (q r : Items)
-    (v : Each (ClearAt (s .items)) blanks 0 (s .mains) q) (w : Each (ClearAt (s .items)) q (244 - s .alts) 244 r) where
-  low : (j : ℕ) → j < s .mains → ClearAt (s .items) j (getD (r .lens) j 0) (getD (r .bytes) j 0)
-  low j h =
-      let k = w .below j (omega (arith, f .room)) in
-      rw (k .len, k .bytes) (v .each j (omega arith) h)
+module _ (s : Stacks) (f : Fit s) (x y : List ℕ) (v : Each (ClearAt (slotsOf s)) (replicate 244 0) 0 (s .mains) x) (w : Each (ClearAt (slotsOf s)) x (244 - s .alts) 244 y) (d c : List ℕ)
+    (k : Each (SameAt (s .codes)) (replicate 244 9) 0 (s .mains) d) (m : Each (SameAt (s .codes)) d (244 - s .alts) 244 c) where
+  code : (j : ℕ) → getD (s .codes) j 0 ≡ slotCode (cells (slotsOf s) j)
+  code j = clear-code _ _ (f .sound .canon j)
 
-  mid : (j : ℕ) → s .mains ≤ j → j < 244 - s .alts → (getD (r .lens) j 0 ≡ 9) × (getD (r .bytes) j 0 ≡ 0)
-  mid j g h =
-      let k = w .below j h in
-      let i = v .above j g in
-      (k .len ∙ i .len ∙ blank-len j (omega arith), k .bytes ∙ i .bytes ∙ blank-bytes j (omega arith))
-
-  pub cleared-is : record { items = r; mains = s .mains; alts = s .alts } ≡ packed (view s)
+  pub cleared-is : record { bytes = y; mains = s .mains; alts = s .alts; codes = c } ≡ packed (view s)
   unfolding view packed
   cleared-is =
-      let c = cells (s .items) in
+      let p = cells (slotsOf s) in
       rw (
         length-tops,
         length-tops,
-        list-is slotLen c (r .lens) (s .mains) (s .alts) (f .room) (w .sound .wholeLens) (λ j h. low j h .0) (λ j g h. mid j g h .0) (λ j g h. w .each j g h .0),
-        list-is slotBytes c (r .bytes) (s .mains) (s .alts) (f .room) (w .sound .wholeBytes) (λ j h. low j h .1) (λ j g h. mid j g h .1) (λ j g h. w .each j g h .1),
+        list-is slotCode p c (s .mains) (s .alts) (f .room) (m .whole ∙ k .whole)
+            (λ j h. m .below j (omega (arith, f .room)) ∙ k .each j (omega arith) h ∙ code j)
+            (λ j g h. m .below j h ∙ k .above j g ∙ blank-code j (omega arith))
+            (λ j g h. m .each j g h ∙ code j),
+        list-is slotBytes p y (s .mains) (s .alts) (f .room) (w .whole ∙ v .whole)
+            (λ j h. w .below j (omega (arith, f .room)) ∙ v .each j (omega arith) h)
+            (λ j g h. w .below j h ∙ v .above j g ∙ blank-bytes j (omega arith) ∙ no-bytes)
+            (w .each),
       )

@@ -6,7 +6,7 @@ use mathlib.Core.Option.{none, some}
 use Prim.Native.Nat.{ℕ, zero, suc, _+_, _-_, _*_, _%_, _^_, _≤_, _<_}
 use native.Mathlib.Nat.{add-zero, pow-succ', pow-le-pow-right}
 use native.Mathlib.Omega.{arith}
-use borrow.Author.Tests.{le-leb, ltb-true}
+use borrow.Author.Tests.{ltb-true}
 use mir.Syntax.{w64}
 use mir.Val.{Fits}
 use lib.Dec.{leb, ltb}
@@ -25,28 +25,44 @@ use Rattle.decode.specs.declared.Value.the-variants.{Unknown, Exact}
 use Rattle.decode.specs.declared.Index.{Index}
 use Rattle.decode.specs.declared.Index.the-variants as I
 use Rattle.decode.proofs.Bytes.{bytes-low, length-low}
-use Rattle.stack.specs.View.{slotItem, cells, tops, view, Canon, Fit, Says}
-use Rattle.stack.specs.Parts.{InSlot, Small, counted, Pops}
+use Rattle.stack.specs.View.{slotsOf, slotItem, sufficient, cells, tops, view, Canon, Fit, Says}
+use Rattle.stack.specs.Parts.{InSlot, countOf, without, Small, counted, Pops}
 use Rattle.stack.specs.declared.Stacks.{Stacks}
 use Rattle.stack.specs.declared.Refusal.{Refusal}
 use Rattle.stack.specs.declared.Refusal.the-variants.{MainDry, BadIndex}
 use Rattle.stack.specs.declared.Stepped.{Stepped}
 use Rattle.stack.specs.declared.Count.{Count}
 use Rattle.stack.specs.declared.Count.the-variants as C
-use Rattle.stack.specs.declared.Popped.{Popped}
+use Rattle.stack.proofs.Codes.{either, item-low, item-high, item-none, same-item, same-canon, is-sufficient, not-sufficient}
 use Rattle.stack.proofs.Laws.{tops-seg}
-use Rattle.stack.proofs.Mains.{without, without-fit, refusing, refuses}
+use Rattle.stack.proofs.Mains.{without-fit, refusing, refuses}
 
 -- The value in a slot
 
-module _ (len n : ℕ) where
-  pub slot-unknown : len ≡ 9 → InSlot len n Unknown
-  slot-unknown e = record { held = tt; item = rw e }
+module _ (code n : ℕ) (c : Canon code n) where
+  pub slot-unknown : code ≡ 9 → InSlot code n Unknown
+  slot-unknown e = record { held = tt; item = sym (item-none code n e) }
 
-  pub slot-exact : Canon len n → (len ≡ 9 → ⊥) → InSlot len n (Exact len n)
-  slot-exact c h =
-      let g : len ≤ 8 = omega (arith, c .short, h) in
-      record { held = (g, c .held g); item = rw (le-leb len 8 g) }
+  pub slot-byte : 9 < code → InSlot code n (Exact 1 (code - 10))
+  slot-byte h =
+      let e : (code - 10) % 256 ≡ code - 10 = omega (arith, c .byte) in
+      record { held = (omega arith, omega (arith, c .byte)); item = sym (item-high code n h ∙ rw e) }
+
+  pub slot-exact : (code ≡ 0 → n ≡ 0) → code ≤ 9 → (code ≡ 9 → ⊥) → InSlot code n (Exact code n)
+  slot-exact z h g =
+      let k : code ≤ 8 = omega (arith, g) in
+      record { held = (k, either code 0 (n < 256 ^ code) (λ e. rw (e, z e) (omega arith)) (λ e. c .held (omega (arith, e)) k)); item = sym (item-low code n k) }
+
+-- in place of the bytes beside a code that suffices: 0
+module _ (code n : ℕ) (c : Canon code n) where
+  pub code-alone : sufficient code ≡ true → (Canon code 0) × (code ≡ 0 → _≡_ {A = ℕ} 0 0)
+  code-alone e = (same-canon code n 0 e c, λ g. refl)
+
+  pub with-bytes : sufficient code ≡ false → (Canon code n) × (code ≡ 0 → n ≡ 0)
+  with-bytes e = let k : (1 ≤ code) × (code ≤ 8) = not-sufficient code e in (c, λ g. absurd (omega arith))
+
+  pub in-slot : (v : Value) → sufficient code ≡ true → InSlot code 0 v → InSlot code n v
+  in-slot v e k = record { held = k .held; item = k .item ∙ same-item code 0 n e }
 
 -- Popping
 
@@ -55,9 +71,9 @@ module _ (s : Stacks) where
   unfolding view
   pop-dry h next = let e : s .mains ≡ 0 = omega arith in rw e
 
-  pub pop-is : 1 ≤ s .mains → (next : Item → S.Stacks Item → S.Outcome Item) → pop (view s) next ≡ next (cells (s .items) (s .mains - 1)) (view (without s 1))
+  pub pop-is : 1 ≤ s .mains → (next : Item → S.Stacks Item → S.Outcome Item) → pop (view s) next ≡ next (cells (slotsOf s) (s .mains - 1)) (view (without s 1))
   unfolding view
-  pop-is h next = rw (tops-seg (cells (s .items)) (s .mains - 1) 1 (s .mains) (omega arith), add-zero)
+  pop-is h next = rw (tops-seg (cells (slotsOf s)) (s .mains - 1) 1 (s .mains) (omega arith), add-zero)
 
 -- Indices
 
@@ -93,49 +109,72 @@ readable-at D.noNumber n e = cc
 readable-at D.negative n e = cc
 readable-at (D.index m) n e = cc
 
-readable-not : (x : D.Index) (i : Index) → indexed x ≡ i → ((n : ℕ) → i ≡ I.At n → ⊥) → (next : ℕ → S.Outcome Item) → readable marking x next ≡ S.refused badIndex
-readable-not D.notKnown i e h next = refl
-readable-not D.noNumber i e h next = refl
-readable-not D.negative i e h next = refl
-readable-not (D.index m) i e h next = absurd (h m (sym e))
+-- the index of a value, as the code's
+module _ (v : Value) (i : Index) (e : i ≡ indexed (indexOf (bytesKnown (itemOf v)))) where
+  pub count-at : (n : ℕ) → i ≡ I.At n → C.At n ≡ countOf (indexOf (bytesKnown (itemOf v)))
+  count-at n g = let x : indexOf (bytesKnown (itemOf v)) ≡ D.index n = readable-at _ n (sym e ∙ g) in rw x
+
+  count-bad : (x : D.Index) → i ≡ indexed x → ((n : ℕ) → i ≡ I.At n → ⊥) → C.Refused BadIndex ≡ countOf x
+  count-bad D.notKnown e h = refl
+  count-bad D.noNumber e h = refl
+  count-bad D.negative e h = refl
+  count-bad (D.index m) e h = absurd (h m e)
+
+  pub count-unknown : i ≡ I.Unknown → C.Refused BadIndex ≡ countOf (indexOf (bytesKnown (itemOf v)))
+  count-unknown g = count-bad (indexOf (bytesKnown (itemOf v))) e (λ n q. let z : _≡_ {A = ℕ} 0 1 = cc in omega arith)
+
+  pub count-no-number : i ≡ I.NoNumber → C.Refused BadIndex ≡ countOf (indexOf (bytesKnown (itemOf v)))
+  count-no-number g = count-bad (indexOf (bytesKnown (itemOf v))) e (λ n q. let z : _≡_ {A = ℕ} 0 1 = cc in omega arith)
+
+  pub count-negative : i ≡ I.Negative → C.Refused BadIndex ≡ countOf (indexOf (bytesKnown (itemOf v)))
+  count-negative g = count-bad (indexOf (bytesKnown (itemOf v))) e (λ n q. let z : _≡_ {A = ℕ} 0 1 = cc in omega arith)
 
 module _ (s : Stacks) (f : Fit s) where
-  pub pops-dry : s .mains < 1 → Pops (view s) (record { stacks = s; count = C.Refused (MainDry 1 (s .mains)) })
-  pops-dry h = record { fit = f; small = tt; same = λ next. pop-dry s h _ }
+  pub pops-dry : s .mains < 1 → Pops s (C.Refused (MainDry 1 (s .mains)))
+  pops-dry h = record { small = tt; same = λ next. pop-dry s h _ }
 
-  module _ (h : 1 ≤ s .mains) (v : Value) (i : Index) (k : InSlot (getD (s .items .lens) (s .mains - 1) 0) (getD (s .items .bytes) (s .mains - 1) 0) v) (e : i ≡ indexed (indexOf (bytesKnown (itemOf v)))) where
-    pub pops-at : (n : ℕ) → i ≡ I.At n → Pops (view s) (record { stacks = without s 1; count = C.At n })
-    pops-at n g =
-        let x : indexOf (bytesKnown (itemOf v)) ≡ D.index n = readable-at _ n (sym e ∙ g) in
-        record {
-          fit = without-fit s f 1;
-          small = small v (k .held) n x;
-          same = λ next. pop-is s h _ ∙ rw (← k .item, x);
-        }
+  module _ (h : 1 ≤ s .mains) (v : Value) (i : Count) (e : i ≡ countOf (indexOf (bytesKnown (itemOf v)))) where
+    -- the value v is on top
+    pops : InSlot (getD (s .codes) (s .mains - 1) 0) (getD (s .bytes) (s .mains - 1) 0) v → Pops s i
+    pops k = rw e (record { small = small v (k .held); same = λ next. pop-is s h _ ∙ rw (← k .item) (on (indexOf (bytesKnown (itemOf v))) next) })
       where
-        small : (w : Value) → Held w → (n : ℕ) → indexOf (bytesKnown (itemOf w)) ≡ D.index n → n < 2 ^ 63
-        small Unknown h n x = absurd (let z : _≡_ {A = ℕ} 0 1 = cc in omega arith)
-        small (Exact len b) h n x = index-small (lowBytes len b) (bytes-low len b) n (rw (length-low len b) (h .0)) x
+        some-index : (x : D.Index) → ((n : ℕ) → x ≡ D.index n → n < 2 ^ 63) → Small (s .mains) (countOf x)
+        some-index D.notKnown g = tt
+        some-index D.noNumber g = tt
+        some-index D.negative g = tt
+        some-index (D.index n) g = (g n refl, h)
 
-    pops-bad : ((n : ℕ) → i ≡ I.At n → ⊥) → Pops (view s) (record { stacks = s; count = C.Refused BadIndex })
-    pops-bad g = record { fit = f; small = tt; same = λ next. pop-is s h _ ∙ rw (← k .item) (readable-not (indexOf (bytesKnown (itemOf v))) i (sym e) g (λ n. next n (view (without s 1)))) }
+        small : (w : Value) → Held w → Small (s .mains) (countOf (indexOf (bytesKnown (itemOf w))))
+        small Unknown g = tt
+        small (Exact len b) g = some-index _ (λ n x. index-small (lowBytes len b) (bytes-low len b) n (rw (length-low len b) (g .0)) x)
 
-    pub pops-unknown : i ≡ I.Unknown → Pops (view s) (record { stacks = s; count = C.Refused BadIndex })
-    pops-unknown g = pops-bad (λ n q. let z : _≡_ {A = ℕ} 0 1 = cc in omega arith)
+        on : (x : D.Index) (next : ℕ → S.Stacks Item → S.Outcome Item) → readable marking x (λ n. next n (view (without s 1))) ≡ counted (countOf x) (view (without s 1)) next
+        on D.notKnown next = refl
+        on D.noNumber next = refl
+        on D.negative next = refl
+        on (D.index n) next = refl
 
-    pub pops-no-number : i ≡ I.NoNumber → Pops (view s) (record { stacks = s; count = C.Refused BadIndex })
-    pops-no-number g = pops-bad (λ n q. let z : _≡_ {A = ℕ} 0 1 = cc in omega arith)
+    pub pops-code : sufficient (getD (s .codes) (s .mains - 1) 0) ≡ true → InSlot (getD (s .codes) (s .mains - 1) 0) 0 v → Pops s i
+    pops-code z k = pops (in-slot _ _ (f .sound .canon (s .mains - 1)) v z k)
 
-    pub pops-negative : i ≡ I.Negative → Pops (view s) (record { stacks = s; count = C.Refused BadIndex })
-    pops-negative g = pops-bad (λ n q. let z : _≡_ {A = ℕ} 0 1 = cc in omega arith)
+    pub pops-bytes : InSlot (getD (s .codes) (s .mains - 1) 0) (getD (s .bytes) (s .mains - 1) 0) v → Pops s i
+    pops-bytes = pops
 
-pub next-fits : (c : Count) (n : ℕ) → c ≡ C.At n → Small c → Fits w64 (n + 1)
-next-fits c n e s = let h : n < 2 ^ 63 = rw e at s in record { fits = omega arith }
+-- the next number fits, and there was an item
+module _ (s : Stacks) (c : Count) (k : Pops s c) (n : ℕ) (e : c ≡ C.At n) where
+  at-small : (n < 2 ^ 63) × (1 ≤ s .mains)
+  at-small = rw e at (k .small)
+
+  pub next-fits : (m : ℕ) → m ≤ 2 → Fits w64 (n + m)
+  next-fits m g = let h = at-small .0 in record { fits = omega arith }
+
+  pub had-one : 1 ≤ s .mains
+  had-one = at-small .1
 
 -- on from a popped index
-module _ (s : S.Stacks Item) (c : Popped) (k : Pops s c) (next : ℕ → S.Stacks Item → S.Outcome Item) where
-  pub on-at : (n : ℕ) → c .count ≡ C.At n → (r : Stepped) → Says r (next n (view (c .stacks))) → Says r (popIndex marking s next)
+module _ (s : Stacks) (c : Count) (k : Pops s c) (next : ℕ → S.Stacks Item → S.Outcome Item) where
+  pub on-at : (n : ℕ) → c ≡ C.At n → (r : Stepped) → Says r (next n (view (without s 1))) → Says r (popIndex marking (view s) next)
   on-at n e r v = rw (k .same next, e) v
 
-  pub on-refused : (f : Refusal) → c .count ≡ C.Refused f → Says (refusing (c .stacks) f) (popIndex marking s next)
-  on-refused f e = refuses (c .stacks) (k .fit) f _ (k .same next ∙ rw e)
+  pub on-refused : Fit s → (x : Refusal) → c ≡ C.Refused x → Says (refusing s x) (popIndex marking (view s) next)
+  on-refused f x e = refuses s f x _ (k .same next ∙ rw e)

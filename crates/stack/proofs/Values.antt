@@ -1,40 +1,54 @@
--- Values and the slots that hold them.
+-- Pushes of values, by their codes and with their bytes.
+use mathlib.Core.Bool.{true, false}
 use mathlib.Core.Path.{_≡_, refl, sym, ap, _∙_}
 use Prim.Native.Nat.{ℕ, _+_, _≤_, _<_}
 use native.Mathlib.Omega.{arith}
-use borrow.Author.Tests.{le-leb}
-use lib.ListN.{getD, set}
+use mir.Syntax.{w8}
+use mir.Val.{Fits}
+use lib.ListN.{set}
 use Rattle.definition.specs.Stacks.{pushItem}
 use Rattle.definition.specs.Walk.{exact}
 use Rattle.decode.specs.View.{lowBytes, itemOf, Held}
 use Rattle.decode.specs.declared.Value.{Value}
 use Rattle.decode.specs.declared.Value.the-variants.{Unknown, Exact}
-use Rattle.stack.specs.View.{slotItem, view, Canon, Fit, Says}
+use Rattle.stack.specs.View.{slotItem, sufficient, codeOf, view, Fit, Says}
 use Rattle.stack.specs.declared.Stacks.{Stacks}
 use Rattle.stack.specs.declared.Stepped.{Stepped}
-use Rattle.stack.proofs.Laws.{Slot, put}
-use Rattle.stack.proofs.Mains.{stepped, push-put, push-still, push-mark}
-
-pub canon-exact : (len n : ℕ) → Held (Exact len n) → Canon len n
-canon-exact len n h = record { short = omega (arith, h .0); held = λ _. h .1 }
+use Rattle.stack.proofs.Codes.{sufficient-high, item-low, code-item, exact-canon}
+use Rattle.stack.proofs.Mains.{stepped, push-put, push-mark}
 
 pub held-exact : (v : Value) (len n : ℕ) → v ≡ Exact len n → Held v → Held (Exact len n)
 held-exact v len n e h = rw e at h
 
-pub push-exact : (s : Stacks) → Fit s → (limit len n : ℕ) → Held (Exact len n) → limit ≤ 244 → s .mains + s .alts + 1 ≤ limit
-    → Says (stepped (put (s .items) (s .mains) (record { len = len; bytes = n })) (s .mains + 1) (s .alts)) (pushItem limit (exact (lowBytes len n)) (view s))
-push-exact s f limit len n k t h =
-    let e : slotItem len n ≡ exact (lowBytes len n) = rw (le-leb len 8 (k .0)) in
-    rw e at (push-put s f limit t h (record { len = len; bytes = n }) (canon-exact len n k))
+pub unknown-suffices : sufficient 9 ≡ true
+unknown-suffices = sufficient-high 9 (omega arith)
+
+-- a code that suffices, and one that does not
+module _ (code c : ℕ) (e : code ≡ c) where
+  pub code-suffices : sufficient code ≡ true → sufficient c ≡ true
+  code-suffices h = rw e at h
+
+  pub code-wants : sufficient code ≡ false → sufficient c ≡ false
+  code-wants h = rw e at h
+
+module _ (s : Stacks) (f : Fit s) (limit : ℕ) (t : limit ≤ 244) (h : s .mains + s .alts + 1 ≤ limit) where
+  pub push-code : (code : ℕ) → Fits w8 code → sufficient code ≡ true → Says (stepped (s .bytes) (set (s .codes) (s .mains) code) (s .mains + 1) (s .alts)) (pushItem limit (slotItem code 0) (view s))
+  push-code code k e = push-mark s f limit t h code (omega (arith, k .fits)) e
+
+  pub push-exact : (len n : ℕ) → Held (Exact len n) → sufficient (codeOf len n) ≡ false
+      → Says (stepped (set (s .bytes) (s .mains) n) (set (s .codes) (s .mains) len) (s .mains + 1) (s .alts)) (pushItem limit (exact (lowBytes len n)) (view s))
+  push-exact len n k e = rw (item-low len n (k .0)) at (push-put s f limit t h len n (exact-canon len n k e))
 
 -- a push of the value v
-module _ (s : Stacks) (f : Fit s) (limit : ℕ) (v : Value) where
-  pub push-is-exact : (len n : ℕ) → v ≡ Exact len n → (r : Stepped) → Says r (pushItem limit (exact (lowBytes len n)) (view s)) → Says r (pushItem limit (itemOf v) (view s))
-  push-is-exact len n e r k = rw e k
+module _ (s : Stacks) (limit : ℕ) (v : Value) (r : Stepped) where
+  pub push-is-unknown : v ≡ Unknown → Says r (pushItem limit (slotItem 9 0) (view s)) → Says r (pushItem limit (itemOf v) (view s))
+  push-is-unknown e k = rw e k
 
-  module _ (e : v ≡ Unknown) (t : limit ≤ 244) (h : s .mains + s .alts + 1 ≤ limit) where
-    pub push-is-still : getD (s .items .lens) (s .mains) 0 ≡ 9 → Says (stepped (s .items) (s .mains + 1) (s .alts)) (pushItem limit (itemOf v) (view s))
-    push-is-still g = rw e (push-still s f limit t h g)
+  module _ (len n : ℕ) (e : v ≡ Exact len n) where
+    pub push-is-code : Held v → (code : ℕ) → code ≡ codeOf len n → sufficient code ≡ true → Says r (pushItem limit (slotItem code 0) (view s)) → Says r (pushItem limit (itemOf v) (view s))
+    push-is-code h code g z k =
+        let y : slotItem code 0 ≡ exact (lowBytes len n) = ap (λ x. slotItem x 0) g ∙ code-item len n (rw e at h) (rw g at z) in
+        rw e (rw y at k)
 
-    pub push-is-mark : Says (stepped (record { bytes = s .items .bytes; lens = set (s .items .lens) (s .mains) 9 }) (s .mains + 1) (s .alts)) (pushItem limit (itemOf v) (view s))
-    push-is-mark = rw e (push-mark s f limit t h)
+    pub push-is-exact : Says r (pushItem limit (exact (lowBytes len n)) (view s)) → Says r (pushItem limit (itemOf v) (view s))
+    push-is-exact k = rw e k

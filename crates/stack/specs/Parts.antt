@@ -1,84 +1,101 @@
 -- What the private functions of this crate ensure.
+use mathlib.Core.Bool.{true}
 use mathlib.Core.List.{List, [], _∷_, _++_}
 use mathlib.Core.Path.{_≡_}
-use Prim.Native.Nat.{ℕ, zero, suc, _+_, _^_, _≤_, _<_}
-use lib.ListN.{getD}
+use Prim.Native.Nat.{ℕ, zero, suc, _+_, _-_, _^_, _≤_, _<_}
+use lib.Dec.{leb, ltb}
+use lib.ListN.{length, getD}
+use Rattle.definition.specs.Basics.{pick}
+use Rattle.definition.specs.Decoding as D
 use Rattle.definition.specs.Stacks as S
 use Rattle.definition.specs.Walk.{Item, joinItem, marking}
 use Rattle.decode.specs.View.{itemOf, Held}
 use Rattle.decode.specs.declared.Value.{Value}
-use Rattle.stack.specs.View.{refusalOf, slotItem, cells, tops, view, Canon, Sound, Fit, slotLen, slotBytes}
-use Rattle.stack.specs.declared.Items.{Items}
+use Rattle.stack.specs.View.{refusalOf, Slots, slotItem, sufficient, cells, view, Canon, slotBytes}
 use Rattle.stack.specs.declared.Count.{Count}
 use Rattle.stack.specs.declared.Count.the-variants.{At, Refused}
-use Rattle.stack.specs.declared.Popped.{Popped}
+use Rattle.stack.specs.declared.Refusal.the-variants.{BadIndex}
+use Rattle.stack.specs.declared.Stacks.{Stacks}
 
--- the n slots from a on are unknown
-abbrev pub Blank : List ℕ → ℕ → ℕ → Type 0
-Blank lens a n = (j : ℕ) → j < n → getD lens (a + j) 0 ≡ 9
+-- the n codes from a on say their items by themselves
+abbrev pub Suffice : List ℕ → ℕ → ℕ → Type 0
+Suffice codes a n = (j : ℕ) → j < n → sufficient (getD codes (a + j) 0) ≡ true
 
--- slot j of r is that of p
-pub record Kept (p r : Items) (j : ℕ) : Type 0 where
-  pub len : getD (r .lens) j 0 ≡ getD (p .lens) j 0
-  pub bytes : getD (r .bytes) j 0 ≡ getD (p .bytes) j 0
+-- the numbers of r from a up to e are as P says, the others are those of l
+pub record Each (P : ℕ → ℕ → Type 0) (l : List ℕ) (a e : ℕ) (r : List ℕ) : Type 0 where
+  pub whole : length r ≡ length l
+  pub each : (j : ℕ) → a ≤ j → j < e → P j (getD r j 0)
+  pub below : (j : ℕ) → j < a → getD r j 0 ≡ getD l j 0
+  pub above : (j : ℕ) → e ≤ j → getD r j 0 ≡ getD l j 0
 
--- f at a + n - 1, .., a
-abbrev pub seg : {A : Type 0} → (ℕ → A) → ℕ → ℕ → List A
-seg f a zero = []
-seg f a (suc n) = f (a + n) ∷ seg f a n
+-- the numbers of r from b up to e are those of l at the places that f names
+abbrev pub Moved : (ℕ → ℕ) → List ℕ → ℕ → ℕ → List ℕ → Type 0
+Moved f l b e r = Each (λ j x. x ≡ getD l (f j) 0) l b e r
 
--- the n slots of r from b on hold the items l, the last first, the others are those of p
-pub record Wrote (p : Items) (b n : ℕ) (l : List Item) (r : Items) : Type 0 where
-  pub sound : Sound r
-  pub main : tops (cells r) (b + n) ≡ l ++ tops (cells p) b
-  pub below : (j : ℕ) → j < b → Kept p r j
-  pub above : (j : ℕ) → b + n ≤ j → Kept p r j
+-- where the number at j comes from: from as far above a as j is above b
+unfoldable pub apart : ℕ → ℕ → ℕ → ℕ
+apart a b j = a + (j - b)
 
--- n slots copied from a on to b on
-abbrev pub Copied : Items → ℕ → ℕ → ℕ → Items → Type 0
-Copied p a b n r = Wrote p b n (seg (cells p) a n) r
+-- n numbers copied from a on to b on
+abbrev pub Copied : List ℕ → ℕ → ℕ → ℕ → List ℕ → Type 0
+Copied l a b n r = Moved (apart a b) l b (b + n) r
 
--- the n slots from b on, the lowest k of them put on top
-abbrev pub Turned : Items → ℕ → ℕ → ℕ → Items → Type 0
-Turned p b n k r = Wrote p b (k + n) (seg (cells p) b k ++ seg (cells p) (b + k) n) r
+-- where it comes from when n numbers come down by k to b, and the k below them go on top
+unfoldable pub turn : ℕ → ℕ → ℕ → ℕ → ℕ
+turn b n k j = pick (ltb j (b + n)) (j + k) (j - n)
 
--- the slots of r from a up to e are as P says of their length and bytes, the others are those of p
-pub record Each (P : ℕ → ℕ → ℕ → Type 0) (p : Items) (a e : ℕ) (r : Items) : Type 0 where
-  pub sound : Sound r
-  pub each : (j : ℕ) → a ≤ j → j < e → P j (getD (r .lens) j 0) (getD (r .bytes) j 0)
-  pub below : (j : ℕ) → j < a → Kept p r j
-  pub above : (j : ℕ) → e ≤ j → Kept p r j
+-- the k + n numbers from b on, the lowest k of them put on top
+abbrev pub Turned : List ℕ → ℕ → ℕ → ℕ → List ℕ → Type 0
+Turned l b n k r = Moved (turn b n k) l b (b + (k + n)) r
 
--- with the length r, the slot of these bytes has what it and the other slot have in common
-pub record Joined (len bytes len1 bytes1 r : ℕ) : Type 0 where
-  pub item : slotItem r bytes ≡ joinItem (slotItem len bytes) (slotItem len1 bytes1)
+-- with the code r, the slot of these bytes has what it and the other slot have in common
+pub record Joined (code bytes code1 bytes1 r : ℕ) : Type 0 where
+  pub item : slotItem r bytes ≡ joinItem (slotItem code bytes) (slotItem code1 bytes1)
   pub canon : Canon r bytes
 
--- slot j has what the slots j of p and t have in common
-abbrev pub JoinedAt : Items → Items → ℕ → ℕ → ℕ → Type 0
-JoinedAt p t j len bytes = slotItem len bytes ≡ joinItem (cells p j) (cells t j)
+-- the code x at j is that of what the slots j of p and t have in common
+abbrev pub JoinedAt : Slots → Slots → ℕ → ℕ → Type 0
+JoinedAt p t j x = Joined (getD (p .codes) j 0) (getD (p .bytes) j 0) (getD (t .codes) j 0) (getD (t .bytes) j 0) x
 
--- slot j has the item of slot j of p, in the one form
-abbrev pub ClearAt : Items → ℕ → ℕ → ℕ → Type 0
-ClearAt p j len bytes = (len ≡ slotLen (cells p j)) × (bytes ≡ slotBytes (cells p j))
+-- the bytes at j are those of slot j of p, in the one form
+abbrev pub ClearAt : Slots → ℕ → ℕ → Type 0
+ClearAt p j x = x ≡ slotBytes (cells p j)
 
--- v is the value in a slot of this length and these bytes
-pub record InSlot (len bytes : ℕ) (v : Value) : Type 0 where
+-- the number at j is that of l
+abbrev pub SameAt : List ℕ → ℕ → ℕ → Type 0
+SameAt l j x = x ≡ getD l j 0
+
+-- the length of an exact item, by its code
+unfoldable pub codeLength : ℕ → ℕ
+codeLength code = pick (leb code 8) code 1
+
+-- v is the value in a slot of this code and these bytes
+pub record InSlot (code bytes : ℕ) (v : Value) : Type 0 where
   pub held : Held v
-  pub item : itemOf v ≡ slotItem len bytes
+  pub item : itemOf v ≡ slotItem code bytes
 
--- an index takes 63 bits at most
-abbrev pub Small : Count → Type 0
-Small (At n) = n < 2 ^ 63
-Small (Refused f) = Unit {0}
+-- an index as it is read, or the refusal
+abbrev pub countOf : D.Index → Count
+countOf D.notKnown = Refused BadIndex
+countOf D.noNumber = Refused BadIndex
+countOf D.negative = Refused BadIndex
+countOf (D.index n) = At n
+
+-- the stacks without the top k of main
+abbrev pub without : Stacks → ℕ → Stacks
+without s k = record { bytes = s .bytes; mains = s .mains - k; alts = s .alts; codes = s .codes }
+
+-- an index takes 63 bits at most, and was on main
+abbrev pub Small : ℕ → Count → Type 0
+Small mains (At n) = (n < 2 ^ 63) × (1 ≤ mains)
+Small mains (Refused f) = Unit {0}
 
 -- on from a popped index
 abbrev pub counted : Count → S.Stacks Item → (ℕ → S.Stacks Item → S.Outcome Item) → S.Outcome Item
 counted (At n) s next = next n s
 counted (Refused f) s next = S.refused (refusalOf f)
 
--- r is the index popped from s, with the stacks without it
-pub record Pops (s : S.Stacks Item) (r : Popped) : Type 0 where
-  pub fit : Fit (r .stacks)
-  pub small : Small (r .count)
-  pub same : (next : ℕ → S.Stacks Item → S.Outcome Item) → S.popIndex marking s next ≡ counted (r .count) (view (r .stacks)) next
+-- r is the index on top of main
+pub record Pops (s : Stacks) (r : Count) : Type 0 where
+  pub small : Small (s .mains) r
+  pub same : (next : ℕ → S.Stacks Item → S.Outcome Item) → S.popIndex marking (view s) next ≡ counted r (view (without s 1)) next

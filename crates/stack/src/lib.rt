@@ -1,13 +1,15 @@
 // The two stacks, by value, and what the ordinary opcodes do to them: document 01, section 3.
 ghost use mathlib.Core.Path.{_≡_};
-ghost use mathlib.Core.Bool.{true};
+ghost use mathlib.Core.Bool.{true, false};
+ghost use lib.ListN.{length};
 ghost use Prim.Native.Nat.{_+_, _≤_, _<_};
 ghost use Rattle.definition.specs.Classes.{DEPTH, SIZE, PICK, ZK};
 ghost use Rattle.definition.specs.Stacks.{pushItem, dropItems, copyItems, rotateItems, tuckTop, nipSecond, moveToAlt, moveFromAlt, popIndex, zkDrop};
-ghost use Rattle.definition.specs.Walk.{exact, marking, joinStacks};
+ghost use Rattle.definition.specs.Decoding.{indexOf};
+ghost use Rattle.definition.specs.Walk.{exact, bytesKnown, marking, joinStacks};
 ghost use Rattle.decode.specs.View.{lowBytes, itemOf, Held};
-ghost use Rattle.stack.specs.View.{view, packed, plain, slotItem, slotBytes, Canon, Sound, Fit, Fresh, Says, Steps};
-ghost use Rattle.stack.specs.Parts.{Blank, Copied, Turned, Joined, Each, JoinedAt, ClearAt, InSlot, Pops};
+ghost use Rattle.stack.specs.View.{view, slots, packed, plain, slotItem, slotBytes, codeOf, sufficient, Canon, Sound, Fit, Fresh, Says, Steps};
+ghost use Rattle.stack.specs.Parts.{Suffice, Copied, Turned, Joined, Each, JoinedAt, ClearAt, SameAt, InSlot, codeLength, countOf, Pops};
 use decode::Index;
 use decode::Value;
 use decode::number_value;
@@ -15,17 +17,15 @@ use decode::read_index;
 
 pub const MAX_STACK_SIZE: u32 = 244;
 
-// The slots of both stacks: main from the bottom, alt from the top end. A length of 9 is an unknown item; the bytes of
-// an exact one are one number, the first byte the lowest.
-pub struct Items {
-    pub bytes: [u64; 244],
-    pub lens: [u8; 244],
-}
-
+// Both stacks lie in the same 244 slots: main from the bottom, alt from the top end. A slot has a code and bytes. A code of
+// 0 to 8 is an exact item of so many bytes, which stand in `bytes` as one number, the first byte the lowest; 9 is an
+// unknown item; 10 + v is the exact item of the one byte v, and such an item, v at most 245, is always written so. The two
+// heights lie between the arrays: each array is then copied by itself, where it is written.
 pub struct Stacks {
-    pub items: Items,
+    pub bytes: [u64; 244],
     pub mains: u32,
     pub alts: u32,
+    pub codes: [u8; 244],
 }
 
 // The refusals of a walk, 5 to 16 of section 7, with those of their figures that are not fixed.
@@ -61,23 +61,38 @@ pub enum Count {
     Refused(Refusal),
 }
 
-pub struct Popped {
-    pub stacks: Stacks,
-    pub count: Count,
+// Whether a code says its item by itself, whatever the bytes of the slot.
+pub fn suffices(code: u8) -> bool
+    ensures { λ r. ⌜ r ≡ sufficient code ⌝ }
+{
+    if code == 0 {
+        return true;
+    }
+    code >= 9
 }
 
-// Whether the count slots from `from` on and those from `to` on are all unknown: an operation on them alone changes no
-// slot, and writing none spares a copy of them all.
-fn blank(lens: [u8; 244], from: usize, to: usize, count: usize) -> bool
-    requires { ⌜ (from + count ≤ 244) × (to + count ≤ 244) ⌝ }
-    ensures { λ r. ⌜ (r ≡ true → (Blank lens from count) × (Blank lens to count)) ⌝ }
+// The code of an exact item of so many bytes.
+pub fn code_of(len: u8, bytes: u64) -> u8
+    ensures { λ r. ⌜ r ≡ codeOf len bytes ⌝ }
+{
+    if len != 1 {
+        return len;
+    }
+    if bytes <= 245 {
+        return 10 + (bytes as u8);
+    }
+    len
+}
+
+// Whether the count codes from `from` on say their items by themselves: the bytes can then stay as they are.
+fn all_suffice(codes: [u8; 244], from: usize, count: usize) -> bool
+    requires { ⌜ from + count ≤ 244 ⌝ }
+    ensures { λ r. ⌜ (r ≡ true → Suffice codes from count) ⌝ }
 {
     let mut j: usize = 0;
     while j < count {
-        if lens[from + j] != 9 {
-            return false;
-        }
-        if lens[to + j] != 9 {
+        let code = codes[from + j];
+        if !suffices(code) {
             return false;
         }
         j += 1;
@@ -85,117 +100,204 @@ fn blank(lens: [u8; 244], from: usize, to: usize, count: usize) -> bool
     true
 }
 
-// Copies count slots, the lowest first.
-fn copy_slots(mut items: Items, from: usize, to: usize, count: usize) -> Items
-    requires { ⌜ Sound items ⌝ }
+// Copies count codes, the lowest first.
+fn copy_codes(mut codes: [u8; 244], from: usize, to: usize, count: usize) -> [u8; 244]
+    requires { ⌜ length codes ≡ 244 ⌝ }
     requires { ⌜ (from + count ≤ 244) × (to + count ≤ 244) × (from < to → from + count ≤ to) ⌝ }
-    ensures { λ r. ⌜ Copied items from to count r ⌝ }
+    ensures { λ r. ⌜ Copied codes from to count r ⌝ }
 {
     let mut j: usize = 0;
     while j < count {
-        let x = items.bytes[from + j];
-        items.bytes[to + j] = x;
-        let y = items.lens[from + j];
-        items.lens[to + j] = y;
+        let x = codes[from + j];
+        codes[to + j] = x;
         j += 1;
     }
-    items
+    codes
 }
 
-// Puts the k slots from b on, one or two, on top of the rest that lies above them.
-fn rotate_slots(mut items: Items, b: usize, k: usize, rest: usize) -> Items
-    requires { ⌜ Sound items ⌝ }
+// The same of bytes.
+fn copy_bytes(mut bytes: [u64; 244], from: usize, to: usize, count: usize) -> [u64; 244]
+    requires { ⌜ length bytes ≡ 244 ⌝ }
+    requires { ⌜ (from + count ≤ 244) × (to + count ≤ 244) × (from < to → from + count ≤ to) ⌝ }
+    ensures { λ r. ⌜ Copied bytes from to count r ⌝ }
+{
+    let mut j: usize = 0;
+    while j < count {
+        let x = bytes[from + j];
+        bytes[to + j] = x;
+        j += 1;
+    }
+    bytes
+}
+
+// Puts the k codes from b on, one or two, on top of the rest that lies above them.
+fn rotate_codes(mut codes: [u8; 244], b: usize, k: usize, rest: usize) -> [u8; 244]
+    requires { ⌜ length codes ≡ 244 ⌝ }
     requires { ⌜ (1 ≤ k) × (k ≤ 2) × (b + k + rest ≤ 244) ⌝ }
-    ensures { λ r. ⌜ Turned items b rest k r ⌝ }
+    ensures { λ r. ⌜ Turned codes b rest k r ⌝ }
 {
     let from = b + k;
-    let x0 = items.bytes[b];
-    let y0 = items.lens[b];
-    let x1 = items.bytes[from - 1];
-    let y1 = items.lens[from - 1];
+    let x0 = codes[b];
+    let x1 = codes[from - 1];
     let mut j: usize = 0;
     while j < rest {
-        let x = items.bytes[from + j];
-        items.bytes[b + j] = x;
-        let y = items.lens[from + j];
-        items.lens[b + j] = y;
+        let x = codes[from + j];
+        codes[b + j] = x;
         j += 1;
     }
-    items.bytes[b + rest] = x0;
-    items.lens[b + rest] = y0;
-    items.bytes[from + rest - 1] = x1;
-    items.lens[from + rest - 1] = y1;
-    items
+    codes[b + rest] = x0;
+    codes[from + rest - 1] = x1;
+    codes
 }
 
-// The length of a slot that joins another.
-fn joined(len: u8, bytes: u64, len1: u8, bytes1: u64) -> u8
-    requires { ⌜ (Canon len bytes) × (Canon len1 bytes1) ⌝ }
-    ensures { λ r. ⌜ Joined len bytes len1 bytes1 r ⌝ }
+// The same of bytes.
+fn rotate_bytes(mut bytes: [u64; 244], b: usize, k: usize, rest: usize) -> [u64; 244]
+    requires { ⌜ length bytes ≡ 244 ⌝ }
+    requires { ⌜ (1 ≤ k) × (k ≤ 2) × (b + k + rest ≤ 244) ⌝ }
+    ensures { λ r. ⌜ Turned bytes b rest k r ⌝ }
 {
-    if len != len1 {
+    let from = b + k;
+    let x0 = bytes[b];
+    let x1 = bytes[from - 1];
+    let mut j: usize = 0;
+    while j < rest {
+        let x = bytes[from + j];
+        bytes[b + j] = x;
+        j += 1;
+    }
+    bytes[b + rest] = x0;
+    bytes[from + rest - 1] = x1;
+    bytes
+}
+
+// The code of a slot that joins another.
+fn joined(code: u8, bytes: u64, code1: u8, bytes1: u64) -> u8
+    requires { ⌜ (Canon code bytes) × (Canon code1 bytes1) ⌝ }
+    ensures { λ r. ⌜ Joined code bytes code1 bytes1 r ⌝ }
+{
+    if code != code1 {
         return 9;
+    }
+    if suffices(code) {
+        return code;
     }
     if bytes != bytes1 {
         return 9;
     }
-    len
+    code
 }
 
-fn join_slots(mut items: Items, theirs: Items, from: usize, to: usize) -> Items
-    requires { ⌜ (Sound items) × (Sound theirs) × (from ≤ to) × (to ≤ 244) ⌝ }
-    ensures { λ r. ⌜ Each (JoinedAt items theirs) items from to r ⌝ }
+// The codes of the slots that join others. The bytes stay.
+fn join_codes(
+    mut codes: [u8; 244],
+    bytes: [u64; 244],
+    codes1: [u8; 244],
+    bytes1: [u64; 244],
+    from: usize,
+    to: usize,
+) -> [u8; 244]
+    requires { ⌜ (Sound (slots bytes codes)) × (Sound (slots bytes1 codes1)) × (from ≤ to) × (to ≤ 244) ⌝ }
+    ensures { λ r. ⌜ Each (JoinedAt (slots bytes codes) (slots bytes1 codes1)) codes from to r ⌝ }
 {
     let mut i = from;
     while i < to {
-        let len = items.lens[i];
-        let bytes = items.bytes[i];
-        let len1 = theirs.lens[i];
-        let bytes1 = theirs.bytes[i];
-        items.lens[i] = joined(len, bytes, len1, bytes1);
+        let code = codes[i];
+        let n = bytes[i];
+        let code1 = codes1[i];
+        let n1 = bytes1[i];
+        codes[i] = joined(code, n, code1, n1);
         i += 1;
     }
-    items
+    codes
 }
 
-// The bytes of an unknown slot become 0.
-fn clear_bytes(len: u8, bytes: u64) -> u64
-    requires { ⌜ Canon len bytes ⌝ }
-    ensures { λ r. ⌜ r ≡ slotBytes (slotItem len bytes) ⌝ }
+// The bytes of a slot become 0 where its code suffices.
+fn clear_bytes(code: u8, bytes: u64) -> u64
+    requires { ⌜ Canon code bytes ⌝ }
+    ensures { λ r. ⌜ r ≡ slotBytes (slotItem code bytes) ⌝ }
 {
-    if len == 9 {
+    if suffices(code) {
         return 0;
     }
     bytes
 }
 
-fn clear_slots(mut cleared: Items, items: Items, from: usize, to: usize) -> Items
-    requires { ⌜ (Sound cleared) × (Sound items) × (from ≤ to) × (to ≤ 244) ⌝ }
-    ensures { λ r. ⌜ Each (ClearAt items) cleared from to r ⌝ }
+fn clear_slots(
+    mut cleared: [u64; 244],
+    codes: [u8; 244],
+    bytes: [u64; 244],
+    from: usize,
+    to: usize,
+) -> [u64; 244]
+    requires { ⌜ (length cleared ≡ 244) × (Sound (slots bytes codes)) × (from ≤ to) × (to ≤ 244) ⌝ }
+    ensures { λ r. ⌜ Each (ClearAt (slots bytes codes)) cleared from to r ⌝ }
 {
     let mut i = from;
     while i < to {
-        let len = items.lens[i];
-        let bytes = items.bytes[i];
-        cleared.bytes[i] = clear_bytes(len, bytes);
-        cleared.lens[i] = len;
+        let code = codes[i];
+        let n = bytes[i];
+        cleared[i] = clear_bytes(code, n);
         i += 1;
     }
     cleared
 }
 
-// The value in a slot.
-fn slot_value(len: u8, bytes: u64) -> Value
-    requires { ⌜ Canon len bytes ⌝ }
-    ensures { λ r. ⌜ InSlot len bytes r ⌝ }
+// The codes of the slots from `from` up to `to`, among those given.
+fn keep_codes(mut kept: [u8; 244], codes: [u8; 244], from: usize, to: usize) -> [u8; 244]
+    requires { ⌜ (length kept ≡ 244) × (from ≤ to) × (to ≤ 244) ⌝ }
+    ensures { λ r. ⌜ Each (SameAt codes) kept from to r ⌝ }
 {
-    if len == 9 {
+    let mut i = from;
+    while i < to {
+        let code = codes[i];
+        kept[i] = code;
+        i += 1;
+    }
+    kept
+}
+
+// The value in a slot, by its code and, where that does not suffice, its bytes.
+fn slot_value(code: u8, bytes: u64) -> Value
+    requires { ⌜ (Canon code bytes) × (code ≡ 0 → bytes ≡ 0) ⌝ }
+    ensures { λ r. ⌜ InSlot code bytes r ⌝ }
+{
+    if code == 9 {
         return Value::Unknown;
     }
+    if code > 9 {
+        return Value::Exact {
+            len: 1,
+            bytes: (code - 10) as u64,
+        };
+    }
     Value::Exact {
-        len: len,
+        len: code,
         bytes: bytes,
     }
+}
+
+// The index or the count that a value is.
+fn count_of(v: Value) -> Count
+    requires { ⌜ Held v ⌝ }
+    ensures { λ r. ⌜ r ≡ countOf (indexOf (bytesKnown (itemOf v))) ⌝ }
+{
+    let index = read_index(v);
+    match index {
+        Index::At(n) => Count::At(n),
+        Index::Unknown => Count::Refused(Refusal::BadIndex),
+        Index::NoNumber => Count::Refused(Refusal::BadIndex),
+        Index::Negative => Count::Refused(Refusal::BadIndex),
+    }
+}
+
+// The length of an exact item, by its code.
+fn code_length(code: u8) -> u8
+    ensures { λ r. ⌜ r ≡ codeLength code ⌝ }
+{
+    if code <= 8 {
+        return code;
+    }
+    1
 }
 
 impl Stacks {
@@ -203,26 +305,37 @@ impl Stacks {
         requires { ⌜ main + alt ≤ 244 ⌝ }
         ensures { λ r. ⌜ Fresh main alt r ⌝ }
     {
-        let items = Items {
-            bytes: [0u64; 244],
-            lens: [9u8; 244],
-        };
         Stacks {
-            items: items,
+            bytes: [0u64; 244],
             mains: main,
             alts: alt,
+            codes: [9u8; 244],
         }
     }
 
-    pub fn push(mut self, v: Value, limit: u32) -> Stepped
+    pub fn push(self, v: Value, limit: u32) -> Stepped
         requires { ⌜ Fit self ⌝ }
         requires { ⌜ Held v ⌝ }
         requires { ⌜ limit ≤ 244 ⌝ }
         ensures { λ r. ⌜ Says r (pushItem limit (itemOf v) (view self)) ⌝ }
     {
         if let Value::Exact { len, bytes } = v {
+            let code = code_of(len, bytes);
+            if suffices(code) {
+                return self.push_code(code, limit);
+            }
             return self.push_exact(len, bytes, limit);
         }
+        self.push_code(9, limit)
+    }
+
+    // Pushes an item that a code says by itself.
+    pub fn push_code(mut self, code: u8, limit: u32) -> Stepped
+        requires { ⌜ Fit self ⌝ }
+        requires { ⌜ sufficient code ≡ true ⌝ }
+        requires { ⌜ limit ≤ 244 ⌝ }
+        ensures { λ r. ⌜ Says r (pushItem limit (slotItem code 0) (view self)) ⌝ }
+    {
         let m = self.mains;
         let a = self.alts;
         if limit < m + a + 1 {
@@ -234,27 +347,22 @@ impl Stacks {
                 }),
             };
         }
-        let i = m as usize;
         self.mains = m + 1;
-        let lens = self.items.lens;
-        if lens[i] == 9 {
-            return Stepped {
-                stacks: self,
-                answer: Answer::Done,
-            };
-        }
-        let mut items = self.items;
-        items.lens[i] = 9;
-        self.items = items;
+        let i = m as usize;
+        let mut codes = self.codes;
+        codes[i] = code;
+        self.codes = codes;
         Stepped {
             stacks: self,
             answer: Answer::Done,
         }
     }
 
-    fn push_exact(mut self, len: u8, bytes: u64, limit: u32) -> Stepped
+    // Pushes an exact item whose code does not suffice: it is its length.
+    pub fn push_exact(mut self, len: u8, bytes: u64, limit: u32) -> Stepped
         requires { ⌜ Fit self ⌝ }
         requires { ⌜ Held (Value.Exact len bytes) ⌝ }
+        requires { ⌜ sufficient (codeOf len bytes) ≡ false ⌝ }
         requires { ⌜ limit ≤ 244 ⌝ }
         ensures { λ r. ⌜ Says r (pushItem limit (exact (lowBytes len bytes)) (view self)) ⌝ }
     {
@@ -269,12 +377,14 @@ impl Stacks {
                 }),
             };
         }
-        let i = m as usize;
-        let mut items = self.items;
-        items.bytes[i] = bytes;
-        items.lens[i] = len;
-        self.items = items;
         self.mains = m + 1;
+        let i = m as usize;
+        let mut codes = self.codes;
+        codes[i] = len;
+        self.codes = codes;
+        let mut all = self.bytes;
+        all[i] = bytes;
+        self.bytes = all;
         Stepped {
             stacks: self,
             answer: Answer::Done,
@@ -336,16 +446,9 @@ impl Stacks {
         }
         let i = n as usize;
         self.mains = n + 1;
-        let lens = self.items.lens;
-        if lens[i] == 9 {
-            return Stepped {
-                stacks: self,
-                answer: Answer::Done,
-            };
-        }
-        let mut items = self.items;
-        items.lens[i] = 9;
-        self.items = items;
+        let mut codes = self.codes;
+        codes[i] = 9;
+        self.codes = codes;
         Stepped {
             stacks: self,
             answer: Answer::Done,
@@ -383,16 +486,19 @@ impl Stacks {
         let from = to - depth as usize;
         let n = count as usize;
         self.mains = m + count;
-        let lens = self.items.lens;
-        if blank(lens, from, to, n) {
+        let codes = self.codes;
+        let suffice = all_suffice(codes, from, n);
+        let moved = copy_codes(codes, from, to, n);
+        self.codes = moved;
+        if suffice {
             return Stepped {
                 stacks: self,
                 answer: Answer::Done,
             };
         }
-        let items = self.items;
-        let copied = copy_slots(items, from, to, n);
-        self.items = copied;
+        let bytes = self.bytes;
+        let moved_bytes = copy_bytes(bytes, from, to, n);
+        self.bytes = moved_bytes;
         Stepped {
             stacks: self,
             answer: Answer::Done,
@@ -418,16 +524,19 @@ impl Stacks {
         let n = count as usize;
         let k = shift as usize;
         let b = m as usize - n;
-        let lens = self.items.lens;
-        if blank(lens, b, b, n) {
+        let codes = self.codes;
+        let suffice = all_suffice(codes, b, n);
+        let turned = rotate_codes(codes, b, k, n - k);
+        self.codes = turned;
+        if suffice {
             return Stepped {
                 stacks: self,
                 answer: Answer::Done,
             };
         }
-        let items = self.items;
-        let turned = rotate_slots(items, b, k, n - k);
-        self.items = turned;
+        let bytes = self.bytes;
+        let turned_bytes = rotate_bytes(bytes, b, k, n - k);
+        self.bytes = turned_bytes;
         Stepped {
             stacks: self,
             answer: Answer::Done,
@@ -465,17 +574,21 @@ impl Stacks {
         }
         let b = (m - 2) as usize;
         self.mains = m + 1;
-        let lens = self.items.lens;
-        if blank(lens, b, b, 3) {
+        let codes = self.codes;
+        let suffice = all_suffice(codes, b, 2);
+        let copied = copy_codes(codes, b + 1, b + 2, 1);
+        let turned = rotate_codes(copied, b, 2, 1);
+        self.codes = turned;
+        if suffice {
             return Stepped {
                 stacks: self,
                 answer: Answer::Done,
             };
         }
-        let items = self.items;
-        let copied = copy_slots(items, b + 1, b + 2, 1);
-        let turned = rotate_slots(copied, b, 2, 1);
-        self.items = turned;
+        let bytes = self.bytes;
+        let copies = copy_bytes(bytes, b + 1, b + 2, 1);
+        let turned_bytes = rotate_bytes(copies, b, 2, 1);
+        self.bytes = turned_bytes;
         Stepped {
             stacks: self,
             answer: Answer::Done,
@@ -495,16 +608,19 @@ impl Stacks {
         }
         let b = (m - 2) as usize;
         self.mains = m - 1;
-        let lens = self.items.lens;
-        if blank(lens, b, b, 2) {
+        let codes = self.codes;
+        let suffice = all_suffice(codes, b + 1, 1);
+        let moved = copy_codes(codes, b + 1, b, 1);
+        self.codes = moved;
+        if suffice {
             return Stepped {
                 stacks: self,
                 answer: Answer::Done,
             };
         }
-        let items = self.items;
-        let copied = copy_slots(items, b + 1, b, 1);
-        self.items = copied;
+        let bytes = self.bytes;
+        let moved_bytes = copy_bytes(bytes, b + 1, b, 1);
+        self.bytes = moved_bytes;
         Stepped {
             stacks: self,
             answer: Answer::Done,
@@ -527,16 +643,27 @@ impl Stacks {
         let to = (243 - a) as usize;
         self.mains = m - 1;
         self.alts = a + 1;
-        let lens = self.items.lens;
-        if blank(lens, from, to, 1) {
+        let codes = self.codes;
+        if codes[from] == 9 {
+            if codes[to] == 9 {
+                return Stepped {
+                    stacks: self,
+                    answer: Answer::Done,
+                };
+            }
+        }
+        let suffice = all_suffice(codes, from, 1);
+        let moved = copy_codes(codes, from, to, 1);
+        self.codes = moved;
+        if suffice {
             return Stepped {
                 stacks: self,
                 answer: Answer::Done,
             };
         }
-        let items = self.items;
-        let copied = copy_slots(items, from, to, 1);
-        self.items = copied;
+        let bytes = self.bytes;
+        let moved_bytes = copy_bytes(bytes, from, to, 1);
+        self.bytes = moved_bytes;
         Stepped {
             stacks: self,
             answer: Answer::Done,
@@ -559,16 +686,27 @@ impl Stacks {
         let to = m as usize;
         self.mains = m + 1;
         self.alts = a - 1;
-        let lens = self.items.lens;
-        if blank(lens, from, to, 1) {
+        let codes = self.codes;
+        if codes[from] == 9 {
+            if codes[to] == 9 {
+                return Stepped {
+                    stacks: self,
+                    answer: Answer::Done,
+                };
+            }
+        }
+        let suffice = all_suffice(codes, from, 1);
+        let moved = copy_codes(codes, from, to, 1);
+        self.codes = moved;
+        if suffice {
             return Stepped {
                 stacks: self,
                 answer: Answer::Done,
             };
         }
-        let items = self.items;
-        let copied = copy_slots(items, from, to, 1);
-        self.items = copied;
+        let bytes = self.bytes;
+        let moved_bytes = copy_bytes(bytes, from, to, 1);
+        self.bytes = moved_bytes;
         Stepped {
             stacks: self,
             answer: Answer::Done,
@@ -594,11 +732,13 @@ impl Stacks {
                 answer: Answer::Refused(Refusal::ArmsDiffer),
             };
         }
-        let items = self.items;
-        let theirs = other.items;
-        let main = join_slots(items, theirs, 0, m as usize);
-        let both = join_slots(main, theirs, (244 - a) as usize, 244);
-        self.items = both;
+        let codes = self.codes;
+        let bytes = self.bytes;
+        let codes1 = other.codes;
+        let bytes1 = other.bytes;
+        let main = join_codes(codes, bytes, codes1, bytes1, 0, m as usize);
+        let both = join_codes(main, bytes, codes1, bytes1, (244 - a) as usize, 244);
+        self.codes = both;
         Stepped {
             stacks: self,
             answer: Answer::Done,
@@ -612,84 +752,67 @@ impl Stacks {
     {
         let m = self.mains;
         let a = self.alts;
-        let items = self.items;
-        let none = Items {
-            bytes: [0u64; 244],
-            lens: [9u8; 244],
-        };
-        let main = clear_slots(none, items, 0, m as usize);
-        let both = clear_slots(main, items, (244 - a) as usize, 244);
-        self.items = both;
+        let codes = self.codes;
+        let bytes = self.bytes;
+        let low = clear_slots([0u64; 244], codes, bytes, 0, m as usize);
+        let high = clear_slots(low, codes, bytes, (244 - a) as usize, 244);
+        self.bytes = high;
+        let main = keep_codes([9u8; 244], codes, 0, m as usize);
+        let both = keep_codes(main, codes, (244 - a) as usize, 244);
+        self.codes = both;
         self
     }
 
-    fn pop_count(mut self) -> Popped
+    // The index or the count on top of main, which is still there.
+    fn top_count(self) -> Count
         requires { ⌜ Fit self ⌝ }
-        ensures { λ r. ⌜ Pops (view self) r ⌝ }
+        ensures { λ r. ⌜ Pops self r ⌝ }
     {
         let m = self.mains;
         if m < 1 {
-            return Popped {
-                stacks: self,
-                count: Count::Refused(Refusal::MainDry { needed: 1, had: m }),
-            };
+            return Count::Refused(Refusal::MainDry { needed: 1, had: m });
         }
         let i = (m - 1) as usize;
-        let items = self.items;
-        let len = items.lens[i];
-        let bytes = items.bytes[i];
-        let index = read_index(slot_value(len, bytes));
-        match index {
-            Index::At(n) => {
-                self.mains = m - 1;
-                Popped {
-                    stacks: self,
-                    count: Count::At(n),
-                }
-            }
-            Index::Unknown => Popped {
-                stacks: self,
-                count: Count::Refused(Refusal::BadIndex),
-            },
-            Index::NoNumber => Popped {
-                stacks: self,
-                count: Count::Refused(Refusal::BadIndex),
-            },
-            Index::Negative => Popped {
-                stacks: self,
-                count: Count::Refused(Refusal::BadIndex),
-            },
+        let codes = self.codes;
+        let code = codes[i];
+        if suffices(code) {
+            return count_of(slot_value(code, 0));
         }
+        let bytes = self.bytes;
+        let n = bytes[i];
+        count_of(slot_value(code, n))
     }
 
-    pub fn pick(self, limit: u32) -> Stepped
+    pub fn pick(mut self, limit: u32) -> Stepped
         requires { ⌜ Fit self ⌝ }
         requires { ⌜ limit ≤ 244 ⌝ }
         ensures { λ r. ⌜ Steps r limit PICK (view self) ⌝ }
     {
-        let popped = self.pop_count();
-        let s = popped.stacks;
-        let count = popped.count;
+        let count = self.top_count();
         match count {
-            Count::At(n) => s.extend_from_within(n + 1, 1, limit),
+            Count::At(n) => {
+                self.mains = self.mains - 1;
+                self.extend_from_within(n + 1, 1, limit)
+            }
             Count::Refused(refusal) => Stepped {
-                stacks: s,
+                stacks: self,
                 answer: Answer::Refused(refusal),
             },
         }
     }
 
-    pub fn roll(self) -> Stepped
+    pub fn roll(mut self) -> Stepped
         requires { ⌜ Fit self ⌝ }
         ensures { λ r. ⌜ Says r (popIndex marking (view self) (λ n t. rotateItems (n + 1) 1 t)) ⌝ }
     {
-        let popped = self.pop_count();
-        let s = popped.stacks;
-        let count = popped.count;
+        let count = self.top_count();
         match count {
-            Count::At(n) => s.rotate_left(n + 1, 1),
+            Count::At(n) => {
+                self.mains = self.mains - 1;
+                self.rotate_left(n + 1, 1)
+            }
             Count::Refused(refusal) => Stepped {
-                stacks: s,
+                stacks: self,
                 answer: Answer::Refused(refusal),
             },
         }
@@ -717,12 +840,12 @@ impl Stacks {
             };
         }
         let i = (m - 1) as usize;
-        let lens = self.items.lens;
-        let len = lens[i];
-        if len == 9 {
+        let codes = self.codes;
+        let code = codes[i];
+        if code == 9 {
             return self.apply_effect(0, 1, limit);
         }
-        let v = number_value(len as u64);
+        let v = number_value(code_length(code) as u64);
         self.push(v, limit)
     }
 
@@ -740,10 +863,11 @@ impl Stacks {
             };
         }
         self.mains = m - (n as u32);
-        self.push_exact(1, 1, limit)
+        self.push_code(11, limit)
     }
 
-    // The tag 0x20 (Groth16) pops key, proof and a count, and drops that many; 0x21 (R0Succinct) drops 8.
+    // The tag 0x20 (Groth16) pops key, proof and a count, and drops that many; 0x21 (R0Succinct) drops 8. Their codes are 10
+    // more.
     pub fn zk(mut self, limit: u32) -> Stepped
         requires { ⌜ Fit self ⌝ }
         requires { ⌜ limit ≤ 244 ⌝ }
@@ -757,20 +881,13 @@ impl Stacks {
             };
         }
         let i = (m - 1) as usize;
-        let items = self.items;
-        let len = items.lens[i];
-        let tag = items.bytes[i];
-        if len != 1 {
-            return Stepped {
-                stacks: self,
-                answer: Answer::Refused(Refusal::BadTag),
-            };
-        }
-        if tag == 0x21 {
+        let codes = self.codes;
+        let code = codes[i];
+        if code == 0x2b {
             self.mains = m - 1;
             return self.zk_drop(8, limit);
         }
-        if tag != 0x20 {
+        if code != 0x2a {
             return Stepped {
                 stacks: self,
                 answer: Answer::Refused(Refusal::BadTag),
@@ -784,13 +901,14 @@ impl Stacks {
             };
         }
         self.mains = m - 3;
-        let popped = self.pop_count();
-        let s = popped.stacks;
-        let count = popped.count;
+        let count = self.top_count();
         match count {
-            Count::At(n) => s.zk_drop(n, limit),
+            Count::At(n) => {
+                self.mains = m - 4;
+                self.zk_drop(n, limit)
+            }
             Count::Refused(refusal) => Stepped {
-                stacks: s,
+                stacks: self,
                 answer: Answer::Refused(refusal),
             },
         }

@@ -16,6 +16,7 @@ ghost use Rattle.stack_analysis.specs.Entry.{Marks};
 ghost use Rattle.stack_analysis.specs.Walkers.{armOf, concluded, arm, stopOf, Open, Ended, Enters, Joins, Finishes, Ready, Runs, Walks, Closes};
 use decode::Counted;
 use decode::Decoded;
+use decode::Value;
 use stack::Answer;
 use stack::Refusal;
 use stack::Stacks;
@@ -218,8 +219,19 @@ fn plain(code: &[u8], log: &mut [u16], start: Walk) -> Walk
             2 => continue,
             1 => {
                 let v = i.literal;
+                let Value::Exact { len, bytes } = v else {
+                    let s = t.stacks;
+                    t = s.push_code(9, LIMIT);
+                    continue;
+                };
+                let code = stack::code_of(len, bytes);
+                if stack::suffices(code) {
+                    let s = t.stacks;
+                    t = s.push_code(code, LIMIT);
+                    continue;
+                }
                 let s = t.stacks;
-                t = s.push(v, LIMIT);
+                t = s.push_exact(len, bytes, LIMIT);
                 continue;
             }
             8 => {

@@ -1,18 +1,24 @@
-use Rattle.stack.proofs.Packs.{clear-bytes, clear-unknown}
-use borrow.Author.Needs.{needs}
+use mathlib.Core.Path.{sym, _∙_}
+use Rattle.stack.proofs.Codes.{clear-none, clear-some}
 use native.Mathlib.Omega.{arith}
+use borrow.Author.Needs.{needs}
 use Rattle.stack.proofs.clear_bytes.Statement.{statement}
 use Rattle.stack.proofs.clear_bytes.Tie as tie
 use Rattle.stack.proofs.clear_bytes.Reads as reads
 use Rattle.stack.proofs.clear_bytes.Lts as lts
+use Rattle.stack.proofs.suffices.Reads as suffices-reads
 
--- src/lib.rt:109:9
+-- src/lib.rt:219:8
+suffices-requires : tie.Need-suffices-requires
+suffices-requires c κs = search needs
+
+-- src/lib.rt:220:9
 returns : tie.Need-returns
-returns c = search (clear-unknown)
+returns c = let e = sym (c .before .suffices .ensures) ∙ c .if1 .taken in search (clear-none)
 
--- src/lib.rt:104:1
+-- src/lib.rt:215:1
 returns-2 : tie.Need-returns-2
-returns-2 c = search (clear-bytes)
+returns-2 c = let e = sym (c .before .suffices .ensures) ∙ c .if1 .left in search (clear-some)
 
 pub clear-bytes-spec : {M : Type 1} → statement M
-clear-bytes-spec = tie.close (tie.spec returns returns-2)
+clear-bytes-spec = tie.close (tie.spec suffices-requires returns returns-2)

@@ -1,33 +1,54 @@
-use Rattle.stack.proofs.Packs.{blank-sound, cleared-is}
-use borrow.Author.Needs.{needs}
+use Rattle.stack.proofs.Packs.{cleared-is}
 use native.Mathlib.Omega.{arith}
+use borrow.Author.Needs.{needs}
 use Rattle.stack.proofs.Stacks.cleared.Statement.{statement}
 use Rattle.stack.proofs.Stacks.cleared.Tie as tie
 use Rattle.stack.proofs.Stacks.cleared.Reads as reads
 use Rattle.stack.proofs.Stacks.cleared.Lts as lts
 use Rattle.stack.proofs.clear_slots.Reads as clear-slots-reads
+use Rattle.stack.proofs.keep_codes.Reads as keep-codes-reads
 
--- src/lib.rt:589:48
+-- src/lib.rt:751:61
 cast-clear-slots : tie.Need-cast-clear-slots
 cast-clear-slots c = search needs
 
--- src/lib.rt:589:13
+-- src/lib.rt:751:13
 clear-slots-requires : tie.Need-clear-slots-requires
-clear-slots-requires c κs = (blank-sound, c .before .pre .sound, omega arith, omega (arith, c .before .pre .room))
+clear-slots-requires c κs = search needs
 
--- src/lib.rt:590:46
+-- src/lib.rt:752:52
 sub-clear-slots : tie.Need-sub-clear-slots
 sub-clear-slots c = search needs
 
--- src/lib.rt:590:45
+-- src/lib.rt:752:51
 cast-clear-slots-2 : tie.Need-cast-clear-slots-2
 cast-clear-slots-2 c = search needs
 
--- src/lib.rt:590:13
+-- src/lib.rt:752:13
 clear-slots-requires-2 : tie.Need-clear-slots-requires-2
 clear-slots-requires-2 c κs = search needs
 
--- src/lib.rt:578:5
+-- src/lib.rt:754:53
+cast-keep-codes : tie.Need-cast-keep-codes
+cast-keep-codes c = search needs
+
+-- src/lib.rt:754:13
+keep-codes-requires : tie.Need-keep-codes-requires
+keep-codes-requires c κs = search needs
+
+-- src/lib.rt:755:45
+sub-keep-codes : tie.Need-sub-keep-codes
+sub-keep-codes c = search needs
+
+-- src/lib.rt:755:44
+cast-keep-codes-2 : tie.Need-cast-keep-codes-2
+cast-keep-codes-2 c = search needs
+
+-- src/lib.rt:755:13
+keep-codes-requires-2 : tie.Need-keep-codes-requires-2
+keep-codes-requires-2 c κs = search needs
+
+-- src/lib.rt:743:5
 returns : tie.Need-returns
 returns c = search (cleared-is)
 
@@ -40,4 +61,9 @@ cleared-spec =
     sub-clear-slots
     cast-clear-slots-2
     clear-slots-requires-2
+    cast-keep-codes
+    keep-codes-requires
+    sub-keep-codes
+    cast-keep-codes-2
+    keep-codes-requires-2
     returns)

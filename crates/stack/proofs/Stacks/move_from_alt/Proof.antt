@@ -1,50 +1,65 @@
-use Rattle.stack.proofs.Alts.{from-alt-dry, from-alt-still, from-alt-done}
-use borrow.Author.Needs.{needs}
+use Rattle.stack.proofs.Alts.{from-alt-dry, from-alt-still, from-alt-codes, from-alt-done}
 use native.Mathlib.Omega.{arith}
+use borrow.Author.Needs.{needs}
 use Rattle.stack.proofs.Stacks.move_from_alt.Statement.{statement}
 use Rattle.stack.proofs.Stacks.move_from_alt.Tie as tie
 use Rattle.stack.proofs.Stacks.move_from_alt.Reads as reads
 use Rattle.stack.proofs.Stacks.move_from_alt.Lts as lts
-use Rattle.stack.proofs.blank.Reads as blank-reads
-use Rattle.stack.proofs.copy_slots.Reads as copy-slots-reads
+use Rattle.stack.proofs.all_suffice.Reads as all-suffice-reads
+use Rattle.stack.proofs.copy_bytes.Reads as copy-bytes-reads
+use Rattle.stack.proofs.copy_codes.Reads as copy-codes-reads
 
--- src/lib.rt:553:13
+-- src/lib.rt:674:13
 returns : tie.Need-returns
 returns c = search (from-alt-dry)
 
--- src/lib.rt:558:21
+-- src/lib.rt:679:21
 sub-from : tie.Need-sub-from
 sub-from c = search needs
 
--- src/lib.rt:558:20
+-- src/lib.rt:679:20
 cast-from : tie.Need-cast-from
 cast-from c = search needs
 
--- src/lib.rt:559:18
+-- src/lib.rt:680:18
 cast-to : tie.Need-cast-to
 cast-to c = search needs
 
--- src/lib.rt:560:22
+-- src/lib.rt:681:22
 add-self : tie.Need-add-self
 add-self c = search needs
 
--- src/lib.rt:563:12
-blank-requires : tie.Need-blank-requires
-blank-requires c κs = search needs
+-- src/lib.rt:684:12
+array-read-if2 : tie.Need-array-read-if2
+array-read-if2 c = search needs
 
--- src/lib.rt:564:13
+-- src/lib.rt:685:16
+array-read-if3 : tie.Need-array-read-if3
+array-read-if3 c = search needs
+
+-- src/lib.rt:686:17
 returns-2 : tie.Need-returns-2
-returns-2 c =
-    let b = c .before .blank .ensures (c .if2 .taken) in
-    search (from-alt-still)
+returns-2 c = search (from-alt-still)
 
--- src/lib.rt:570:13
-copy-slots-requires : tie.Need-copy-slots-requires
-copy-slots-requires c κs = search needs
+-- src/lib.rt:692:13
+all-suffice-requires : tie.Need-all-suffice-requires
+all-suffice-requires c κs = search needs
 
--- src/lib.rt:546:5
+-- src/lib.rt:693:13
+copy-codes-requires : tie.Need-copy-codes-requires
+copy-codes-requires c κs = search needs
+
+-- src/lib.rt:696:13
 returns-3 : tie.Need-returns-3
-returns-3 c = search (from-alt-done)
+returns-3 c = let b = c .before .before .all-suffice .ensures (c .if4 .taken) in search (from-alt-codes)
+
+-- src/lib.rt:702:13
+copy-bytes-requires : tie.Need-copy-bytes-requires
+copy-bytes-requires c κs = search needs
+
+-- src/lib.rt:667:5
+returns-4 : tie.Need-returns-4
+returns-4 c = search (from-alt-done)
 
 pub move-from-alt-spec : {M : Type 1} → statement M
 move-from-alt-spec =
@@ -55,7 +70,11 @@ move-from-alt-spec =
     cast-from
     cast-to
     add-self
-    blank-requires
+    array-read-if2
+    array-read-if3
     returns-2
-    copy-slots-requires
-    returns-3)
+    all-suffice-requires
+    copy-codes-requires
+    returns-3
+    copy-bytes-requires
+    returns-4)

@@ -1,50 +1,65 @@
-use Rattle.stack.proofs.Alts.{to-alt-dry, to-alt-still, to-alt-done}
-use borrow.Author.Needs.{needs}
+use Rattle.stack.proofs.Alts.{to-alt-dry, to-alt-still, to-alt-codes, to-alt-done}
 use native.Mathlib.Omega.{arith}
+use borrow.Author.Needs.{needs}
 use Rattle.stack.proofs.Stacks.move_to_alt.Statement.{statement}
 use Rattle.stack.proofs.Stacks.move_to_alt.Tie as tie
 use Rattle.stack.proofs.Stacks.move_to_alt.Reads as reads
 use Rattle.stack.proofs.Stacks.move_to_alt.Lts as lts
-use Rattle.stack.proofs.blank.Reads as blank-reads
-use Rattle.stack.proofs.copy_slots.Reads as copy-slots-reads
+use Rattle.stack.proofs.all_suffice.Reads as all-suffice-reads
+use Rattle.stack.proofs.copy_bytes.Reads as copy-bytes-reads
+use Rattle.stack.proofs.copy_codes.Reads as copy-codes-reads
 
--- src/lib.rt:521:13
+-- src/lib.rt:631:13
 returns : tie.Need-returns
 returns c = search (to-alt-dry)
 
--- src/lib.rt:526:20
+-- src/lib.rt:636:20
 cast-from : tie.Need-cast-from
 cast-from c = search needs
 
--- src/lib.rt:527:19
+-- src/lib.rt:637:19
 sub-to : tie.Need-sub-to
 sub-to c = search needs
 
--- src/lib.rt:527:18
+-- src/lib.rt:637:18
 cast-to : tie.Need-cast-to
 cast-to c = search needs
 
--- src/lib.rt:529:21
+-- src/lib.rt:639:21
 add-self : tie.Need-add-self
 add-self c = search needs
 
--- src/lib.rt:531:12
-blank-requires : tie.Need-blank-requires
-blank-requires c κs = search needs
+-- src/lib.rt:641:12
+array-read-if2 : tie.Need-array-read-if2
+array-read-if2 c = search needs
 
--- src/lib.rt:532:13
+-- src/lib.rt:642:16
+array-read-if3 : tie.Need-array-read-if3
+array-read-if3 c = search needs
+
+-- src/lib.rt:643:17
 returns-2 : tie.Need-returns-2
-returns-2 c =
-    let b = c .before .blank .ensures (c .if2 .taken) in
-    search (to-alt-still)
+returns-2 c = search (to-alt-still)
 
--- src/lib.rt:538:13
-copy-slots-requires : tie.Need-copy-slots-requires
-copy-slots-requires c κs = search needs
+-- src/lib.rt:649:13
+all-suffice-requires : tie.Need-all-suffice-requires
+all-suffice-requires c κs = search needs
 
--- src/lib.rt:514:5
+-- src/lib.rt:650:13
+copy-codes-requires : tie.Need-copy-codes-requires
+copy-codes-requires c κs = search needs
+
+-- src/lib.rt:653:13
 returns-3 : tie.Need-returns-3
-returns-3 c = search (to-alt-done)
+returns-3 c = let b = c .before .before .all-suffice .ensures (c .if4 .taken) in search (to-alt-codes)
+
+-- src/lib.rt:659:13
+copy-bytes-requires : tie.Need-copy-bytes-requires
+copy-bytes-requires c κs = search needs
+
+-- src/lib.rt:624:5
+returns-4 : tie.Need-returns-4
+returns-4 c = search (to-alt-done)
 
 pub move-to-alt-spec : {M : Type 1} → statement M
 move-to-alt-spec =
@@ -55,7 +70,11 @@ move-to-alt-spec =
     sub-to
     cast-to
     add-self
-    blank-requires
+    array-read-if2
+    array-read-if3
     returns-2
-    copy-slots-requires
-    returns-3)
+    all-suffice-requires
+    copy-codes-requires
+    returns-3
+    copy-bytes-requires
+    returns-4)

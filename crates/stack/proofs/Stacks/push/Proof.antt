@@ -1,88 +1,66 @@
-use Rattle.stack.proofs.Mains.{push-full}
-use Rattle.stack.proofs.Values.{held-exact, push-is-exact, push-is-still, push-is-mark}
-use borrow.Author.Needs.{needs}
+use mathlib.Core.Path.{sym, _∙_}
+use Rattle.stack.proofs.Values.{held-exact, unknown-suffices, code-suffices, code-wants, push-is-code, push-is-exact, push-is-unknown}
 use native.Mathlib.Omega.{arith}
+use borrow.Author.Needs.{needs}
 use Rattle.stack.proofs.Stacks.push.Statement.{statement}
 use Rattle.stack.proofs.Stacks.push.Tie as tie
 use Rattle.stack.proofs.Stacks.push.Reads as reads
 use Rattle.stack.proofs.Stacks.push.Lts as lts
+use Rattle.stack.proofs.Stacks.push_code.Reads as push-code-reads
 use Rattle.stack.proofs.Stacks.push_exact.Reads as push-exact-reads
+use Rattle.stack.proofs.code_of.Reads as code-of-reads
+use Rattle.stack.proofs.suffices.Reads as suffices-reads
 
--- src/lib.rt:102:31
+-- src/lib.rt:316:31
 enum-known-v : tie.Need-enum-known-v
 enum-known-v c = search needs
 
--- src/lib.rt:103:13
-push-exact-requires : tie.Need-push-exact-requires
-push-exact-requires c κs = (search needs, (search (held-exact), search needs))
+-- src/lib.rt:317:17
+code-of-requires : tie.Need-code-of-requires
+code-of-requires c κs = search needs
 
--- src/lib.rt:103:13
+-- src/lib.rt:318:16
+suffices-requires : tie.Need-suffices-requires
+suffices-requires c κs = search needs
+
+-- src/lib.rt:319:17
+push-code-requires : tie.Need-push-code-requires
+push-code-requires c κs = let e = sym (c .before .suffices .ensures) ∙ c .if1 .taken in (search needs, (e, search needs))
+
+-- src/lib.rt:319:17
 returns : tie.Need-returns
-returns c = search (push-is-exact)
+returns c = let e = sym (c .before .before .suffices .ensures) ∙ c .before .if1 .taken in search (push-is-code)
+
+-- src/lib.rt:321:13
+push-exact-requires : tie.Need-push-exact-requires
+push-exact-requires c κs = let e = sym (c .before .suffices .ensures) ∙ c .if1 .left in (search needs, (search (held-exact), (search (code-wants), search needs)))
+
+-- src/lib.rt:321:13
+returns-2 : tie.Need-returns-2
+returns-2 c = search (push-is-exact)
 
 enum-told : tie.Need-enum-told
 enum-told c = search needs
 
--- src/lib.rt:107:20
-add-if1 : tie.Need-add-if1
-add-if1 c = search needs
+-- src/lib.rt:323:9
+push-code-requires-2 : tie.Need-push-code-requires-2
+push-code-requires-2 c κs = (search needs, (unknown-suffices, search needs))
 
--- src/lib.rt:107:20
-add-if1-2 : tie.Need-add-if1-2
-add-if1-2 c = search needs
-
--- src/lib.rt:111:29
-add-t14 : tie.Need-add-t14
-add-t14 c = search needs
-
--- src/lib.rt:111:29
-add-t15 : tie.Need-add-t15
-add-t15 c = search needs
-
--- src/lib.rt:108:13
-returns-2 : tie.Need-returns-2
-returns-2 c = search (push-full)
-
--- src/lib.rt:116:17
-cast-i : tie.Need-cast-i
-cast-i c = search needs
-
--- src/lib.rt:117:22
-add-self : tie.Need-add-self
-add-self c = search needs
-
--- src/lib.rt:119:12
-array-read-if2 : tie.Need-array-read-if2
-array-read-if2 c = search needs
-
--- src/lib.rt:120:13
+-- src/lib.rt:310:5
 returns-3 : tie.Need-returns-3
-returns-3 c = search (push-is-still)
-
--- src/lib.rt:126:9
-element-write-items : tie.Need-element-write-items
-element-write-items c = search needs
-
--- src/lib.rt:96:5
-returns-4 : tie.Need-returns-4
-returns-4 c = search (push-is-mark)
+returns-3 c = search (push-is-unknown)
 
 pub push-spec : {M : Type 1} → statement M
 push-spec =
     tie.close
     (tie.spec
     enum-known-v
-    push-exact-requires
+    code-of-requires
+    suffices-requires
+    push-code-requires
     returns
-    enum-told
-    add-if1
-    add-if1-2
-    add-t14
-    add-t15
+    push-exact-requires
     returns-2
-    cast-i
-    add-self
-    array-read-if2
-    returns-3
-    element-write-items
-    returns-4)
+    enum-told
+    push-code-requires-2
+    returns-3)

@@ -1,53 +1,53 @@
 use Rattle.stack.proofs.Mains.{push-full}
 use Rattle.stack.proofs.Values.{push-exact}
-use borrow.Author.Needs.{needs}
 use native.Mathlib.Omega.{arith}
+use borrow.Author.Needs.{needs}
 use Rattle.stack.proofs.Stacks.push_exact.Statement.{statement}
 use Rattle.stack.proofs.Stacks.push_exact.Tie as tie
 use Rattle.stack.proofs.Stacks.push_exact.Reads as reads
 use Rattle.stack.proofs.Stacks.push_exact.Lts as lts
 
--- src/lib.rt:142:20
+-- src/lib.rt:365:20
 add-if1 : tie.Need-add-if1
 add-if1 c = search needs
 
--- src/lib.rt:142:20
+-- src/lib.rt:365:20
 add-if1-2 : tie.Need-add-if1-2
 add-if1-2 c = search needs
 
--- src/lib.rt:146:29
-add-t12 : tie.Need-add-t12
-add-t12 c = search needs
-
--- src/lib.rt:146:29
+-- src/lib.rt:369:29
 add-t13 : tie.Need-add-t13
 add-t13 c = search needs
 
--- src/lib.rt:143:13
+-- src/lib.rt:369:29
+add-t14 : tie.Need-add-t14
+add-t14 c = search needs
+
+-- src/lib.rt:366:13
 returns : tie.Need-returns
 returns c = search (push-full)
 
--- src/lib.rt:151:17
-cast-i : tie.Need-cast-i
-cast-i c = search needs
-
--- src/lib.rt:153:9
-mul-items : tie.Need-mul-items
-mul-items c = search needs
-
--- src/lib.rt:153:9
-element-write-items : tie.Need-element-write-items
-element-write-items c = search needs
-
--- src/lib.rt:154:9
-element-write-items-2 : tie.Need-element-write-items-2
-element-write-items-2 c = search needs
-
--- src/lib.rt:156:22
+-- src/lib.rt:374:22
 add-self : tie.Need-add-self
 add-self c = search needs
 
--- src/lib.rt:134:5
+-- src/lib.rt:375:17
+cast-i : tie.Need-cast-i
+cast-i c = search needs
+
+-- src/lib.rt:377:9
+array-write-codes : tie.Need-array-write-codes
+array-write-codes c = search needs
+
+-- src/lib.rt:380:9
+mul-all : tie.Need-mul-all
+mul-all c = search needs
+
+-- src/lib.rt:380:9
+array-write-all : tie.Need-array-write-all
+array-write-all c = search needs
+
+-- src/lib.rt:356:5
 returns-2 : tie.Need-returns-2
 returns-2 c = search (push-exact)
 
@@ -57,12 +57,12 @@ push-exact-spec =
     (tie.spec
     add-if1
     add-if1-2
-    add-t12
     add-t13
+    add-t14
     returns
-    cast-i
-    mul-items
-    element-write-items
-    element-write-items-2
     add-self
+    cast-i
+    array-write-codes
+    mul-all
+    array-write-all
     returns-2)

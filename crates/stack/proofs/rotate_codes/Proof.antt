@@ -1,0 +1,111 @@
+use Prim.Native.Nat.{_-_}
+use Rattle.stack.proofs.Laws.{Copying, copying-none, copying-down, turned}
+use borrow.Author.Needs.{needs}
+use native.Mathlib.Omega.{arith}
+use Rattle.stack.proofs.rotate_codes.Statement.{statement}
+use Rattle.stack.proofs.rotate_codes.Tie as tie
+use Rattle.stack.proofs.rotate_codes.Reads as reads
+use Rattle.stack.proofs.rotate_codes.Lts as lts
+
+abbrev Inv-loop : tie.InvT-loop
+Inv-loop b k rest codes₀ from x0 x1 j₀ codes j = Copying codes₀ from b rest codes j
+
+abbrev μ-loop : tie.MeasureT-loop
+μ-loop b k rest codes₀ from x0 x1 j₀ codes j = rest - j
+
+-- src/lib.rt:139:16
+add-from : tie.Need-add-from Inv-loop μ-loop
+add-from c = search needs
+
+-- src/lib.rt:140:14
+array-read-x0 : tie.Need-array-read-x0 Inv-loop μ-loop
+array-read-x0 c = search needs
+
+-- src/lib.rt:141:20
+sub-x1 : tie.Need-sub-x1 Inv-loop μ-loop
+sub-x1 c = search needs
+
+-- src/lib.rt:141:14
+array-read-x1 : tie.Need-array-read-x1 Inv-loop μ-loop
+array-read-x1 c = search needs
+
+-- src/lib.rt:143:5
+loop-holds : tie.Need-loop-holds Inv-loop μ-loop
+loop-holds c = search (copying-none)
+
+-- src/lib.rt:144:23
+add-x : tie.Need-add-x Inv-loop μ-loop
+add-x c = search needs
+
+-- src/lib.rt:144:17
+array-read-x : tie.Need-array-read-x Inv-loop μ-loop
+array-read-x c = search needs
+
+-- src/lib.rt:145:15
+add-codes : tie.Need-add-codes Inv-loop μ-loop
+add-codes c = search needs
+
+-- src/lib.rt:145:9
+array-write-codes : tie.Need-array-write-codes Inv-loop μ-loop
+array-write-codes c = search needs
+
+-- src/lib.rt:146:9
+add-j : tie.Need-add-j Inv-loop μ-loop
+add-j c = search needs
+
+-- src/lib.rt:143:5
+loop-less : tie.Need-loop-less Inv-loop μ-loop
+loop-less c = search needs
+
+-- src/lib.rt:143:5
+loop-again : tie.Need-loop-again Inv-loop μ-loop
+loop-again c = search (copying-down)
+
+-- src/lib.rt:148:11
+add-codes-2 : tie.Need-add-codes-2 Inv-loop μ-loop
+add-codes-2 c = search needs
+
+-- src/lib.rt:148:5
+array-write-codes-2 : tie.Need-array-write-codes-2 Inv-loop μ-loop
+array-write-codes-2 c = search needs
+
+-- src/lib.rt:149:11
+add-codes-3 : tie.Need-add-codes-3 Inv-loop μ-loop
+add-codes-3 c = search needs
+
+-- src/lib.rt:149:11
+sub-codes : tie.Need-sub-codes Inv-loop μ-loop
+sub-codes c = search needs
+
+-- src/lib.rt:149:5
+array-write-codes-3 : tie.Need-array-write-codes-3 Inv-loop μ-loop
+array-write-codes-3 c = search needs
+
+-- src/lib.rt:134:1
+returns : tie.Need-returns Inv-loop μ-loop
+returns c = search (turned)
+
+pub rotate-codes-spec : {M : Type 1} → statement M
+rotate-codes-spec =
+    tie.close
+    (tie.spec
+    Inv-loop
+    μ-loop
+    add-from
+    array-read-x0
+    sub-x1
+    array-read-x1
+    loop-holds
+    add-x
+    array-read-x
+    add-codes
+    array-write-codes
+    add-j
+    loop-less
+    loop-again
+    add-codes-2
+    array-write-codes-2
+    add-codes-3
+    sub-codes
+    array-write-codes-3
+    returns)

@@ -1,0 +1,18 @@
+use Rattle.stack.proofs.Codes.{sufficient-none, sufficient-test}
+use borrow.Author.Needs.{needs}
+use native.Mathlib.Omega.{arith}
+use Rattle.stack.proofs.suffices.Statement.{statement}
+use Rattle.stack.proofs.suffices.Tie as tie
+use Rattle.stack.proofs.suffices.Reads as reads
+use Rattle.stack.proofs.suffices.Lts as lts
+
+-- src/lib.rt:69:9
+returns : tie.Need-returns
+returns c = search (sufficient-none)
+
+-- src/lib.rt:65:1
+returns-2 : tie.Need-returns-2
+returns-2 c = search (sufficient-test)
+
+pub suffices-spec : {M : Type 1} → statement M
+suffices-spec = tie.close (tie.spec returns returns-2)
