@@ -3,7 +3,7 @@
 //!
 //! `fragment`, `limits` and `paper` ask the Rust. `fragment_outside` and
 //! `paper_outside` say where document 01 has a limit that the Rust lacks, so that
-//! there is nothing to compare.
+//! there is nothing to compare. `display` and `Tally` are document 01's alone.
 
 // build.rs sets cfg(test) so that `parts/tests.rs` is a module of `stack.rs`.
 #![allow(explicit_builtin_cfgs_in_flags)]
@@ -11,6 +11,7 @@
 use errors::CompilerError;
 use kaspa_txscript::{MalformedPush, parse_script};
 
+mod additions;
 mod ast;
 #[allow(dead_code)]
 mod diagnostic;
@@ -20,6 +21,7 @@ mod span;
 
 include!(concat!(env!("OUT_DIR"), "/tree/root.rs"));
 
+pub use additions::{Tally, display};
 pub use paper::{PaperAnswer, paper, paper_by_parts, paper_outside};
 
 /// The folder in which the sources were laid out for this build.
@@ -115,15 +117,19 @@ fn offsets(bytes: &[u8]) -> impl Iterator<Item = (usize, Result<u8, MalformedPus
     let mut next = 0;
     parse_script::<(), ()>(bytes).map(move |parsed| {
         let offset = next;
-        let length_bytes = match parsed.map(|opcode| opcode.value()) {
-            Ok(0x4c) => 1,
-            Ok(0x4d) => 2,
-            Ok(0x4e) => 4,
-            _ => 0,
-        };
-        next += 1 + length_bytes + parsed.map_or(0, |opcode| opcode.len());
+        next += parsed.map_or(1, |opcode| 1 + length_bytes(opcode.value()) + opcode.len());
         (offset, parsed.map(|opcode| opcode.value()))
     })
+}
+
+/// How many bytes of length follow an opcode.
+fn length_bytes(opcode: u8) -> usize {
+    match opcode {
+        0x4c => 1,
+        0x4d => 2,
+        0x4e => 4,
+        _ => 0,
+    }
 }
 
 /// Section 7: `BytecodeStackTooLarge` is 2 or 6, `BytecodeStackAnalysis` is told

@@ -2,13 +2,15 @@
 
 use std::fmt;
 
-use reference::{fragment, fragment_outside, limits, paper, paper_outside};
+use reference::{Tally, display, fragment, fragment_outside, limits, paper, paper_outside};
 
 #[derive(Clone, Debug, PartialEq, Eq)]
 pub enum Case {
     Fragment { main: u32, alt: u32, bytes: Vec<u8> },
     Limits { bytes: Vec<u8> },
     Paper { bytes: Vec<u8> },
+    Display { body: Vec<u8>, init: Vec<u8>, offset: u32, mark: u32 },
+    Tally { tally: Tally, number: u32, rows: u32, peak: u32 },
 }
 
 /// The most bytes that the repeat form may stand for.
@@ -23,16 +25,26 @@ impl Case {
         let wanted = match fields[0] {
             "fragment" => 4,
             "limits" | "paper" => 2,
+            "display" => 5,
+            "tally" => 8,
             word => return Err(format!("unknown word {word:?}")),
         };
         if fields.len() != wanted {
             return Err(format!("{} fields, and {:?} has {wanted}", fields.len(), fields[0]));
         }
-        let bytes = parse_bytes(fields[wanted - 1])?;
+        let number = |at: usize| parse_u32(fields[at]);
+        let bytes = |at: usize| parse_bytes(fields[at]);
         Ok(match fields[0] {
-            "fragment" => Self::Fragment { main: parse_u32(fields[1])?, alt: parse_u32(fields[2])?, bytes },
-            "limits" => Self::Limits { bytes },
-            _ => Self::Paper { bytes },
+            "fragment" => Self::Fragment { main: number(1)?, alt: number(2)?, bytes: bytes(3)? },
+            "limits" => Self::Limits { bytes: bytes(1)? },
+            "paper" => Self::Paper { bytes: bytes(1)? },
+            "display" => Self::Display { body: bytes(1)?, init: bytes(2)?, offset: number(3)?, mark: number(4)? },
+            _ => Self::Tally {
+                tally: Tally { fragments: number(1)?, accepted: number(2)?, rows: number(3)?, peak: number(4)? },
+                number: number(5)?,
+                rows: number(6)?,
+                peak: number(7)?,
+            },
         })
     }
 
@@ -41,17 +53,22 @@ impl Case {
             Self::Fragment { .. } => "fragment",
             Self::Limits { .. } => "limits",
             Self::Paper { .. } => "paper",
+            Self::Display { .. } => "display",
+            Self::Tally { .. } => "tally",
         }
     }
 
-    pub fn bytes(&self) -> &[u8] {
+    /// How many bytes the case has.
+    pub fn size(&self) -> usize {
         match self {
-            Self::Fragment { bytes, .. } | Self::Limits { bytes } | Self::Paper { bytes } => bytes,
+            Self::Fragment { bytes, .. } | Self::Limits { bytes } | Self::Paper { bytes } => bytes.len(),
+            Self::Display { body, init, .. } => body.len() + init.len(),
+            Self::Tally { .. } => 0,
         }
     }
 
     /// The answer line, and the verdict number unless the case is outside the
-    /// limits that the Rust shares.
+    /// limits that the Rust shares. A display has no number, and counts as 0.
     pub fn answer(&self) -> (Option<u32>, String) {
         let word = self.word();
         match self {
@@ -73,6 +90,15 @@ impl Case {
                 let r = paper(bytes);
                 (Some(r.number), format!("{word} {} {} {} {} {}", r.number, r.entry, r.offset, r.a, r.b))
             }
+            Self::Display { body, init, offset, mark } => {
+                let shown = display(body, init, *offset as usize, *mark);
+                (Some(0), format!("{word} {}", show_bytes(shown, LONG_TAIL)))
+            }
+            Self::Tally { tally, number, rows, peak } => {
+                let mut t = *tally;
+                let answer = t.gain(*number, *rows, *peak);
+                (Some(answer), format!("{word} {answer} {} {} {} {}", t.fragments, t.accepted, t.rows, t.peak))
+            }
         }
     }
 }
@@ -85,23 +111,16 @@ impl Case {
 
     /// The line, with a tail of this many equal bytes or more in the repeat form.
     fn line(&self, long_tail: usize) -> String {
-        let mut line = match self {
-            Self::Fragment { main, alt, .. } => format!("{} {main} {alt} ", self.word()),
-            _ => format!("{} ", self.word()),
-        };
-        let bytes = self.bytes();
-        let Some(last) = bytes.last() else {
-            return line + "-";
-        };
-        let tail = bytes.iter().rev().take_while(|byte| *byte == last).count();
-        let repeat = tail >= long_tail;
-        for byte in &bytes[..bytes.len() - if repeat { tail - 1 } else { 0 }] {
-            line += &format!("{byte:02x}");
+        let word = self.word();
+        let show = |bytes: &[u8]| show_bytes(bytes, long_tail);
+        match self {
+            Self::Fragment { main, alt, bytes } => format!("{word} {main} {alt} {}", show(bytes)),
+            Self::Limits { bytes } | Self::Paper { bytes } => format!("{word} {}", show(bytes)),
+            Self::Display { body, init, offset, mark } => format!("{word} {} {} {offset} {mark}", show(body), show(init)),
+            Self::Tally { tally: t, number, rows, peak } => {
+                format!("{word} {} {} {} {} {number} {rows} {peak}", t.fragments, t.accepted, t.rows, t.peak)
+            }
         }
-        if repeat {
-            line += &format!("*{tail}");
-        }
-        line
     }
 }
 
@@ -109,6 +128,21 @@ impl fmt::Display for Case {
     fn fmt(&self, f: &mut fmt::Formatter<'_>) -> fmt::Result {
         f.write_str(&self.line(LONG_TAIL))
     }
+}
+
+/// `-` for none, or hex, with a tail of this many equal bytes or more in the repeat form.
+fn show_bytes(bytes: &[u8], long_tail: usize) -> String {
+    let Some(last) = bytes.last() else {
+        return "-".into();
+    };
+    let tail = bytes.iter().rev().take_while(|byte| *byte == last).count();
+    let repeat = tail >= long_tail;
+    let hex = &bytes[..bytes.len() - if repeat { tail - 1 } else { 0 }];
+    let mut shown: String = hex.iter().map(|byte| format!("{byte:02x}")).collect();
+    if repeat {
+        shown += &format!("*{tail}");
+    }
+    shown
 }
 
 /// `-`, or hex, or hex and `*N`: the last byte stands N times.

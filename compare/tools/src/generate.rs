@@ -1,6 +1,8 @@
 //! Cases out of numbers: mostly valid, often at a limit, some with one fault, some
 //! changed at random.
 
+use reference::Tally;
+
 use crate::case::Case;
 use crate::model::{FAULTS, Fault, MOST_ITEMS, Writer, number_form};
 use crate::rng::Rng;
@@ -10,6 +12,9 @@ pub enum Kind {
     Fragment,
     Limits,
     Paper,
+    Display,
+    Tally,
+    /// What the Rust answers: fragments, limit checks and papers.
     All,
 }
 
@@ -19,6 +24,8 @@ impl Kind {
             "fragment" => Self::Fragment,
             "limits" => Self::Limits,
             "paper" => Self::Paper,
+            "display" => Self::Display,
+            "tally" => Self::Tally,
             "all" => Self::All,
             _ => return None,
         })
@@ -37,6 +44,8 @@ pub fn case(rng: &mut Rng, kind: Kind) -> Case {
     match kind {
         Kind::Limits => Case::Limits { bytes: limits(rng) },
         Kind::Paper => Case::Paper { bytes: paper(rng) },
+        Kind::Display => display(rng),
+        Kind::Tally => tally(rng),
         _ => fragment(rng),
     }
 }
@@ -415,4 +424,36 @@ fn spoil_header(rng: &mut Rng, bytes: &mut Vec<u8>, count: usize) {
         8 => set_field(bytes, part, offset.saturating_sub(1)),
         _ => set_field(bytes, part + 2, 0),
     }
+}
+
+// Displays and tallies.
+
+/// Two fragments, and an offset in one of them, inside a push often, or near its end.
+fn display(rng: &mut Rng) -> Case {
+    let mut part = || {
+        let mut bytes = body(rng, 8, 1);
+        if rng.percent(50) {
+            mutate(rng, &mut bytes);
+        }
+        bytes
+    };
+    let (body, init) = (part(), part());
+    let mark = rng.pick(&[0, 0, 0, 0, 1, 1, 1, 1, 2, u32::MAX]);
+    let size = if mark == 1 { init.len() } else { body.len() };
+    let offset = if rng.percent(90) { rng.below(size + 3) as u32 } else { rng.number() as u32 };
+    Case::Display { body, init, offset, mark }
+}
+
+/// A tally whose sums are small, just within 32 bits or just over them.
+fn tally(rng: &mut Rng) -> Case {
+    let rows = rng.below(10_001) as u32;
+    let number = if rng.percent(50) { 0 } else { rng.within(1, 22) as u32 };
+    let most = u32::MAX;
+    let mut counter = |add: u32| match rng.below(4) {
+        0 => rng.below(1_000) as u32,
+        1 | 2 => most - add,
+        _ => (most - add).saturating_add(1),
+    };
+    let tally = Tally { fragments: counter(1), accepted: counter((number == 0).into()), rows: counter(rows), peak: counter(244) };
+    Case::Tally { tally, number, rows, peak: rng.below(245) as u32 }
 }

@@ -409,6 +409,29 @@ fn mark(bytes: &[u8]) -> PaperAnswer {
     PaperAnswer::ACCEPTED
 }
 
+// The display and the tally.
+
+fn shown(body: &[u8], init: &[u8], offset: usize, mark: u32) -> Vec<u8> {
+    let fragment = [body, init, &[]][mark.min(2) as usize];
+    if offset >= fragment.len() {
+        return Vec::new();
+    }
+    // The instruction is the shortest part that decodes.
+    let rest = &fragment[offset..];
+    let ends = (1..=rest.len()).find(|end| decode(&rest[..*end]).is_ok());
+    rest[..ends.unwrap_or(rest.len())].to_vec()
+}
+
+/// Four counters and a verdict's number, rows and peak: the answer and the counters.
+fn tallied(t: [u32; 4], number: u32, rows: u32, peak: u32) -> [u64; 5] {
+    let [fragments, accepted, had, greatest] = t.map(u64::from);
+    let sums = [fragments + 1, accepted + if number == 0 { 1 } else { 0 }, had + u64::from(rows)];
+    if sums.iter().any(|sum| *sum > 4_294_967_295) {
+        return [22, fragments, accepted, had, greatest];
+    }
+    [0, sums[0], sums[1], sums[2], greatest.max(peak.into())]
+}
+
 // The comparison.
 
 /// The line by document 01; outside the shared limits as the driver has it.
@@ -432,13 +455,23 @@ fn by_definition(case: &Case) -> String {
             }
             format!("paper {} {} {} {} {}", r.number, r.entry, r.offset, r.a, r.b)
         }
+        Case::Display { body, init, offset, mark } => {
+            let bytes = shown(body, init, *offset as usize, *mark);
+            // The same bytes in the form of a case.
+            let line = Case::Limits { bytes }.to_string();
+            format!("display {}", line.trim_start_matches("limits "))
+        }
+        Case::Tally { tally: t, number, rows, peak } => {
+            let r = tallied([t.fragments, t.accepted, t.rows, t.peak], *number, *rows, *peak);
+            format!("tally {} {} {} {} {}", r[0], r[1], r[2], r[3], r[4])
+        }
     }
 }
 
-fn generated(seed: u64, count: usize) {
+fn generated(seed: u64, count: usize, kind: Kind) {
     let mut rng = Rng::new(seed);
     for _ in 0..count {
-        let case = case(&mut rng, Kind::All);
+        let case = case(&mut rng, kind);
         assert_eq!(by_definition(&case), case.answer().1, "{case}");
     }
 }
@@ -478,7 +511,18 @@ fn every_short_fragment_of_chosen_codes() {
 
 #[test]
 fn generated_cases() {
-    generated(7, 40_000);
+    generated(7, 40_000, Kind::All);
+    generated(8, 20_000, Kind::Display);
+    generated(9, 20_000, Kind::Tally);
+}
+
+#[test]
+fn the_fixed_list() {
+    let cases = include_str!("../../list/cases.txt");
+    let answers = include_str!("../../list/answers.txt");
+    for (case, answer) in cases.lines().zip(answers.lines()) {
+        assert_eq!(by_definition(&Case::parse(case).unwrap()), answer, "{case}");
+    }
 }
 
 /// Some minutes in release: `cargo test --release -- --ignored`.
@@ -489,6 +533,6 @@ fn many_more() {
     every(&codes, 3, &[(0, 0), (2, 1), (6, 0), (243, 0)]);
     every(b"\x00\x51\x52\x63\x67\x68\x6a\x6b\x6c\x75\x79\x7a\xff", 6, &[(2, 1), (4, 0)]);
     for seed in 100..130 {
-        generated(seed, 100_000);
+        generated(seed, 100_000, Kind::All);
     }
 }

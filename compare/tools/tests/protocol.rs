@@ -23,21 +23,23 @@ fn driver(input: &[u8]) -> Output {
 #[test]
 fn answers() {
     let input = "fragment 0 0 -\nfragment 1 0 02000179\nlimits 4c\npaper -\npaper 01000100\nfragment 0 0 6a63*25\nlimits 60*10001\n\
-                 fragment 0 0 61*10001\nfragment 244 1 75";
+                 fragment 0 0 61*10001\nfragment 244 1 75\ndisplay 5102aabb75 6c 1 0\ndisplay - 4cff07*100 0 1\ndisplay 75 75 0 2\n\
+                 tally 1 0 4294967294 9 0 1 3\ntally 1 0 4294967295 9 0 1 3";
     let output = driver(input.as_bytes());
     assert_eq!(output.status.code(), Some(0));
     assert_eq!(String::from_utf8_lossy(&output.stderr), "");
     assert_eq!(
         String::from_utf8_lossy(&output.stdout),
         "fragment 0 0 0 0\nfragment 7 3 257 1\nlimits 3 0 0 0\npaper 19 0 0 0 0\npaper 19 0 0 0 0\nfragment outside\n\
-         limits 18 0 10001 10000\nfragment outside\nfragment 2 0 245 244\n"
+         limits 18 0 10001 10000\nfragment outside\nfragment 2 0 245 244\n\
+         display 02aabb\ndisplay 4cff07*100\ndisplay -\ntally 0 2 1 4294967295 9\ntally 22 1 0 4294967295 9\n"
     );
     assert_eq!(driver(b"").stdout, b"");
 }
 
 #[test]
 fn refusals() {
-    let bad: [(&[u8], &str); 25] = [
+    let bad: [(&[u8], &str); 32] = [
         (b"", "unknown word"),
         (b"mark 75", "unknown word"),
         (b"Fragment 0 0 75", "unknown word"),
@@ -48,6 +50,10 @@ fn refusals() {
         (b"limits", "fields"),
         (b"limits 0 75", "fields"),
         (b"paper 00 ", "fields"),
+        (b"display 75 75 0", "fields"),
+        (b"display 75 75 0 0 0", "fields"),
+        (b"tally 0 0 0 0 0 0", "fields"),
+        (b"tally 0 0 0 0 0 0 0 0", "fields"),
         (b"limits 7", "bad hex"),
         (b"limits 7g", "bad hex"),
         (b"limits 7A", "bad hex"),
@@ -62,6 +68,9 @@ fn refusals() {
         (b"fragment +1 0 75", "bad number"),
         (b"fragment 0 4294967296 75", "bad number"),
         (b"fragment 0 99999999999999999999999 75", "bad number"),
+        (b"display 75 75 -1 0", "bad number"),
+        (b"display 75 7 0 0", "bad hex"),
+        (b"tally 0 0 4294967296 0 0 0 0", "bad number"),
         (b"limits \xff", "not UTF-8"),
     ];
     for (line, message) in bad {
@@ -77,8 +86,8 @@ fn refusals() {
 #[test]
 fn lines_parse_and_print_back() {
     let mut rng = Rng::new(3);
-    for _ in 0..5_000 {
-        let case = case(&mut rng, Kind::All);
+    for round in 0..6_000 {
+        let case = case(&mut rng, [Kind::All, Kind::Display, Kind::Tally][round % 3]);
         assert_eq!(Case::parse(&case.to_string()).as_ref(), Ok(&case));
         assert_eq!(Case::parse(&case.plain()).as_ref(), Ok(&case));
     }

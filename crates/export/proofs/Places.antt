@@ -1,32 +1,31 @@
--- Nine stores into lent places.
-use mathlib.Core.Bool.{Bool, true, false}
-use mathlib.Core.List.{List, [], _∷_}
-use mathlib.Core.Path.{_≡_, refl, sym, ap, _∙_}
-use Prim.Native.Nat.{ℕ, _≤_, _<_}
+-- Stores into lent places.
+use mathlib.Core.List.{List, [], _∷_, _++_}
+use mathlib.Core.Path.{_≡_, refl, ap, _∙_}
+use Prim.Native.Nat.{ℕ, suc, _+_, _≤_, _<_}
 use native.Mathlib.Omega.{arith}
 use borrow.Author.Tests.{lt-ltb, le-ltb}
 use lib.ListN.{length, drop, set}
-use Rattle.export.specs.View.{flag, written}
-use Rattle.stack_analysis.specs.declared.Verdict.{Verdict}
+use Rattle.export.specs.View.{written}
 
-nine : (out : List ℕ) → 9 ≤ length out → (a b c d e f g h i : ℕ)
-    → set (set (set (set (set (set (set (set (set out 0 a) 1 b) 2 c) 3 d) 4 e) 5 f) 6 g) 7 h) 8 i ≡ (a ∷ b ∷ c ∷ d ∷ e ∷ f ∷ g ∷ h ∷ i ∷ drop 9 out)
-nine [] l a b c d e f g h i = absurd (omega arith)
-nine (x0 ∷ []) l a b c d e f g h i = absurd (omega arith)
-nine (x0 ∷ x1 ∷ []) l a b c d e f g h i = absurd (omega arith)
-nine (x0 ∷ x1 ∷ x2 ∷ []) l a b c d e f g h i = absurd (omega arith)
-nine (x0 ∷ x1 ∷ x2 ∷ x3 ∷ []) l a b c d e f g h i = absurd (omega arith)
-nine (x0 ∷ x1 ∷ x2 ∷ x3 ∷ x4 ∷ []) l a b c d e f g h i = absurd (omega arith)
-nine (x0 ∷ x1 ∷ x2 ∷ x3 ∷ x4 ∷ x5 ∷ []) l a b c d e f g h i = absurd (omega arith)
-nine (x0 ∷ x1 ∷ x2 ∷ x3 ∷ x4 ∷ x5 ∷ x6 ∷ []) l a b c d e f g h i = absurd (omega arith)
-nine (x0 ∷ x1 ∷ x2 ∷ x3 ∷ x4 ∷ x5 ∷ x6 ∷ x7 ∷ []) l a b c d e f g h i = absurd (omega arith)
-nine (x0 ∷ x1 ∷ x2 ∷ x3 ∷ x4 ∷ x5 ∷ x6 ∷ x7 ∷ x8 ∷ out) l a b c d e f g h i = refl
+-- these numbers stored one after another, the first of them in place k
+abbrev pub stored : ℕ → List ℕ → List ℕ → List ℕ
+stored k [] out = out
+stored k (n ∷ ns) out = stored (suc k) ns (set out k n)
 
-pub too-few : (v : Verdict) (out : List ℕ) → length out < 9 → out ≡ written v out
+-- the first place stays
+behind : (k : ℕ) (ns out : List ℕ) (x : ℕ) → stored (suc k) ns (x ∷ out) ≡ (x ∷ stored k ns out)
+behind k [] out x = refl
+behind k (n ∷ ns) out x = behind (suc k) ns (set out k n) x
+
+all-stored : (ns out : List ℕ) → length ns ≤ length out → stored 0 ns out ≡ (ns ++ drop (length ns) out)
+all-stored [] out h = refl
+all-stored (n ∷ ns) [] h = absurd (omega arith)
+all-stored (n ∷ ns) (x ∷ out) h = behind 0 ns out n ∙ ap (λ (l : List ℕ). n ∷ l) (all-stored ns out (omega arith))
+
+pub too-few : (ns out : List ℕ) → length out < length ns → out ≡ written ns out
 unfolding written
-too-few v out h = rw (lt-ltb (length out) 9 h)
+too-few ns out h = rw (lt-ltb (length out) (length ns) h)
 
-pub all-nine : (v : Verdict) (out : List ℕ) → 9 ≤ length out → (g : ℕ) → g ≡ flag (v .ended)
-    → set (set (set (set (set (set (set (set (set out 0 (v .number)) 1 (v .offset)) 2 (v .first)) 3 (v .second)) 4 (v .rows)) 5 (v .peak)) 6 g) 7 (v .end .mains)) 8 (v .end .alts) ≡ written v out
+pub all-written : (ns out : List ℕ) → length ns ≤ length out → stored 0 ns out ≡ written ns out
 unfolding written
-all-nine v out h g e = rw (le-ltb (length out) 9 h, e) (nine out h (v .number) (v .offset) (v .first) (v .second) (v .rows) (v .peak) (flag (v .ended)) (v .end .mains) (v .end .alts))
+all-written ns out h = rw (le-ltb (length out) (length ns) h) (all-stored ns out h)

@@ -1,18 +1,41 @@
--- How a verdict is handed to a caller in another language.
+-- How answers are handed to a caller in another language: as numbers, in places that it lends.
 use mathlib.Core.Bool.{Bool, true, false}
-use mathlib.Core.List.{List, _∷_}
-use Prim.Native.Nat.{ℕ}
+use mathlib.Core.List.{List, [], _∷_, _++_}
+use Prim.Native.Nat.{ℕ, min}
 use lib.Dec.{ltb}
 use lib.ListN.{length, drop}
-use Rattle.definition.specs.Basics.{pick}
+use Rattle.definition.specs.Basics.{Bytes, pick}
+use Rattle.definition.specs.Papers.{PaperVerdict, byMark, display}
+use Rattle.definition.specs.Refusals.{Answer}
 use Rattle.stack_analysis.specs.declared.Verdict.{Verdict}
 
 abbrev pub flag : Bool → ℕ
 flag true = 1
 flag false = 0
 
--- the lent places afterwards: nine numbers in the first of them, the rest as lent; all as lent where there are fewer
-unfoldable pub written : Verdict → List ℕ → List ℕ
-written v out =
-    pick (ltb (length out) 9) out
-    (v .number ∷ v .offset ∷ v .first ∷ v .second ∷ v .rows ∷ v .peak ∷ flag (v .ended) ∷ v .end .mains ∷ v .end .alts ∷ drop 9 out)
+-- the lent places afterwards: these numbers in the first of them, the rest as lent; all as lent where there are fewer
+unfoldable pub written : List ℕ → List ℕ → List ℕ
+written numbers out = pick (ltb (length out) (length numbers)) out (numbers ++ drop (length numbers) out)
+
+-- the nine numbers of a verdict on a fragment
+abbrev pub verdictNumbers : Verdict → List ℕ
+verdictNumbers v =
+    v .number ∷ v .offset ∷ v .first ∷ v .second ∷ v .rows ∷ v .peak ∷ flag (v .ended) ∷ v .end .mains ∷ v .end .alts ∷ []
+
+-- the four numbers of the limit check's answer
+abbrev pub answerNumbers : Answer → List ℕ
+answerNumbers a = a .number ∷ a .offset ∷ a .first ∷ a .second ∷ []
+
+-- the seven numbers of a verdict on a paper; it has no end stacks
+abbrev pub paperNumbers : PaperVerdict → List ℕ
+paperNumbers p =
+    p .verdict .answer .number ∷ p .entry ∷ p .verdict .answer .offset ∷ p .verdict .answer .first ∷ p .verdict .answer .second
+    ∷ p .verdict .rows ∷ p .verdict .peak ∷ []
+
+-- where the part that is displayed starts in its fragment: at the offset, or at the end if the offset is past it
+unfoldable pub displayStart : Bytes → Bytes → ℕ → ℕ → ℕ
+displayStart body init offset mark = min offset (length (byMark body init mark))
+
+-- the two numbers of that part: its start and its length
+abbrev pub partNumbers : Bytes → Bytes → ℕ → ℕ → List ℕ
+partNumbers body init offset mark = displayStart body init offset mark ∷ length (display body init offset mark) ∷ []

@@ -1,10 +1,18 @@
 // The functions for C and Rust callers. Numbers pass as themselves, a slice as a pointer and then a length. Nothing is
 // asked of the caller beyond that: bad input is refused with a number of document 01.
+ghost use mathlib.Core.List.{[], _∷_};
 ghost use mathlib.Core.Path.{_≡_};
+ghost use Prim.Native.Nat.{_+_, _≤_, min};
+ghost use lib.ListN.{length, take, drop};
+ghost use Rattle.definition.specs.Papers.{limitCheck, markPaper, byMark, display};
 ghost use Rattle.definition.specs.Stacks.{builtIn};
 ghost use Rattle.definition.specs.Walk.{analysis};
+ghost use Rattle.limits.specs.View.{answerOf};
+ghost use Rattle.paper.specs.View.{paperOf};
 ghost use Rattle.stack_analysis.specs.View.{packedVerdict};
-ghost use Rattle.export.specs.View.{flag, written};
+ghost use Rattle.export.specs.View.{flag, written, verdictNumbers, answerNumbers, paperNumbers, displayStart, partNumbers};
+use limits::Answer;
+use paper::PaperVerdict;
 use stack_analysis::Verdict;
 
 fn flag(b: bool) -> u64
@@ -19,7 +27,7 @@ fn flag(b: bool) -> u64
 // The verdict's numbers into the lent places, where there are nine of them: number, offset, two figures, rows, peak,
 // whether there is an end (1 or 0), and the heights of its main and alt.
 fn write(v: Verdict, out: &mut [u64])
-    ensures { λ _. ⌜ now (out .exit) ≡ written v (now (out .entry)) ⌝ }
+    ensures { λ _. ⌜ now (out .exit) ≡ written (verdictNumbers v) (now (out .entry)) ⌝ }
 {
     if out.len() < 9 {
         return;
@@ -33,6 +41,69 @@ fn write(v: Verdict, out: &mut [u64])
     out[6] = flag(v.ended);
     out[7] = v.end.mains as u64;
     out[8] = v.end.alts as u64;
+}
+
+// The limit check's answer into the lent places, where there are four of them: number, offset, two figures.
+fn write_answer(a: Answer, out: &mut [u64])
+    ensures { λ _. ⌜ now (out .exit) ≡ written (answerNumbers (answerOf a)) (now (out .entry)) ⌝ }
+{
+    if out.len() < 4 {
+        return;
+    }
+    out[0] = a.number as u64;
+    out[1] = a.offset as u64;
+    out[2] = a.first;
+    out[3] = a.second;
+}
+
+// The numbers of a verdict on a paper into the lent places, where there are seven of them: number, entry, offset, two
+// figures, rows, peak.
+fn write_paper(v: PaperVerdict, out: &mut [u64])
+    ensures { λ _. ⌜ now (out .exit) ≡ written (paperNumbers (paperOf v)) (now (out .entry)) ⌝ }
+{
+    if out.len() < 7 {
+        return;
+    }
+    out[0] = v.number as u64;
+    out[1] = v.entry as u64;
+    out[2] = v.offset as u64;
+    out[3] = v.first;
+    out[4] = v.second;
+    out[5] = v.rows as u64;
+    out[6] = v.peak as u64;
+}
+
+// A part's start and length into the lent places, where there are two of them.
+fn write_part(start: usize, size: usize, out: &mut [u64])
+    ensures { λ _. ⌜ now (out .exit) ≡ written (start ∷ size ∷ []) (now (out .entry)) ⌝ }
+{
+    if out.len() < 2 {
+        return;
+    }
+    out[0] = start as u64;
+    out[1] = size as u64;
+}
+
+fn smaller(a: usize, b: usize) -> usize
+    ensures { λ r. ⌜ r ≡ min a b ⌝ }
+{
+    if a < b {
+        return a;
+    }
+    b
+}
+
+// Where the part that is displayed starts in its fragment.
+fn display_start(body: &[u8], init: &[u8], offset: usize, mark: u32) -> usize
+    ensures { λ r. ⌜ r ≡ displayStart (now (body .entry)) (now (init .entry)) offset mark ⌝ }
+{
+    if mark == 0 {
+        return smaller(offset, body.len());
+    }
+    if mark == 1 {
+        return smaller(offset, init.len());
+    }
+    0
 }
 
 // The analysis of a fragment from main and alt unknown items: the verdict's number, its other numbers in `out`, and a row
@@ -61,8 +132,9 @@ pub extern "C" fn listochur_analyze(
         ⌜
         now (out .exit)
         ≡ written
+        (verdictNumbers
         (packedVerdict
-        (analysis builtIn (now (fragment .entry)) main alt (now (log .entry)) .verdict))
+        (analysis builtIn (now (fragment .entry)) main alt (now (log .entry)) .verdict)))
         (now (out .entry))
         ⌝ }
 {
@@ -70,4 +142,84 @@ pub extern "C" fn listochur_analyze(
     let number = v.number;
     write(v, out);
     number
+}
+
+// The limit check: its number, and number, offset and two figures in `out`.
+#[no_mangle]
+pub extern "C" fn listochur_check_limits(bytecode: &[u8], out: &mut [u64]) -> u32
+    ensures number { λ r. ⌜ r ≡ limitCheck (now (bytecode .entry)) .number ⌝ }
+    ensures written { λ r.
+        ⌜
+        now (out .exit)
+        ≡ written (answerNumbers (limitCheck (now (bytecode .entry)))) (now (out .entry))
+        ⌝ }
+{
+    let a = limits::validate_txscript_bytecode_limits(bytecode);
+    let number = a.number;
+    write_answer(a, out);
+    number
+}
+
+// The marking of a paper: the verdict's number, its numbers and the entry that it is about in `out`, and the rows of all
+// fragments in `log`.
+#[no_mangle]
+pub extern "C" fn listochur_mark_paper(paper: &[u8], log: &mut [u16], out: &mut [u64]) -> u32
+    ensures number { λ r.
+        ⌜
+        r
+        ≡ markPaper builtIn (now (paper .entry)) (now (log .entry)) .paper .verdict .answer .number
+        ⌝ }
+    ensures logged { λ r.
+        ⌜ now (log .exit) ≡ markPaper builtIn (now (paper .entry)) (now (log .entry)) .log ⌝ }
+    ensures written { λ r.
+        ⌜
+        now (out .exit)
+        ≡ written
+        (paperNumbers (markPaper builtIn (now (paper .entry)) (now (log .entry)) .paper))
+        (now (out .entry))
+        ⌝ }
+{
+    let v = paper::mark_paper(paper, log);
+    let number = v.number;
+    write_paper(v, out);
+    number
+}
+
+// The display: the length of the part, and its start in the fragment and its length in `out`. C has no slice to take back,
+// so the part is told by these two numbers: what they cut out of the fragment is what document 01 displays.
+#[no_mangle]
+pub extern "C" fn listochur_display<'a>(
+    body: &'a [u8],
+    init: &'a [u8],
+    offset: usize,
+    mark: u32,
+    out: &mut [u64],
+) -> usize
+    ensures size { λ r.
+        ⌜ r ≡ length (display (now (body .entry)) (now (init .entry)) offset mark) ⌝ }
+    ensures part { λ r.
+        ⌜
+        take r
+        (drop (displayStart (now (body .entry)) (now (init .entry)) offset mark)
+        (byMark (now (body .entry)) (now (init .entry)) mark))
+        ≡ display (now (body .entry)) (now (init .entry)) offset mark
+        ⌝ }
+    ensures inside { λ r.
+        ⌜
+        displayStart (now (body .entry)) (now (init .entry)) offset mark + r
+        ≤ length (byMark (now (body .entry)) (now (init .entry)) mark)
+        ⌝ }
+    ensures written { λ r.
+        ⌜
+        now (out .exit)
+        ≡ written
+        (partNumbers (now (body .entry)) (now (init .entry)) offset mark)
+        (now (out .entry))
+        ⌝ }
+{
+    let part = display::display(body, init, offset, mark);
+    let size = part.len();
+    let start = display_start(body, init, offset, mark);
+    write_part(start, size, out);
+    size
 }

@@ -21,7 +21,7 @@ use Rattle.stack_analysis.specs.declared.Stop.the-variants.{Running, End
 use Rattle.stack_analysis.specs.declared.Walk.{Walk}
 use Rattle.stack_analysis.proofs.Goings.{stays, goes-on, among}
 
--- the second arm starts where the first did, and stands behind what the first has notEnded
+-- the second arm starts where the first did, and stands behind what the first has walked
 abbrev pub second : Walk → Walk → Walk
 second v a = record { stacks = v .stacks; live = v .live; at = a .at; last = a .last; rows = a .rows; peak = a .peak; stop = Running }
 
@@ -31,9 +31,6 @@ rows-there s {w} {v} p = rw (p .at, p .rows)
 module _ {s : Bytes} where
   pub ready-there : {w v : Walk} {log : List ℕ} → Ready s log w → Fit (v .stacks) → SamePlace w v → Ready s log v
   ready-there {w} {v} r f p = record { fit = f; high = rw (p .at) (r .high); short = r .short; room = rw (rows-there s p) (r .room) }
-
-  pub ready-second : (v : Walk) {a : Walk} {log : List ℕ} → Ready s log a → Fit (v .stacks) → Ready s log (second v a)
-  ready-second v r f = record { fit = f; high = r .high; short = r .short; room = r .room }
 
 module _ {R : Rules} {s : Bytes} where
   -- the next walker may start

@@ -9,18 +9,22 @@ use std::fs;
 use std::path::PathBuf;
 use std::process::ExitCode;
 
+use reference::Tally;
 use tools::case::Case;
 use tools::generate::{Draft, Kind, case, mutate};
 use tools::model::{LENGTHS, Writer};
 use tools::rng::Rng;
 
-/// Every verdict number that the Rust, or a paper's header, can give occurs this often.
+/// Every verdict number that the Rust, a paper's header or a tally can give occurs this often.
 const AT_LEAST: usize = 30;
-const WANTED: [(&str, &[u32]); 3] = [
+const WANTED: [(&str, &[u32]); 5] = [
     ("fragment", &[0, 2, 3, 6, 7, 8, 9, 10, 11, 12, 13, 14, 15, 16]),
     ("limits", &[0, 3, 17, 18]),
     // No 2: after the dispatch check no start of a paper is too large.
     ("paper", &[0, 3, 6, 7, 8, 9, 10, 11, 12, 13, 14, 15, 16, 19, 20, 21]),
+    // A display has no number, and counts as 0.
+    ("display", &[0]),
+    ("tally", &[0, 22]),
 ];
 
 /// `cases.txt` stays below this many bytes.
@@ -92,6 +96,8 @@ impl List {
         list.limit_checks();
         list.papers();
         list.generated();
+        list.displays();
+        list.tallies();
         list
     }
 
@@ -116,6 +122,16 @@ impl List {
 
     fn paper(&mut self, bytes: impl Into<Vec<u8>>) {
         self.add(Case::Paper { bytes: bytes.into() });
+    }
+
+    fn display(&mut self, body: &[u8], init: &[u8], offset: u32, mark: u32) {
+        self.add(Case::Display { body: body.to_vec(), init: init.to_vec(), offset, mark });
+    }
+
+    /// A tally of these four counters, and a verdict of this number, rows and peak.
+    fn tally(&mut self, [fragments, accepted, rows, peak]: [u32; 4], verdict: [u32; 3]) {
+        let tally = Tally { fragments, accepted, rows, peak };
+        self.add(Case::Tally { tally, number: verdict[0], rows: verdict[1], peak: verdict[2] });
     }
 
     /// The examples of the documents.
@@ -454,7 +470,7 @@ impl List {
         }
         // Fragments of the list, changed at random.
         let mut rng = Rng::new(2_027);
-        let fragments: Vec<Case> = self.cases.iter().filter(|case| case.bytes().len() > 12).cloned().collect();
+        let fragments: Vec<Case> = self.cases.iter().filter(|case| case.size() > 12).cloned().collect();
         let mut left = 120;
         while left > 0 {
             let Case::Fragment { main, alt, mut bytes } = fragments[rng.below(fragments.len())].clone() else {
@@ -464,6 +480,121 @@ impl List {
             let case = Case::Fragment { main, alt, bytes };
             let text = case.to_string();
             if text.len() < 500 && case.answer().0.is_some() && !self.seen.contains(&text) {
+                left -= 1;
+                self.add(case);
+            }
+        }
+    }
+
+    /// Displays: at each offset, of malformed tails, by each mark.
+    fn displays(&mut self) {
+        const MOST: u32 = u32::MAX;
+        // A push of each form between other instructions, by either mark.
+        let body = b"\x51\x02\xaa\x4c\x4c\x03\x01\x02\x03\x4d\x02\x00\x09\x4d\x4e\x01\x00\x00\x00\x07\x75";
+        let init = b"\x6c\x00\x4c\x00\x7b";
+        for offset in (0..=body.len() as u32 + 1).chain([MOST]) {
+            self.display(body, init, offset, 0);
+        }
+        for offset in (0..=init.len() as u32 + 1).chain([20, MOST]) {
+            self.display(body, init, offset, 1);
+        }
+        for offset in [0, 1, 21, MOST] {
+            self.display(body, init, offset, 2);
+            self.display(body, init, offset, MOST);
+        }
+        // Empty parts.
+        for offset in [0, 1] {
+            for mark in [0, 1, 2] {
+                self.display(b"", b"", offset, mark);
+            }
+            self.display(b"", b"\x75", offset, 0);
+            self.display(b"\x75", b"", offset, 1);
+        }
+        // Length or data bytes missing, behind an instruction that is whole.
+        let malformed: [&[u8]; 11] = [
+            b"\x01",
+            b"\x03\x61\x62",
+            b"\x4b\x4c",
+            b"\x4c",
+            b"\x4c\x02\x07",
+            b"\x4d",
+            b"\x4d\x00",
+            b"\x4d\x00\x01\x07",
+            b"\x4e\x00\x00\x00",
+            b"\x4e\x01\x00\x00\x00",
+            b"\x4e\xff\xff\xff\xff\x75",
+        ];
+        for (k, tail) in malformed.into_iter().enumerate() {
+            let fragment = [b"\x52", tail].concat();
+            let mark = k as u32 % 2;
+            for offset in 0..3 {
+                let (body, init) = if mark == 0 { (&fragment[..], &init[..]) } else { (&init[..], &fragment[..]) };
+                self.display(body, init, offset, mark);
+            }
+        }
+        // Long parts, with and without a tail in the repeat form.
+        let long = |size: u16, byte: u8| [vec![0x4d], size.to_le_bytes().to_vec(), vec![byte; size as usize]].concat();
+        for (size, byte) in [(99, 0x07), (100, 0x07), (9_997, 0x61)] {
+            let push = long(size, byte);
+            self.display(&push, b"\x75", 0, 0);
+            self.display(b"\x75", &push[..push.len() - 1], 0, 1);
+            self.display(&push, &push, 3, 0);
+        }
+        let mixed: Vec<u8> = [vec![0x4c, 200], (0..200).collect(), vec![0x75]].concat();
+        self.display(&mixed, b"", 0, 0);
+        self.display(&mixed, b"", 2, 0);
+        self.display(&mixed, &mixed[..201], 0, 1);
+        self.some_generated(Kind::Display, 20, 0);
+    }
+
+    /// Tallies: each sum at 4,294,967,295 and one over it, alone and with the others; the peak is a maximum.
+    fn tallies(&mut self) {
+        const MOST: u32 = u32::MAX;
+        for verdict in [[0, 0, 0], [0, 6, 2], [7, 1, 0], [3, 0, 0], [22, 0, 0], [MOST, 1, 1], [0, 10_000, 244]] {
+            self.tally([0; 4], verdict);
+            self.tally([5, 3, 40, 12], verdict);
+        }
+        // Fragments and accepted ones.
+        for number in [0, 7] {
+            for counter in [MOST - 2, MOST - 1, MOST] {
+                self.tally([counter, 0, 0, 0], [number, 1, 1]);
+                self.tally([0, counter, 0, 0], [number, 1, 1]);
+                self.tally([counter, counter, 0, 0], [number, 1, 1]);
+            }
+        }
+        // Rows.
+        let half = 1 << 31;
+        for (had, more) in [(MOST, 0), (MOST, 1), (MOST - 1, 1), (MOST - 1, 2), (0, MOST), (1, MOST), (MOST, MOST)] {
+            self.tally([1, 1, had, 0], [0, more, 1]);
+            self.tally([1, 1, had, 9], [16, more, 1]);
+        }
+        for (had, more) in [(half, half - 1), (half, half), (half - 1, half), (4_294_957_296, 10_000), (4_294_957_295, 10_000)] {
+            self.tally([9, 2, had, 244], [0, more, 3]);
+        }
+        // The peak: never a sum, and unchanged with the rest on 22.
+        for (had, peak) in [(0, 0), (3, 5), (5, 3), (5, 5), (244, 0), (0, 244), (MOST, 1), (1, MOST), (MOST, MOST)] {
+            self.tally([1, 0, 2, had], [0, 3, peak]);
+            self.tally([MOST, 0, 2, had], [0, 3, peak]);
+        }
+        // All of them at once, each at its edge or one over.
+        for number in [0, 12] {
+            for over in 0..8 {
+                let counter = |k: u32, add: u32| MOST - add + (over >> k & 1);
+                self.tally([counter(0, 1), counter(1, 1), counter(2, 4), 7], [number, 4, 9]);
+            }
+        }
+        self.some_generated(Kind::Tally, 10, 0);
+        self.some_generated(Kind::Tally, 10, 22);
+    }
+
+    /// So many generated cases of this kind and number.
+    fn some_generated(&mut self, kind: Kind, count: usize, wanted: u32) {
+        let mut rng = Rng::new(2_028);
+        let mut left = count;
+        while left > 0 {
+            let case = case(&mut rng, kind);
+            let text = case.to_string();
+            if case.answer().0 == Some(wanted) && text.len() < 500 && !self.seen.contains(&text) {
                 left -= 1;
                 self.add(case);
             }
@@ -491,7 +622,7 @@ impl List {
         if let Some((word, number)) = unlisted {
             return Err(format!("{word} {number} is not a number that was thought possible"));
         }
-        let longest = self.cases.iter().map(|case| case.bytes().len()).max().unwrap_or(0);
+        let longest = self.cases.iter().map(|case| case.size()).max().unwrap_or(0);
         if longest > LONGEST {
             return Err(format!("a case has {longest} bytes, over {LONGEST}"));
         }

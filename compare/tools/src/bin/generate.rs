@@ -9,7 +9,9 @@ use tools::rng::Rng;
 fn main() -> ExitCode {
     let arguments: Vec<String> = std::env::args().skip(1).collect();
     let Some((seed, count, kind)) = read(&arguments) else {
-        eprintln!("usage: generate SEED COUNT KIND\nKIND is fragment, limits, paper or all; SEED and COUNT are below 2^64");
+        eprintln!(
+            "usage: generate SEED COUNT KIND\nKIND is fragment, limits, paper, all, display or tally; SEED and COUNT are below 2^64"
+        );
         return ExitCode::from(2);
     };
     let mut out = io::BufWriter::new(io::stdout().lock());

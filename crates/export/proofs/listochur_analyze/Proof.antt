@@ -1,36 +1,29 @@
 use mathlib.Core.Path.{ap, _∙_}
 use Rattle.stack_analysis.specs.declared.Verdict.{Verdict}
-use Rattle.export.specs.View.{written}
+use Rattle.export.specs.View.{written, verdictNumbers}
 use borrow.Author.Needs.{needs}
-use native.Mathlib.Omega.{arith}
 use Rattle.export.proofs.listochur_analyze.Statement.{statement}
 use Rattle.export.proofs.listochur_analyze.Tie as tie
-use Rattle.export.proofs.listochur_analyze.Reads as reads
-use Rattle.export.proofs.listochur_analyze.Lts as lts
-use Rattle.export.proofs.write.Reads as write-reads
-use Rattle.stack_analysis.proofs.analyze.Reads as analyze-reads
 
--- src/lib.rt:70:9
 analyze-requires : tie.Need-analyze-requires
 analyze-requires c κs = search needs
 
--- src/lib.rt:72:5
 write-requires : tie.Need-write-requires
 write-requires c κs = search needs
 
--- src/lib.rt:41:1
 same-length : tie.Need-same-length
 same-length c = search needs
 
--- src/lib.rt:41:1
 same-length-2 : tie.Need-same-length-2
 same-length-2 c = search needs
 
--- src/lib.rt:41:1
 returns : tie.Need-returns
 returns c =
-    let a = c .before .before .before .before .before .before .analyze .ensures in
-    (ap (λ (v : Verdict). v .number) (a .0), (a .1 .0, c .before .before .write .ensures ∙ ap (λ (v : Verdict). written v (c .before .before .before .before .before .before .before .before .before .before .before .args .out .now)) (a .0)))
+    let d = c .before .before .before .before .before .before in
+    let lent = d .before .before .before .before .before .args .out .now in
+    let same = d .analyze .ensures .0 in
+    let wrote = c .before .before .write .ensures ∙ ap (λ (v : Verdict). written (verdictNumbers v) lent) same in
+    (ap (λ (v : Verdict). v .number) same, (d .analyze .ensures .1 .0, wrote))
 
 pub listochur-analyze-spec : {M : Type 1} → statement M
 listochur-analyze-spec =

@@ -1,80 +1,63 @@
+use Rattle.export.specs.View.{verdictNumbers}
 use lib.ListN.{length-set}
-use Rattle.export.proofs.Places.{too-few, all-nine}
+use Rattle.export.proofs.Places.{too-few, all-written}
 use borrow.Author.Needs.{needs}
 use native.Mathlib.Omega.{arith}
 use Rattle.export.proofs.write.Statement.{statement}
 use Rattle.export.proofs.write.Tie as tie
-use Rattle.export.proofs.write.Reads as reads
-use Rattle.export.proofs.write.Lts as lts
-use Rattle.export.proofs.flag.Reads as flag-reads
 
--- src/lib.rt:26:9
 returns : tie.Need-returns
 returns c = search (too-few)
 
--- src/lib.rt:28:14
 cast-out : tie.Need-cast-out
 cast-out c = search needs
 
--- src/lib.rt:28:5
 slice-write-out : tie.Need-slice-write-out
 slice-write-out c = search needs
 
--- src/lib.rt:29:5
 slice-write-out-2 : tie.Need-slice-write-out-2
 slice-write-out-2 c = simp length-set (omega arith)
 
--- src/lib.rt:30:5
 slice-write-out-3 : tie.Need-slice-write-out-3
 slice-write-out-3 c = simp length-set (omega arith)
 
--- src/lib.rt:31:5
 slice-write-out-4 : tie.Need-slice-write-out-4
 slice-write-out-4 c = simp length-set (omega arith)
 
--- src/lib.rt:32:5
 slice-write-out-5 : tie.Need-slice-write-out-5
 slice-write-out-5 c = simp length-set (omega arith)
 
--- src/lib.rt:33:14
 cast-out-2 : tie.Need-cast-out-2
 cast-out-2 c = search needs
 
--- src/lib.rt:33:5
 slice-write-out-6 : tie.Need-slice-write-out-6
 slice-write-out-6 c = simp length-set (omega arith)
 
--- src/lib.rt:34:14
 flag-requires : tie.Need-flag-requires
 flag-requires c κs = search needs
 
--- src/lib.rt:34:5
 slice-write-out-7 : tie.Need-slice-write-out-7
 slice-write-out-7 c = simp length-set (omega arith)
 
--- src/lib.rt:35:14
 cast-out-3 : tie.Need-cast-out-3
 cast-out-3 c = search needs
 
--- src/lib.rt:35:5
 slice-write-out-8 : tie.Need-slice-write-out-8
 slice-write-out-8 c = simp length-set (omega arith)
 
--- src/lib.rt:36:14
 cast-out-4 : tie.Need-cast-out-4
 cast-out-4 c = search needs
 
--- src/lib.rt:36:5
 slice-write-out-9 : tie.Need-slice-write-out-9
 slice-write-out-9 c = simp length-set (omega arith)
 
--- src/lib.rt:22:1
 same-length : tie.Need-same-length
 same-length c = simp length-set
 
--- src/lib.rt:22:1
 returns-2 : tie.Need-returns-2
-returns-2 c = search (all-nine, needs)
+returns-2 c =
+    let a = c .before .before .before .before .before .before .before .args in
+    rw (c .before .before .flag .ensures) (all-written (verdictNumbers (a .v)) (a .out .now) (search needs))
 
 pub write-spec : {M : Type 1} → statement M
 write-spec =

@@ -1,5 +1,5 @@
 use mathlib.Core.Path.{refl}
-use Rattle.stack_analysis.proofs.Cycle.{ready-on, ready-there, ready-second, one-deeper, not-entered, one-arm, two-arms, closed-running, not-else, ifMore, Arming, arming-none, arm-ended, falls-in, ready-in, arm-refused, runs-on, ready-after, arm-again, arm-nearer}
+use Rattle.stack_analysis.proofs.Cycle.{ready-on, ready-there, one-deeper, not-entered, one-arm, two-arms, closed-running, not-else, ifMore, Arming, arming-none, arm-ended, falls-in, ready-in, arm-refused, runs-on, ready-after, arm-again, arm-nearer}
 use lib.ListN.{length}
 use borrow.Author.Needs.{needs}
 use native.Mathlib.Omega.{arith}
@@ -261,7 +261,7 @@ conditional-arm-requires-2 t c κs =
     let a = c .before .before .before .before .before .before .arm in
     let run = closed-running _ (e .closed) (c .before .before .before .before .before .before .before .before .before .match .keys2) in
     let r = ready-on (ready-there (s .pre .1 .0 .0) (e .fit) (e .place)) (a .ensures .goes) (a .kept .1 .0) in
-    (omega (arith, s .pre .0, e .place .at, a .ensures .goes .low), ((ready-second (c .before .before .before .before .before .before .before .before .before .before .enter .result) r (e .fit), refl), one-deeper (s .pre .1 .0 .0) e run))
+    (omega (arith, s .pre .0, e .place .at, a .ensures .goes .low), ((record { fit = search (e .fit, a .ensures .goes .fit); high = r .high; short = r .short; room = r .room }, refl), one-deeper (s .pre .1 .0 .0) e run))
 
 -- src/lib.rt:312:9
 conditional-finish-requires : (t : ℕ) → conditional-lts.Need-finish-requires (

@@ -1,6 +1,6 @@
 use lib.ListN.{length-take, length-set}
-use borrow.Author.Needs.{needs}
 use native.Mathlib.Omega.{arith}
+use borrow.Author.Needs.{needs}
 use Rattle.vectors.proofs.character.Statement.{statement}
 use Rattle.vectors.proofs.character.Tie as tie
 
@@ -25,20 +25,23 @@ same-length-2 c = search needs
 same-length-3 : tie.Need-same-length-3
 same-length-3 c = search needs
 
+same-length-4 : tie.Need-same-length-4
+same-length-4 c = search needs
+
 returns : tie.Need-returns
 returns c = search needs
 
 slice-write-line : tie.Need-slice-write-line
 slice-write-line c = search needs
 
-add-t19 : tie.Need-add-t19
-add-t19 c = search needs
+add-t23 : tie.Need-add-t23
+add-t23 c = search needs
 
-same-length-4 : tie.Need-same-length-4
-same-length-4 c = search needs
+same-length-5 : tie.Need-same-length-5
+same-length-5 c = search needs
 
 returns-2 : tie.Need-returns-2
-returns-2 c = simp length-set (omega arith)
+returns-2 c = record { inLine = simp length-set (omega arith); inOut = search needs }
 
 returns-3 : tie.Need-returns-3
 returns-3 c = search needs
@@ -54,9 +57,10 @@ character-spec =
     same-length
     same-length-2
     same-length-3
+    same-length-4
     returns
     slice-write-line
-    add-t19
-    same-length-4
+    add-t23
+    same-length-5
     returns-2
     returns-3)

@@ -1,16 +1,16 @@
+use Rattle.vectors.specs.Ranges.{Held}
 use lib.ListN.{length}
-use Prim.Native.Nat.{_≤_, _-_}
+use Prim.Native.Nat.{_-_}
 use mathlib.Core.Path.{_≡_}
 use borrow.Author.Needs.{needs}
-use native.Mathlib.Omega.{arith}
 use Rattle.vectors.proofs.characters.Statement.{statement}
 use Rattle.vectors.proofs.characters.Tie as tie
 
 abbrev Inv-loop : tie.InvT-loop
-Inv-loop block line₀ code₀ log₀ r₀ i₀ line code log r i = ((length line ≡ length line₀) × (length code ≡ length code₀) × (length log ≡ length log₀)) × (r .held ≤ length line)
+Inv-loop block line₀ code₀ log₀ out₀ r₀ i₀ line code log out r i = ((length line ≡ length line₀) × (length code ≡ length code₀) × (length log ≡ length log₀) × (length out ≡ length out₀)) × Held (length line) (length out) r
 
 abbrev μ-loop : tie.MeasureT-loop
-μ-loop block line₀ code₀ log₀ r₀ i₀ line code log r i = length block - i
+μ-loop block line₀ code₀ log₀ out₀ r₀ i₀ line code log out r i = length block - i
 
 loop-holds : tie.Need-loop-holds Inv-loop μ-loop
 loop-holds c = search needs
@@ -39,6 +39,9 @@ same-length-2 c = search needs
 same-length-3 : tie.Need-same-length-3 Inv-loop μ-loop
 same-length-3 c = search needs
 
+same-length-4 : tie.Need-same-length-4 Inv-loop μ-loop
+same-length-4 c = search needs
+
 returns : tie.Need-returns Inv-loop μ-loop
 returns c = search needs
 
@@ -57,4 +60,5 @@ characters-spec =
     same-length
     same-length-2
     same-length-3
+    same-length-4
     returns)

@@ -1,6 +1,6 @@
 use lib.ListN.{length-set}
 use mathlib.Core.Path.{_≡_}
-use Prim.Native.Nat.{_≤_}
+use Prim.Native.Nat.{_+_, _≤_}
 use lib.ListN.{length}
 use borrow.Author.Needs.{needs}
 use native.Mathlib.Omega.{arith}
@@ -8,19 +8,13 @@ use Rattle.vectors.proofs.fill.Statement.{statement}
 use Rattle.vectors.proofs.fill.Tie as tie
 
 abbrev Inv-loop : tie.InvT-loop
-Inv-loop code₀ n b times k₀ left₀ code k left = (length code ≡ length code₀) × (k ≤ length code)
+Inv-loop code₀ n b times k₀ left₀ code k left = (length code ≡ length code₀) × (k + left ≤ length code)
 
 abbrev μ-loop : tie.MeasureT-loop
 μ-loop code₀ n b times k₀ left₀ code k left = left
 
 loop-holds : tie.Need-loop-holds Inv-loop μ-loop
 loop-holds c = search needs
-
-same-length : tie.Need-same-length Inv-loop μ-loop
-same-length c = search needs
-
-returns : tie.Need-returns Inv-loop μ-loop
-returns c = search needs
 
 slice-write-code : tie.Need-slice-write-code Inv-loop μ-loop
 slice-write-code c = search needs
@@ -37,11 +31,11 @@ loop-less c = search needs
 loop-again : tie.Need-loop-again Inv-loop μ-loop
 loop-again c = (simp length-set (omega arith), simp length-set (omega arith))
 
-same-length-2 : tie.Need-same-length-2 Inv-loop μ-loop
-same-length-2 c = search needs
+same-length : tie.Need-same-length Inv-loop μ-loop
+same-length c = search needs
 
-returns-2 : tie.Need-returns-2 Inv-loop μ-loop
-returns-2 c = search needs
+returns : tie.Need-returns Inv-loop μ-loop
+returns c = search needs
 
 pub fill-spec : {M : Type 1} → statement M
 fill-spec =
@@ -50,12 +44,10 @@ fill-spec =
     Inv-loop
     μ-loop
     loop-holds
-    same-length
-    returns
     slice-write-code
     add-k
     sub-left
     loop-less
     loop-again
-    same-length-2
-    returns-2)
+    same-length
+    returns)

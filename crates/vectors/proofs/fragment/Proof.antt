@@ -1,14 +1,7 @@
-use Rattle.vectors.specs.Ranges.{CountWithin}
-use lib.ListN.{length, length-take}
-use Prim.Native.Nat.{_≤_}
-use mathlib.Core.Path.{subst}
+use Rattle.vectors.proofs.RangeLaws.{count-is, count-lent}
 use borrow.Author.Needs.{needs}
-use native.Mathlib.Omega.{arith}
 use Rattle.vectors.proofs.fragment.Statement.{statement}
 use Rattle.vectors.proofs.fragment.Tie as tie
-
-within : (c : tie.After-known-told3) → c .before .count .given .0 .0 ≤ length (c .before .before .before .before .before .bytes .last .1 .1 .0)
-within c = subst (CountWithin (length (c .before .before .before .before .before .bytes .last .1 .1 .0))) (c .before .count .given .1) (c .before .before .before .before .before .bytes .ensures)
 
 height-requires : tie.Need-height-requires
 height-requires c κs = search needs
@@ -50,25 +43,16 @@ returns-3 : tie.Need-returns-3
 returns-3 c = search needs
 
 slice-reshare-prefix-analyze : tie.Need-slice-reshare-prefix-analyze
-slice-reshare-prefix-analyze c = within c
+slice-reshare-prefix-analyze c = search (count-is)
 
 slice-aggregate-analyze : tie.Need-slice-aggregate-analyze
-slice-aggregate-analyze c = simp length-take (omega (arith, within (c .before)))
+slice-aggregate-analyze c = search (count-lent)
 
 analyze-requires : tie.Need-analyze-requires
 analyze-requires c κs = search needs
 
-slice-aggregate-write-all : tie.Need-slice-aggregate-write-all
-slice-aggregate-write-all c = search needs
-
-write-all-requires : tie.Need-write-all-requires
-write-all-requires c κs = search needs
-
-slice-aggregate-write-all-2 : tie.Need-slice-aggregate-write-all-2
-slice-aggregate-write-all-2 c = search needs
-
-write-all-requires-2 : tie.Need-write-all-requires-2
-write-all-requires-2 c κs = search needs
+put-fragment-requires : tie.Need-put-fragment-requires
+put-fragment-requires c κs = c .before .before .before .before .before .before .before .before .before .before .before .before .before .before .before .before .before .before .before .before .before .before .before .before .before .pre
 
 same-length-2 : tie.Need-same-length-2
 same-length-2 c = search needs
@@ -76,35 +60,11 @@ same-length-2 c = search needs
 same-length-3 : tie.Need-same-length-3
 same-length-3 c = search needs
 
-returns-4 : tie.Need-returns-4
-returns-4 c = search needs
-
-slice-aggregate-write-all-3 : tie.Need-slice-aggregate-write-all-3
-slice-aggregate-write-all-3 c = search needs
-
-write-all-requires-3 : tie.Need-write-all-requires-3
-write-all-requires-3 c κs = search needs
-
 same-length-4 : tie.Need-same-length-4
 same-length-4 c = search needs
 
-same-length-5 : tie.Need-same-length-5
-same-length-5 c = search needs
-
-returns-5 : tie.Need-returns-5
-returns-5 c = search needs
-
-write-verdict-requires : tie.Need-write-verdict-requires
-write-verdict-requires c κs = search needs
-
-same-length-6 : tie.Need-same-length-6
-same-length-6 c = search needs
-
-same-length-7 : tie.Need-same-length-7
-same-length-7 c = search needs
-
-returns-6 : tie.Need-returns-6
-returns-6 c = search needs
+returns-4 : tie.Need-returns-4
+returns-4 c = search needs
 
 pub fragment-spec : {M : Type 1} → statement M
 fragment-spec =
@@ -126,19 +86,8 @@ fragment-spec =
     slice-reshare-prefix-analyze
     slice-aggregate-analyze
     analyze-requires
-    slice-aggregate-write-all
-    write-all-requires
-    slice-aggregate-write-all-2
-    write-all-requires-2
+    put-fragment-requires
     same-length-2
     same-length-3
-    returns-4
-    slice-aggregate-write-all-3
-    write-all-requires-3
     same-length-4
-    same-length-5
-    returns-5
-    write-verdict-requires
-    same-length-6
-    same-length-7
-    returns-6)
+    returns-4)

@@ -1,6 +1,6 @@
-use lib.ListN.{length}
-use Prim.Native.Nat.{_≤_, _-_}
+use lib.ListN.{length, length-set}
 use mathlib.Core.Path.{_≡_}
+use Prim.Native.Nat.{_≤_, _-_}
 use borrow.Author.Needs.{needs}
 use native.Mathlib.Omega.{arith}
 use Rattle.vectors.proofs.hex_bytes.Statement.{statement}
@@ -45,8 +45,17 @@ same-length-2 c = search needs
 returns-2 : tie.Need-returns-2 Inv-loop μ-loop
 returns-2 c = search needs
 
-fill-requires : tie.Need-fill-requires Inv-loop μ-loop
-fill-requires c κs = search needs
+same-length-3 : tie.Need-same-length-3 Inv-loop μ-loop
+same-length-3 c = search needs
+
+returns-3 : tie.Need-returns-3 Inv-loop μ-loop
+returns-3 c = search needs
+
+slice-write-code : tie.Need-slice-write-code Inv-loop μ-loop
+slice-write-code c = search needs
+
+add-n : tie.Need-add-n Inv-loop μ-loop
+add-n c = search needs
 
 add-at : tie.Need-add-at Inv-loop μ-loop
 add-at c = search needs
@@ -55,19 +64,19 @@ loop-less : tie.Need-loop-less Inv-loop μ-loop
 loop-less c = search needs
 
 loop-again : tie.Need-loop-again Inv-loop μ-loop
-loop-again c = search needs
-
-same-length-3 : tie.Need-same-length-3 Inv-loop μ-loop
-same-length-3 c = search needs
-
-returns-3 : tie.Need-returns-3 Inv-loop μ-loop
-returns-3 c = search needs
+loop-again c = (simp length-set (omega arith), simp length-set (omega arith))
 
 same-length-4 : tie.Need-same-length-4 Inv-loop μ-loop
 same-length-4 c = search needs
 
 returns-4 : tie.Need-returns-4 Inv-loop μ-loop
 returns-4 c = search needs
+
+same-length-5 : tie.Need-same-length-5 Inv-loop μ-loop
+same-length-5 c = search needs
+
+returns-5 : tie.Need-returns-5 Inv-loop μ-loop
+returns-5 c = search needs
 
 pub hex-bytes-spec : {M : Type 1} → statement M
 hex-bytes-spec =
@@ -86,11 +95,14 @@ hex-bytes-spec =
     enum-told
     same-length-2
     returns-2
-    fill-requires
+    same-length-3
+    returns-3
+    slice-write-code
+    add-n
     add-at
     loop-less
     loop-again
-    same-length-3
-    returns-3
     same-length-4
-    returns-4)
+    returns-4
+    same-length-5
+    returns-5)

@@ -1,17 +1,16 @@
-use Rattle.vectors.specs.Ranges.{HeldWithin}
+use Rattle.vectors.proofs.RangeLaws.{held-is}
+use Rattle.vectors.specs.Ranges.{Held}
 use lib.ListN.{length}
-use Prim.Native.Nat.{_≤_}
-use mathlib.Core.Path.{_≡_, subst}
+use mathlib.Core.Path.{_≡_}
 use borrow.Author.Needs.{needs}
-use native.Mathlib.Omega.{arith}
 use Rattle.vectors.proofs.replay.Statement.{statement}
 use Rattle.vectors.proofs.replay.Tie as tie
 
 abbrev Inv-loop : tie.InvT-loop
-Inv-loop line₀ code₀ log₀ r₀ blocks₀ line code log r blocks = ((length line ≡ length line₀) × (length code ≡ length code₀) × (length log ≡ length log₀)) × (r .held ≤ length line)
+Inv-loop line₀ code₀ log₀ out₀ r₀ blocks₀ line code log out r blocks = ((length line ≡ length line₀) × (length code ≡ length code₀) × (length log ≡ length log₀) × (length out ≡ length out₀)) × Held (length line) (length out) r
 
 abbrev μ-loop : tie.MeasureT-loop
-μ-loop line₀ code₀ log₀ r₀ blocks₀ line code log r blocks = blocks
+μ-loop line₀ code₀ log₀ out₀ r₀ blocks₀ line code log out r blocks = blocks
 
 loop-holds : tie.Need-loop-holds Inv-loop μ-loop
 loop-holds c = search needs
@@ -37,6 +36,9 @@ same-length-2 c = search needs
 same-length-3 : tie.Need-same-length-3 Inv-loop μ-loop
 same-length-3 c = search needs
 
+same-length-4 : tie.Need-same-length-4 Inv-loop μ-loop
+same-length-4 c = search needs
+
 returns : tie.Need-returns Inv-loop μ-loop
 returns c = search needs
 
@@ -47,16 +49,19 @@ loop-less : tie.Need-loop-less Inv-loop μ-loop
 loop-less c = search needs
 
 loop-again : tie.Need-loop-again Inv-loop μ-loop
-loop-again c = (search needs, subst (HeldWithin (length (c .before .before .before .before .before .before .before .before .before .read-block .last .1 .0))) (c .before .p .given .1) (c .before .before .before .before .before .before .before .before .before .read-block .ensures))
-
-same-length-4 : tie.Need-same-length-4 Inv-loop μ-loop
-same-length-4 c = search needs
+loop-again c = (search needs, search (held-is))
 
 same-length-5 : tie.Need-same-length-5 Inv-loop μ-loop
 same-length-5 c = search needs
 
 same-length-6 : tie.Need-same-length-6 Inv-loop μ-loop
 same-length-6 c = search needs
+
+same-length-7 : tie.Need-same-length-7 Inv-loop μ-loop
+same-length-7 c = search needs
+
+same-length-8 : tie.Need-same-length-8 Inv-loop μ-loop
+same-length-8 c = search needs
 
 returns-2 : tie.Need-returns-2 Inv-loop μ-loop
 returns-2 c = search needs
@@ -75,11 +80,13 @@ replay-spec =
     same-length
     same-length-2
     same-length-3
+    same-length-4
     returns
     sub-blocks
     loop-less
     loop-again
-    same-length-4
     same-length-5
     same-length-6
+    same-length-7
+    same-length-8
     returns-2)

@@ -1,0 +1,23 @@
+/* Marks the sample paper of document 01, section 6, and analyses a fragment that is refused. */
+#include <inttypes.h>
+#include <stdio.h>
+
+#include "listochur.h"
+
+int main(void) {
+    const uint8_t paper[] = {0x01, 0x00, 0x01, 0x00, 0x0e, 0x00, 0x00, 0x00, 0x01, 0x00,
+                             0x0e, 0x00, 0x06, 0x00, 0x63, 0x51, 0x67, 0x52, 0x68, 0x75};
+    uint16_t log[24000];
+    uint64_t p[LISTOCHUR_PAPER_PLACES];
+    if (listochur_mark_paper(paper, sizeof paper, log, 24000, p, LISTOCHUR_PAPER_PLACES) == 0) {
+        printf("accepted: %" PRIu64 " rows, peak %" PRIu64 "\n", p[5], p[6]);
+    } else {
+        printf("refused %" PRIu64 " at %" PRIu64 " %" PRIu64 " %" PRIu64 " %" PRIu64 "\n", p[0], p[1], p[2], p[3], p[4]);
+    }
+
+    const uint8_t fragment[] = {0x51, 0x79};
+    uint64_t v[LISTOCHUR_VERDICT_PLACES];
+    listochur_analyze(fragment, sizeof fragment, 1, 0, log, 24000, v, LISTOCHUR_VERDICT_PLACES);
+    printf("%" PRIu64 " at %" PRIu64 ", %" PRIu64 ", %" PRIu64 "\n", v[0], v[1], v[2], v[3]);
+    return 0;
+}

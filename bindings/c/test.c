@@ -1,0 +1,107 @@
+/* The four functions from C: answers, bad input, NULL with a length of 0, too few places. */
+#include <stdio.h>
+#include <string.h>
+
+#include "listochur.h"
+
+static int failures = 0;
+
+#define EXPECT(condition)                                             \
+    do {                                                              \
+        if (!(condition)) {                                           \
+            fprintf(stderr, "%s:%d: %s\n", __FILE__, __LINE__, #condition); \
+            failures++;                                               \
+        }                                                             \
+    } while (0)
+
+/* whether these places hold these numbers and nothing has been written after them */
+static int holds(const uint64_t *out, const uint64_t *numbers, size_t n) {
+    return memcmp(out, numbers, n * sizeof *numbers) == 0 && out[n] == 7;
+}
+
+static void lend(uint64_t *out) {
+    for (int i = 0; i < 10; i++) out[i] = 7;
+}
+
+static void analyse(void) {
+    uint64_t out[10];
+    uint16_t log[6] = {9, 9, 9, 9, 9, 9};
+    const uint8_t fragment[] = {0x51, 0x6b};
+    lend(out);
+    EXPECT(listochur_analyze(fragment, 2, 3, 1, log, 6, out, 10) == 0);
+    EXPECT(holds(out, (const uint64_t[]){0, 0, 0, 0, 2, 5, 1, 3, 2}, 9));
+    EXPECT(memcmp(log, (const uint16_t[]){0, 3, 1, 1, 4, 1}, sizeof log) == 0);
+    lend(out);
+    EXPECT(listochur_analyze(fragment, 2, 0, 0, log, 5, out, 10) == 4);
+    EXPECT(holds(out, (const uint64_t[]){4, 0, 6, 5, 0, 0, 0, 0, 0}, 9));
+    lend(out);
+    EXPECT(listochur_analyze(NULL, 0, 244, 0, NULL, 0, out, 10) == 0);
+    EXPECT(holds(out, (const uint64_t[]){0, 0, 0, 0, 0, 244, 1, 244, 0}, 9));
+    EXPECT(listochur_analyze(NULL, 0, 245, 0, NULL, 0, NULL, 0) == 2);
+    lend(out);
+    EXPECT(listochur_analyze(fragment, 1, 0, 0, NULL, 0, out, 8) == 4);
+    EXPECT(holds(out, (const uint64_t[]){7, 7, 7, 7, 7, 7, 7, 7}, 8));
+}
+
+static void check_limits(void) {
+    uint64_t out[10];
+    uint8_t bytecode[202];
+    memset(bytecode, 0x61, sizeof bytecode);
+    lend(out);
+    EXPECT(listochur_check_limits(bytecode, 201, out, 10) == 0);
+    EXPECT(holds(out, (const uint64_t[]){0, 0, 0, 0}, 4));
+    EXPECT(listochur_check_limits(bytecode, 202, out, 10) == 17);
+    EXPECT(holds(out, (const uint64_t[]){17, 0, 202, 201}, 4));
+    bytecode[5] = 0x4e;
+    EXPECT(listochur_check_limits(bytecode, 9, out, 10) == 3);
+    EXPECT(holds(out, (const uint64_t[]){3, 5, 0, 0}, 4));
+    lend(out);
+    EXPECT(listochur_check_limits(bytecode, 9, out, 3) == 3);
+    EXPECT(holds(out, (const uint64_t[]){7, 7, 7}, 3));
+    EXPECT(listochur_check_limits(NULL, 0, NULL, 0) == 0);
+}
+
+static void mark_paper(void) {
+    uint64_t out[10];
+    uint16_t log[3] = {9, 9, 9};
+    const uint8_t paper[] = {1, 0, 0, 0, 14, 0, 0, 0, 2, 0, 14, 0, 1, 0, 0x7b};
+    lend(out);
+    EXPECT(listochur_mark_paper(paper, sizeof paper, log, 3, out, 10) == 7);
+    EXPECT(holds(out, (const uint64_t[]){7, 0, 0, 3, 2, 1, 0}, 7));
+    EXPECT(memcmp(log, (const uint16_t[]){0, 2, 0}, sizeof log) == 0);
+    EXPECT(listochur_mark_paper(paper, sizeof paper, NULL, 0, out, 10) == 4);
+    EXPECT(holds(out, (const uint64_t[]){4, 0, 0, 3, 0, 0, 0}, 7));
+    lend(out);
+    EXPECT(listochur_mark_paper(NULL, 0, NULL, 0, out, 6) == 19);
+    EXPECT(holds(out, (const uint64_t[]){7, 7, 7, 7, 7, 7}, 6));
+    EXPECT(listochur_mark_paper(NULL, 0, NULL, 0, NULL, 0) == 19);
+}
+
+static void display(void) {
+    uint64_t out[10];
+    const uint8_t body[] = {0x61, 0x02, 5, 6, 0x61};
+    const uint8_t init[] = {0x61, 0x4c};
+    lend(out);
+    EXPECT(listochur_display(body, 5, init, 2, 1, 0, out, 10) == 3);
+    EXPECT(holds(out, (const uint64_t[]){1, 3}, 2));
+    EXPECT(listochur_display(body, 5, init, 2, 1, 1, out, 10) == 1);
+    EXPECT(holds(out, (const uint64_t[]){1, 1}, 2));
+    EXPECT(listochur_display(body, 5, init, 2, 9, 1, out, 10) == 0);
+    EXPECT(holds(out, (const uint64_t[]){2, 0}, 2));
+    EXPECT(listochur_display(body, 5, init, 2, 1, 2, out, 10) == 0);
+    EXPECT(holds(out, (const uint64_t[]){0, 0}, 2));
+    lend(out);
+    EXPECT(listochur_display(body, 5, init, 2, 1, 0, out, 1) == 3);
+    EXPECT(holds(out, (const uint64_t[]){7}, 1));
+    EXPECT(listochur_display(NULL, 0, NULL, 0, 0, 0, NULL, 0) == 0);
+    EXPECT(listochur_display(NULL, 0, NULL, 0, 0, 1, NULL, 0) == 0);
+    EXPECT(listochur_display(NULL, 0, NULL, 0, 0, 2, NULL, 0) == 0);
+}
+
+int main(void) {
+    analyse();
+    check_limits();
+    mark_paper();
+    display();
+    return failures != 0;
+}

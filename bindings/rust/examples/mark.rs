@@ -1,0 +1,15 @@
+//! Marks the sample paper of document 01, section 6, and analyses a fragment that is refused.
+
+fn main() {
+    let paper = [1, 0, 1, 0, 0x0e, 0, 0, 0, 1, 0, 0x0e, 0, 6, 0, 0x63, 0x51, 0x67, 0x52, 0x68, 0x75];
+    let mut log = [0; 24_000];
+    let p = listochur::mark_paper(&paper, &mut log);
+    if p.number == 0 {
+        println!("accepted: {} rows, peak {}", p.rows, p.peak);
+    } else {
+        println!("refused {} at {} {} {} {}", p.number, p.entry, p.offset, p.first, p.second);
+    }
+
+    let v = listochur::analyze(&[0x51, 0x79], 1, 0, &mut log);
+    println!("{} at {}, {}, {}", v.number, v.offset, v.first, v.second);
+}

@@ -1,0 +1,191 @@
+//! A proved stack marker for Kaspa script: analyse a fragment, check limits, mark a paper, display.
+//!
+//! The four functions hand their slices and numbers to the proved ones of the crate `export` and read the numbers that come
+//! back. They test nothing. A fragment that is too long, heights over the limit, a short log, a bad header or a mark that is
+//! neither 0 nor 1 reach the callee as they are: it takes every input and has refused them, with a number of document 01,
+//! section 7, before anything here could. Nothing panics and nothing is allocated.
+//!
+//! What is proved is that the answer and the log are those of document 01, for every input. This crate and the compilers are
+//! not: here are four calls, the numbers that they leave, and the part that the display's two numbers cut out. A call uses up
+//! to 512 KiB of stack.
+//!
+//! ```
+//! let mut log = [0u16; 6];
+//! let v = listochur::analyze(&[0x51, 0x79], 1, 0, &mut log);
+//! assert_eq!((v.number, v.offset, v.first, v.second), (7, 1, 2, 1));
+//! assert_eq!(listochur::display(&[0x51, 0x79], &[], v.offset, 0), [0x79]);
+//! ```
+#![warn(missing_docs)]
+
+mod callee {
+    // As in include/listochur.h: a slice passes as a pointer and then a length.
+    unsafe extern "C" {
+        pub fn listochur_analyze(
+            fragment: *const u8,
+            fragment_len: usize,
+            main: u32,
+            alt: u32,
+            log: *mut u16,
+            log_len: usize,
+            out: *mut u64,
+            out_len: usize,
+        ) -> u32;
+        pub fn listochur_check_limits(bytecode: *const u8, bytecode_len: usize, out: *mut u64, out_len: usize) -> u32;
+        pub fn listochur_mark_paper(
+            paper: *const u8,
+            paper_len: usize,
+            log: *mut u16,
+            log_len: usize,
+            out: *mut u64,
+            out_len: usize,
+        ) -> u32;
+        pub fn listochur_display(
+            body: *const u8,
+            body_len: usize,
+            init: *const u8,
+            init_len: usize,
+            offset: usize,
+            mark: u32,
+            out: *mut u64,
+            out_len: usize,
+        ) -> usize;
+    }
+}
+
+/// A height in the log where the row is dead.
+pub const DEAD: u16 = 65_535;
+
+/// The verdict on a fragment.
+#[derive(Clone, Copy, Debug, PartialEq, Eq)]
+pub struct Verdict {
+    /// 0 for accepted, else why the fragment is refused.
+    pub number: u32,
+    /// Where the refused instruction stands; 0 for the numbers that are about no instruction.
+    pub offset: usize,
+    /// The first figure of the number.
+    pub first: u64,
+    /// The second figure of the number.
+    pub second: u64,
+    /// How many rows of the log are written, three numbers each.
+    pub rows: usize,
+    /// The greatest total of both stacks; 0 if the fragment is refused.
+    pub peak: u32,
+    /// The heights that the fragment ends with; none if it is refused or no run comes past its last instruction.
+    pub end: Option<Heights>,
+}
+
+/// The heights of the stacks.
+#[derive(Clone, Copy, Debug, PartialEq, Eq)]
+pub struct Heights {
+    /// Items on main.
+    pub main: u32,
+    /// Items on alt.
+    pub alt: u32,
+}
+
+/// The answer of the limit check.
+#[derive(Clone, Copy, Debug, PartialEq, Eq)]
+pub struct Limits {
+    /// 0 if the bytecode is within the limits, else 3, 17 or 18.
+    pub number: u32,
+    /// Where malformed bytecode stops being whole; 0 otherwise.
+    pub offset: usize,
+    /// The first figure of the number.
+    pub first: u64,
+    /// The second figure of the number.
+    pub second: u64,
+}
+
+/// The verdict on a paper.
+#[derive(Clone, Copy, Debug, PartialEq, Eq)]
+pub struct PaperVerdict {
+    /// 0 for accepted, else why the paper is refused.
+    pub number: u32,
+    /// The entry that the refusal is about, from 0; the count of entries stands for the initialiser.
+    pub entry: usize,
+    /// Where the refused instruction stands in its fragment; 0 for the numbers that are about no instruction.
+    pub offset: usize,
+    /// The first figure of the number.
+    pub first: u64,
+    /// The second figure of the number.
+    pub second: u64,
+    /// How many rows of the log are written, those of all fragments together.
+    pub rows: usize,
+    /// The greatest peak of the fragments; 0 if the paper is refused.
+    pub peak: u32,
+}
+
+/// The analysis of a fragment from so many unknown items on main and alt. For each instruction met three numbers are written
+/// to `log`: its offset and the heights of main and alt just before it, or [`DEAD`] twice. The rest of `log` stays as lent.
+///
+/// Tests nothing: a long fragment (1), heights over 244 (2) and a log that is too short (4) are the callee's to refuse.
+pub fn analyze(fragment: &[u8], main: u32, alt: u32, log: &mut [u16]) -> Verdict {
+    let mut out = [0; 9];
+    // SAFETY: each slice is passed whole, with its own length, and the borrows keep `log` and `out` apart from the rest.
+    let number = unsafe {
+        callee::listochur_analyze(
+            fragment.as_ptr(),
+            fragment.len(),
+            main,
+            alt,
+            log.as_mut_ptr(),
+            log.len(),
+            out.as_mut_ptr(),
+            out.len(),
+        )
+    };
+    // The places hold numbers of these widths, widened by the callee.
+    let [_, offset, first, second, rows, peak, ended, mains, alts] = out;
+    Verdict {
+        number,
+        offset: offset as usize,
+        first,
+        second,
+        rows: rows as usize,
+        peak: peak as u32,
+        end: (ended == 1).then_some(Heights { main: mains as u32, alt: alts as u32 }),
+    }
+}
+
+/// The limit check: malformed bytecode (3), over 201 opcodes above 60 (17), over 10,000 bytes (18), in this order.
+///
+/// Tests nothing: bytecode of any length and content is the callee's to judge.
+pub fn check_limits(bytecode: &[u8]) -> Limits {
+    let mut out = [0; 4];
+    // SAFETY: each slice is passed whole, with its own length, and the borrow keeps `out` apart from the rest.
+    let number = unsafe { callee::listochur_check_limits(bytecode.as_ptr(), bytecode.len(), out.as_mut_ptr(), out.len()) };
+    let [_, offset, first, second] = out;
+    Limits { number, offset: offset as usize, first, second }
+}
+
+/// The marking of a paper: its header, the dispatch check, each body, the initialiser. The rows of all fragments are written
+/// to `log`, one after another; the rest of it stays as lent.
+///
+/// Tests nothing: a long paper (21), a bad header (19) and a log that is too short for a fragment (4) are the callee's to
+/// refuse.
+pub fn mark_paper(paper: &[u8], log: &mut [u16]) -> PaperVerdict {
+    let mut out = [0; 7];
+    // SAFETY: each slice is passed whole, with its own length, and the borrows keep `log` and `out` apart from the rest.
+    let number = unsafe {
+        callee::listochur_mark_paper(paper.as_ptr(), paper.len(), log.as_mut_ptr(), log.len(), out.as_mut_ptr(), out.len())
+    };
+    let [_, entry, offset, first, second, rows, peak] = out;
+    PaperVerdict { number, entry: entry as usize, offset: offset as usize, first, second, rows: rows as usize, peak: peak as u32 }
+}
+
+/// The part of the body (mark 0) or of the initialiser (mark 1) that shows what stands at an offset: the whole instruction
+/// decoded from there, or the rest if it is malformed.
+///
+/// Tests nothing: for an offset at or past the end, or another mark, the callee answers an empty part.
+pub fn display<'a>(body: &'a [u8], init: &'a [u8], offset: usize, mark: u32) -> &'a [u8] {
+    let mut out = [0; 2];
+    // SAFETY: each slice is passed whole, with its own length, and the borrow keeps `out` apart from the rest.
+    let size = unsafe {
+        callee::listochur_display(body.as_ptr(), body.len(), init.as_ptr(), init.len(), offset, mark, out.as_mut_ptr(), out.len())
+    };
+    let start = out[0] as usize;
+    let fragment = if mark == 1 { init } else { body };
+    // SAFETY: proved of the callee: start + size is at most the length of the fragment that the mark names, and both are 0
+    // for a mark that names none.
+    unsafe { fragment.get_unchecked(start..start + size) }
+}

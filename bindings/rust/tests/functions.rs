@@ -1,0 +1,164 @@
+//! The four functions from Rust: what document 01 says of them, bad input included.
+use listochur::{DEAD, Heights, Limits, PaperVerdict, Verdict, analyze, check_limits, display, mark_paper};
+
+/// What stands in a log that no row has been written to.
+const LENT: u16 = 7777;
+
+fn refused(number: u32, offset: usize, first: u64, second: u64, rows: usize) -> Verdict {
+    Verdict { number, offset, first, second, rows, peak: 0, end: None }
+}
+
+fn accepted(rows: usize, peak: u32, main: u32, alt: u32) -> Verdict {
+    Verdict { number: 0, offset: 0, first: 0, second: 0, rows, peak, end: Some(Heights { main, alt }) }
+}
+
+fn dead(rows: usize, peak: u32) -> Verdict {
+    Verdict { number: 0, offset: 0, first: 0, second: 0, rows, peak, end: None }
+}
+
+fn nested(times: usize) -> Vec<u8> {
+    let mut fragment = vec![0x6a];
+    fragment.resize(1 + times, 0x63);
+    fragment
+}
+
+#[test]
+fn the_marked_papers_of_section_8() {
+    let marked: [(&[u8], u32, u32, Verdict); 16] = [
+        (&[], 0, 0, accepted(0, 0, 0, 0)),
+        (&[0x75], 0, 0, refused(7, 0, 1, 0, 1)),
+        (&[0x00, 0x79], 1, 0, accepted(2, 2, 2, 0)),
+        (&[0x51, 0x79], 1, 0, refused(7, 1, 2, 1, 2)),
+        (&[0x02, 0x00, 0x01, 0x79], 1, 0, refused(7, 3, 257, 1, 2)),
+        (&[0x76], 244, 0, refused(6, 0, 245, 244, 1)),
+        (&[0x6b], 244, 0, accepted(1, 244, 243, 1)),
+        (&[0x7d], 1, 243, refused(7, 0, 2, 1, 1)),
+        (&[0x63, 0x51, 0x68], 1, 0, refused(12, 2, 0, 0, 3)),
+        (&[0x63, 0x6a, 0x68, 0x75], 2, 0, accepted(4, 2, 0, 0)),
+        (&[0x6a, 0xff], 0, 0, dead(2, 0)),
+        (&[0x51, 0x63], 0, 0, refused(16, 1, 0, 0, 2)),
+        (&[0x51, 0x63, 0x51, 0x67, 0x52, 0x68, 0x79], 2, 0, refused(9, 6, 0, 0, 7)),
+        (&[0x51, 0x63, 0x51, 0x67, 0x51, 0x68, 0x79], 2, 0, accepted(7, 3, 3, 0)),
+        (&nested(25), 0, 0, refused(5, 25, 24, 24, 26)),
+        (&nested(24), 0, 0, refused(16, 24, 0, 0, 25)),
+    ];
+    for (fragment, main, alt, verdict) in marked {
+        let mut log = [LENT; 90];
+        assert_eq!(analyze(fragment, main, alt, &mut log), verdict, "{fragment:02x?}");
+        assert!(log[3 * verdict.rows..].iter().all(|&n| n == LENT), "{fragment:02x?}");
+    }
+}
+
+#[test]
+fn rows_of_the_log() {
+    let mut log = [LENT; 12];
+    assert_eq!(analyze(&[0x51, 0x6a, 0xff], 2, 1, &mut log), dead(3, 4));
+    assert_eq!(log, [0, 2, 1, 1, 3, 1, 2, DEAD, DEAD, LENT, LENT, LENT]);
+}
+
+#[test]
+fn an_analysis_refused_before_the_walk_leaves_the_log() {
+    let mut log = [LENT; 30];
+    assert_eq!(analyze(&[0x61; 10_001], 0, 0, &mut log), refused(1, 0, 10_001, 10_000, 0));
+    assert_eq!(analyze(&[], u32::MAX, u32::MAX, &mut log), refused(2, 0, 2 * u64::from(u32::MAX), 244, 0));
+    assert_eq!(analyze(&[0x51, 0x4d, 0xff], 0, 0, &mut log), refused(3, 1, 0, 0, 0));
+    assert_eq!(analyze(&[0x61; 11], 0, 0, &mut log), refused(4, 0, 33, 30, 0));
+    assert_eq!(analyze(&[0x61], 0, 0, &mut []), refused(4, 0, 3, 0, 0));
+    assert_eq!(log, [LENT; 30]);
+}
+
+#[test]
+fn limits() {
+    let within = Limits { number: 0, offset: 0, first: 0, second: 0 };
+    assert_eq!(check_limits(&[]), within);
+    assert_eq!(check_limits(&[0x61; 201]), within);
+    assert_eq!(check_limits(&[0x60; 10_000]), within);
+    assert_eq!(check_limits(&[0x61; 202]), Limits { number: 17, offset: 0, first: 202, second: 201 });
+    assert_eq!(check_limits(&[0x60; 10_001]), Limits { number: 18, offset: 0, first: 10_001, second: 10_000 });
+    assert_eq!(check_limits(&[0x61; 10_001]), Limits { number: 17, offset: 0, first: 10_001, second: 201 });
+    let mut cut = vec![0x61; 10_001];
+    cut.push(0x02);
+    assert_eq!(check_limits(&cut), Limits { number: 3, offset: 10_001, first: 0, second: 0 });
+}
+
+/// A paper of one entry.
+fn paper(fields: u16, parameters: u16, body: &[u8], init: &[u8]) -> Vec<u8> {
+    let at = 14 + body.len() as u16;
+    let numbers = [1, fields, at, init.len() as u16, parameters, 14, body.len() as u16];
+    [&numbers.map(u16::to_le_bytes).concat(), body, init].concat()
+}
+
+fn refused_paper(number: u32, entry: usize, first: u64, second: u64, rows: usize) -> PaperVerdict {
+    PaperVerdict { number, entry, offset: 0, first, second, rows, peak: 0 }
+}
+
+#[test]
+fn papers() {
+    let sample = [1, 0, 1, 0, 0x0e, 0, 0, 0, 1, 0, 0x0e, 0, 6, 0, 0x63, 0x51, 0x67, 0x52, 0x68, 0x75];
+    let mut log = [LENT; 21];
+    let verdict = PaperVerdict { number: 0, entry: 0, offset: 0, first: 0, second: 0, rows: 6, peak: 2 };
+    assert_eq!(mark_paper(&sample, &mut log), verdict);
+    assert_eq!(log[..9], [0, 2, 0, 1, 1, 0, 2, 2, 0]);
+    assert_eq!(log[18..], [LENT; 3]);
+
+    let mut log = [LENT; 21];
+    let verdict = PaperVerdict { number: 7, entry: 1, offset: 1, first: 2, second: 1, rows: 3, peak: 0 };
+    assert_eq!(mark_paper(&paper(1, 0, &[0x75], &[0x6c, 0x6d]), &mut log), verdict);
+    assert_eq!(log[..9], [0, 1, 0, 0, 0, 1, 1, 1, 0]);
+    assert_eq!(log[9..], [LENT; 12]);
+}
+
+#[test]
+fn refused_papers() {
+    let mut log = [LENT; 3];
+    assert_eq!(mark_paper(&[0; 8_001], &mut log), refused_paper(21, 0, 8_001, 8_000, 0));
+    assert_eq!(mark_paper(&[], &mut log), refused_paper(19, 0, 0, 0, 0));
+    assert_eq!(mark_paper(&paper(0, 0, &[0x61], &[])[..14], &mut log), refused_paper(19, 0, 0, 0, 0));
+    assert_eq!(mark_paper(&paper(65_535, 65_535, &[], &[]), &mut log), refused_paper(20, 0, 131_073, 244, 0));
+    assert_eq!(mark_paper(&paper(0, 0, &[0x61, 0x61], &[]), &mut log), refused_paper(4, 0, 6, 3, 0));
+    assert_eq!(mark_paper(&paper(0, 0, &[0x61], &[]), &mut []), refused_paper(4, 0, 3, 0, 0));
+    assert_eq!(log, [LENT; 3]);
+    assert_eq!(mark_paper(&paper(0, 0, &[0x75], &[]), &mut log), refused_paper(7, 0, 1, 0, 1));
+    assert_eq!(log, [0, 0, 0]);
+}
+
+#[test]
+fn displays() {
+    let body = [0x51, 0x03, 1, 2, 3, 0x76];
+    let init = [0x61, 0x4c, 0x05, 9];
+    let shown = [(0, 0..1), (1, 1..5), (2, 2..4), (3, 3..6), (4, 4..6), (5, 5..6), (6, 6..6), (usize::MAX, 6..6)];
+    for (offset, part) in shown {
+        let r = display(&body, &init, offset, 0);
+        assert_eq!(r, &body[part.clone()], "{offset}");
+        assert_eq!(r.as_ptr(), body[part].as_ptr(), "{offset}");
+    }
+    let shown = [(0, 0..1), (1, 1..4), (2, 2..4), (3, 3..4), (4, 4..4), (usize::MAX, 4..4)];
+    for (offset, part) in shown {
+        let r = display(&body, &init, offset, 1);
+        assert_eq!(r, &init[part.clone()], "{offset}");
+        assert_eq!(r.as_ptr(), init[part].as_ptr(), "{offset}");
+    }
+    for mark in [2, 3, u32::MAX] {
+        assert!(display(&body, &init, 1, mark).is_empty());
+    }
+    for mark in 0..3 {
+        assert!(display(&[], &[], 0, mark).is_empty());
+    }
+}
+
+#[test]
+fn half_a_megabyte_of_stack_is_enough() {
+    let mut fragment = [0x51, 0x63].repeat(24);
+    fragment.extend([0x51, 0x75, 0x51, 0x79, 0x75, 0x7b]);
+    fragment.extend([0x67, 0x7b, 0x68].repeat(24));
+    let paper = paper(0, 200, &fragment, &fragment);
+    let run = move || {
+        let mut log = vec![LENT; 24_000];
+        let verdict = analyze(&fragment, 200, 0, &mut log);
+        assert_eq!((verdict.number, verdict.peak), (0, 201));
+        assert_eq!(verdict.end, Some(Heights { main: 200, alt: 0 }));
+        assert_eq!(mark_paper(&paper, &mut log).number, 0);
+    };
+    // 512 KiB for the callee, 32 for the thread itself
+    std::thread::Builder::new().stack_size((512 + 32) * 1024).spawn(run).unwrap().join().unwrap();
+}

@@ -1,0 +1,69 @@
+/*
+ * Listochur: a proved stack marker for Kaspa script, for C callers on x86-64 Linux. Link libexport.a, which
+ * `rt staticlib export` writes to target/staticlib. The numbers are those of document 01, section 7.
+ *
+ * Each function takes every input: what is bad about it is refused with a number, so a caller has nothing to test first.
+ * A slice passes as a pointer and then the number of its elements. As everywhere in C, this much is the caller's:
+ *
+ * - A pointer points to that many elements, aligned for their type, to read or, where it is not const, to write.
+ * - With a length of 0 nothing is read or written through the pointer, and it may be NULL.
+ * - `log` and `out` overlap nothing else that is passed. Slices that are only read may overlap.
+ *
+ * The functions allocate nothing, keep no pointer, call nothing back and may run on several threads at once. They use up to
+ * 512 KiB of the caller's stack: conditionals nest at most 24 deep, and each level has its own.
+ */
+#ifndef LISTOCHUR_H
+#define LISTOCHUR_H
+
+#include <stddef.h>
+#include <stdint.h>
+
+#ifdef __cplusplus
+extern "C" {
+#endif
+
+/* How many places `out` needs. With fewer nothing is written to it; places beyond these stay as they were. */
+#define LISTOCHUR_VERDICT_PLACES 9
+#define LISTOCHUR_LIMITS_PLACES 4
+#define LISTOCHUR_PAPER_PLACES 7
+#define LISTOCHUR_PART_PLACES 2
+
+/* A height in the log where the row is dead. */
+#define LISTOCHUR_DEAD 65535
+
+/*
+ * The analysis of a fragment from so many unknown items on main and alt. Answers the verdict's number, 0 for accepted.
+ * `out`: number, offset, two figures, rows written, peak, 1 if there are end stacks or else 0, their heights on main and alt.
+ * `log`: three numbers for each instruction met, its offset and the heights of main and alt just before it.
+ */
+uint32_t listochur_analyze(const uint8_t *fragment, size_t fragment_len, uint32_t main_items, uint32_t alt_items, uint16_t *log,
+                           size_t log_len, uint64_t *out, size_t out_len);
+
+/*
+ * The limit check: malformed bytecode, over 201 opcodes above 60, over 10,000 bytes. Answers its number, 0 for within.
+ * `out`: number, offset, two figures.
+ */
+uint32_t listochur_check_limits(const uint8_t *bytecode, size_t bytecode_len, uint64_t *out, size_t out_len);
+
+/*
+ * The marking of a paper: its header, the dispatch check, each body, the initialiser. Answers the verdict's number, 0 for
+ * accepted.
+ * `out`: number, the entry that it is about (the count of entries for the initialiser), offset, two figures, rows written, peak.
+ * `log`: the rows of all fragments, one after another.
+ */
+uint32_t listochur_mark_paper(const uint8_t *paper, size_t paper_len, uint16_t *log, size_t log_len, uint64_t *out,
+                              size_t out_len);
+
+/*
+ * The part of the body (mark 0) or of the initialiser (mark 1) that shows what stands at an offset: the whole instruction, or
+ * the rest if it is malformed; an empty part at or past the end and for any other mark. Answers the part's length.
+ * `out`: where the part starts in its fragment, and its length. The part always lies within the fragment.
+ */
+size_t listochur_display(const uint8_t *body, size_t body_len, const uint8_t *init, size_t init_len, size_t offset, uint32_t mark,
+                         uint64_t *out, size_t out_len);
+
+#ifdef __cplusplus
+}
+#endif
+
+#endif
