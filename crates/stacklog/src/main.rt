@@ -283,7 +283,14 @@ fn write_reason_0(out: &mut [u8], at: usize, number: u32, first: u64, second: u6
 {
     match number {
         0 => lines::write_word(out, at, b"accepted"),
-        1 => write_both(out, at, b"long fragment: length ", first, b", limit ", second),
+        1 => write_both(
+            out,
+            at,
+            b"long fragment: length ",
+            first,
+            b", limit ",
+            second,
+        ),
         2 => write_both(out, at, b"start: sum ", first, b", limit ", second),
         3 => lines::write_word(out, at, b"malformed"),
         4 => write_both(out, at, b"short log: needed ", first, b", lent ", second),
@@ -297,7 +304,14 @@ fn write_reason_6(out: &mut [u8], at: usize, number: u32, first: u64, second: u6
     ensures short { λ r. ⌜ r ≤ at + 80 ⌝ }
 {
     match number {
-        6 => write_both(out, at, b"stacks full: total wanted ", first, b", limit ", second),
+        6 => write_both(
+            out,
+            at,
+            b"stacks full: total wanted ",
+            first,
+            b", limit ",
+            second,
+        ),
         7 => write_both(out, at, b"main dry: needed ", first, b", had ", second),
         8 => lines::write_word(out, at, b"alt dry"),
         9 => lines::write_word(out, at, b"index"),
@@ -356,4 +370,209 @@ fn write_reason(out: &mut [u8], at: usize, number: u32, first: u64, second: u64)
     at
 }
 
-fn main() {}
+// Number and word.
+fn write_refusal(out: &mut [u8], at: usize, number: u32, first: u64, second: u64) -> usize
+    requires { ⌜ at + 120 ≤ length (now out) ⌝ }
+    ensures same { λ r. ⌜ Written (now (out .entry)) at (refusal number first second) (now (out .exit)) r ⌝ }
+    ensures short { λ r. ⌜ r ≤ at + 120 ⌝ }
+{
+    let a = lines::write_labelled(out, at, b"refused ", number as u64);
+    let b = lines::write_word(out, a, b", ");
+    write_reason(out, b, number, first, second)
+}
+
+// The line of a refusal, behind what leads to it.
+fn write_refusal_line(out: &mut [u8], lead: &[u8], number: u32, first: u64, second: u64) -> usize
+    requires { ⌜ (256 ≤ length (now out)) × (length (now lead) ≤ 100) ⌝ }
+    ensures same { λ r.
+        ⌜
+        Written
+        (now (out .entry))
+        0
+        (refusalLine (now (lead .entry)) number first second)
+        (now (out .exit))
+        r
+        ⌝ }
+    ensures short { λ r. ⌜ r ≤ 256 ⌝ }
+{
+    let a = lines::write_word(out, 0, lead);
+    let b = write_refusal(out, a, number, first, second);
+    lines::write_word(out, b, b"\n")
+}
+
+// The line of a malformed fragment.
+fn write_malformed(out: &mut [u8], offset: usize, bytes: &[u8]) -> usize
+    requires { ⌜ 256 ≤ length (now out) ⌝ }
+    ensures same { λ r.
+        ⌜ Written (now (out .entry)) 0 (malformedLine offset (now (bytes .entry))) (now (out .exit)) r ⌝ }
+    ensures short { λ r. ⌜ r ≤ 256 ⌝ }
+{
+    let a = write_refusal(out, 0, 3, 0, 0);
+    let b = lines::write_labelled(out, a, b" at ", offset as u64);
+    let c = lines::write_word(out, b, b":");
+    let d = write_instruction(out, c, bytes);
+    lines::write_word(out, d, b"\n")
+}
+
+// The line of the dispatch check.
+fn write_dispatch(out: &mut [u8], k: usize, sum: u32) -> usize
+    requires { ⌜ 256 ≤ length (now out) ⌝ }
+    ensures same { λ r. ⌜ Written (now (out .entry)) 0 (dispatchLine k sum) (now (out .exit)) r ⌝ }
+    ensures short { λ r. ⌜ r ≤ 256 ⌝ }
+{
+    let a = lines::write_labelled(out, 0, b"entry ", k as u64);
+    let b = lines::write_word(out, a, b": ");
+    let c = write_refusal(out, b, 20, sum as u64, 244);
+    lines::write_word(out, c, b"\n")
+}
+
+// Row j of the log is printed.
+fn print_row(fragment: &[u8], log: &[u16], j: usize)
+    requires { ⌜ 3 * j + 3 ≤ length (now log) ⌝ }
+{
+    let mut line = [0u8; 256];
+    let n = write_row(&mut line, fragment, log, j);
+    io::write_all(1, &line[..n]);
+}
+
+// The rows of a fragment, from one up to another.
+fn print_rows(fragment: &[u8], log: &[u16], from: usize, to: usize)
+    requires { ⌜ 3 * to ≤ length (now log) ⌝ }
+{
+    let mut j = from;
+    while j < to {
+        print_row(fragment, log, j);
+        j += 1;
+    }
+}
+
+// The line before the rows of fragment k.
+fn print_start(paper: &[u8], k: usize) {
+    let mut line = [0u8; 256];
+    let entries = paper::field(paper, 0) as usize;
+    let size = paper::fragment_bytes(paper, k).len();
+    let main = paper::fragment_main(paper, k);
+    let alt = paper::fragment_alt(paper, k);
+    let n = write_start(&mut line, entries, k, size, main, alt);
+    io::write_all(1, &line[..n]);
+}
+
+// What stands over the columns, where there are rows.
+fn print_heading(rows: usize) {
+    if rows > 0 {
+        io::write_all(
+            1,
+            b"   offset  main   alt  total against 244                                              total  bytes\n",
+        );
+    }
+}
+
+// The line after the rows of an accepted fragment.
+fn print_accepted(peak: u32, ended: bool, main: u32, alt: u32) {
+    let mut line = [0u8; 256];
+    let n = write_accepted(&mut line, peak, ended, main, alt);
+    io::write_all(1, &line[..n]);
+}
+
+// The line of a refusal; the arrow stands under the last digit of the offset of the instruction refused.
+fn print_refusal(lead: &[u8], number: u32, first: u64, second: u64)
+    requires { ⌜ length (now lead) ≤ 100 ⌝ }
+{
+    let mut line = [0u8; 256];
+    let n = write_refusal_line(&mut line, lead, number, first, second);
+    io::write_all(1, &line[..n]);
+}
+
+fn print_malformed(fragment: &[u8], offset: usize) {
+    let mut line = [0u8; 256];
+    let bytes = display::display(fragment, fragment, offset, 0);
+    let n = write_malformed(&mut line, offset, bytes);
+    io::write_all(1, &line[..n]);
+}
+
+fn print_dispatch(k: usize, sum: u32) {
+    let mut line = [0u8; 256];
+    let n = write_dispatch(&mut line, k, sum);
+    io::write_all(1, &line[..n]);
+}
+
+// The last line of a refused paper, as `stackmark` prints it, and an empty line before it.
+fn print_last(number: u32, entry: usize, offset: usize, first: u64, second: u64) {
+    let mut line = [0u8; 256];
+    let n = lines::write_refused(&mut line, 0, number, entry, offset, first, second);
+    io::write_all(1, b"\n");
+    io::write_all(1, &line[..n]);
+}
+
+// The verdict of a fragment in words: 1 to 4 come before any row.
+fn print_verdict(fragment: &[u8], v: Verdict) {
+    if v.number == 0 {
+        print_accepted(v.peak, v.ended, v.end.mains, v.end.alts);
+        return;
+    }
+    if v.number == 3 {
+        print_malformed(fragment, v.offset);
+        return;
+    }
+    if v.rows == 0 {
+        print_refusal(b"", v.number, v.first, v.second);
+        return;
+    }
+    print_refusal(b"        ^ ", v.number, v.first, v.second);
+}
+
+// The fragments of a paper, each marked in its order with its rows in the log, and the last line.
+fn print_fragments(paper: &[u8], log: &mut [u16]) {
+    let count = paper::fragment_count(paper);
+    let mut k: usize = 0;
+    let mut rows: usize = 0;
+    while k < count {
+        let v = paper::mark_fragment(paper, k, rows, log);
+        let fragment = paper::fragment_bytes(paper, k);
+        let next = rows + v.rows;
+        print_start(paper, k);
+        print_heading(v.rows);
+        print_rows(fragment, log, rows, next);
+        print_verdict(fragment, v);
+        if v.number != 0 {
+            print_last(v.number, k, v.offset, v.first, v.second);
+            return;
+        }
+        io::write_all(1, b"\n");
+        rows = next;
+        k += 1;
+    }
+    io::write_all(1, b"accepted\n");
+}
+
+// A paper: 21, 19, the dispatch check of each entry, the bodies in order, then the initialiser.
+fn print_paper(paper: &[u8], log: &mut [u16]) {
+    if paper.len() > 8000 {
+        print_refusal(b"", 21, paper.len() as u64, 8000);
+        print_last(21, 0, 0, paper.len() as u64, 8000);
+        return;
+    }
+    if !paper::header_ok(paper) {
+        print_refusal(b"", 19, 0, 0);
+        print_last(19, 0, 0, 0, 0);
+        return;
+    }
+    let d = paper::dispatch_check(paper);
+    match d {
+        Dispatch::Over { entry, sum } => {
+            print_dispatch(entry, sum);
+            print_last(20, entry, 0, sum as u64, 244);
+        }
+        Dispatch::Fits => {
+            print_fragments(paper, log);
+        }
+    }
+}
+
+// Reads until 8,001 bytes are held, the input ends or a read fails, however few bytes a read gives.
+fn main() {
+    let mut input = [0u8; 8001];
+    let mut log = [0u16; 24000];
+    let n = io::read_full(0, &mut input);
+    print_paper(&input[..n], &mut log);
+}
