@@ -1,9 +1,9 @@
 -- Laws of the fragment of a number: its bytes and the heights that it starts from.
 use mathlib.Core.List.{[]}
-use mathlib.Core.Path.{_≡_, refl, sym, ap, _∙_}
+use mathlib.Core.Path.{_≡_, sym, ap, _∙_}
 use Prim.Native.Nat.{ℕ, _+_, _*_, _≤_, _<_}
 use native.Mathlib.Omega.{arith}
-use lib.ListN.{length, getD, List·getD-eq-default}
+use lib.ListN.{length, List·getD-eq-default}
 use Rattle.definition.specs.Basics.{Bytes}
 use Rattle.definition.specs.Papers.{Fragment, field, partAt, bytesOf, entries, mostParameters, fragments}
 use Rattle.paper.specs.View.{fragmentAt}
@@ -16,7 +16,8 @@ module _ (p : Bytes) (k n : ℕ) (e : n ≡ field p 0) where
     body-bytes h = h ∙ sym (ap (λ (f : Fragment). f .bytes) (fragment-body p k (omega (arith, e, body))))
 
     pub body-main : {a f : ℕ} → a ≡ field p (8 + 6 * k) → f ≡ field p 2 → a + f ≡ fragmentAt p k .main
-    body-main {a} {f} h l = ap (λ m. m + f) h ∙ ap (λ m. field p (8 + 6 * k) + m) l ∙ sym (ap (λ (g : Fragment). g .main) (fragment-body p k (omega (arith, e, body))))
+    body-main {a} {f} h l = ap (λ m. m + f) h ∙ ap (λ m. field p (8 + 6 * k) + m) l
+        ∙ sym (ap (λ (g : Fragment). g .main) (fragment-body p k (omega (arith, e, body))))
 
     pub body-alt : 0 ≡ fragmentAt p k .alt
     body-alt = sym (ap (λ (f : Fragment). f .alt) (fragment-body p k (omega (arith, e, body))))
@@ -25,10 +26,12 @@ module _ (p : Bytes) (k n : ℕ) (e : n ≡ field p 0) where
     -- the initialiser
     module _ (state : k < m) where
       pub state-bytes : {b : Bytes} → b ≡ bytesOf p (partAt p 4) → b ≡ fragmentAt p k .bytes
-      state-bytes h = h ∙ sym (ap (λ (f : Fragment). f .bytes) (fragment-state p k (omega (arith, e, past)) (omega (arith, c, state))))
+      state-bytes h = h ∙ sym (ap (λ (f : Fragment). f .bytes)
+          (fragment-state p k (omega (arith, e, past)) (omega (arith, c, state))))
 
       pub state-main : {a : ℕ} → a ≡ mostParameters (entries p) → a ≡ fragmentAt p k .main
-      state-main h = h ∙ sym (ap (λ (f : Fragment). f .main) (fragment-state p k (omega (arith, e, past)) (omega (arith, c, state))))
+      state-main h = h ∙ sym (ap (λ (f : Fragment). f .main) (fragment-state p k (omega (arith, e, past))
+          (omega (arith, c, state))))
 
       pub state-alt : 1 ≡ fragmentAt p k .alt
       state-alt = sym (ap (λ (f : Fragment). f .alt) (fragment-state p k (omega (arith, e, past)) (omega (arith, c, state))))

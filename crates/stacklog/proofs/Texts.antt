@@ -3,21 +3,36 @@
 use mathlib.Core.Bool.{Bool, true, false}
 use mathlib.Core.List.{List, [], _∷_, _++_, append-nil}
 use mathlib.Core.Path.{_≡_, refl, sym, ap, subst, _∙_}
-use Prim.Native.Nat.{ℕ, zero, suc, _+_, _-_, _*_, _/_, _%_, _≤_, _<_, min}
+use Prim.Native.Nat.{ℕ, suc, _+_, _-_, _*_, _/_, _%_, _≤_, _<_}
 use native.Mathlib.Omega.{arith}
 use borrow.Author.Tests.{lt-ltb, le-ltb, eq-eqb, ne-eqb}
-use lib.Dec.{ltb, eqb}
-use lib.ListN.{List·getD-eq-default, length, take, drop, set, getD, replicate, length-append, length-replicate, replicate-append-replicate}
-use lib.Seq.{paste-zero, take-suc, length-take-le, take-all}
-use Rattle.definition.specs.Basics.{Bytes, pick}
+use lib.ListN.{List·getD-eq-default, length, take, set, getD, replicate, length-append, replicate-append-replicate}
+use lib.Seq.{paste-zero, take-suc, take-all}
+use Rattle.definition.specs.Basics.{Bytes}
 use Rattle.definition.specs.Lines.{text, decimal, labelled}
-use Rattle.lines.specs.View.{placed, Written}
+use Rattle.lines.specs.View.{Written}
 use Rattle.lines.proofs.Texts.{then-written, byte-written, decimal-one, decimal-more}
 use Rattle.definition.specs.Papers.{display}
-use Rattle.stacklog.specs.Log.{column, filled, bar, rowLine, row, hexDigit, hex, instruction, deadHeights, liveHeights, heights, ending, reasons, reason}
+use Rattle.stacklog.specs.Log.{
+  column,
+  filled,
+  bar,
+  rowLine,
+  row,
+  hexDigit,
+  hex,
+  instruction,
+  deadHeights,
+  liveHeights,
+  heights,
+  ending,
+  reasons,
+  reason,
+}
 
 -- a text by another name
-pub written-as : {lent : Bytes} {at : ℕ} {t u : Bytes} {new : Bytes} {next : ℕ} → t ≡ u → Written lent at t new next → Written lent at u new next
+pub written-as : {lent : Bytes} {at : ℕ} {t u : Bytes} {new : Bytes} {next : ℕ} → t ≡ u → Written lent at t new next
+    → Written lent at u new next
 written-as {lent} {at} {t} {u} {new} {next} e w = subst (λ (x : Bytes). Written lent at x new next) e w
 
 -- a byte so many times
@@ -29,11 +44,14 @@ module _ (lent : Bytes) (at b : ℕ) where
   pub same-more : (out : Bytes) (j : ℕ) → at ≤ length lent → at + j < length out → Written lent at (replicate j b) out (at + j)
       → Written lent at (replicate (j + 1) b) (set out (at + j) b) (at + (j + 1))
   same-more out j within h w =
-      let v : Written lent at (replicate j b ++ (b ∷ [])) (set out (at + j) b) (at + j + 1) = then-written within w (byte-written out (at + j) b h) in
+      let v : Written lent at (replicate j b ++ (b ∷ [])) (set out (at + j) b) (at + j + 1) = then-written within w
+      (byte-written out (at + j) b h) in
       let n : at + j + 1 ≡ at + (j + 1) = omega arith in
-      subst (λ m. Written lent at (replicate (j + 1) b) (set out (at + j) b) m) n (written-as (replicate-append-replicate j 1 b) v)
+      subst (λ m. Written lent at (replicate (j + 1) b) (set out (at + j) b) m) n
+      (written-as (replicate-append-replicate j 1 b) v)
 
-  pub same-written : (out : Bytes) (j count : ℕ) → j ≤ count → count ≤ j → Written lent at (replicate j b) out (at + j) → Written lent at (replicate count b) out (at + j)
+  pub same-written : (out : Bytes) (j count : ℕ) → j ≤ count → count ≤ j → Written lent at (replicate j b) out (at + j)
+      → Written lent at (replicate count b) out (at + j)
   same-written out j count h l w =
       let e : j ≡ count = omega arith in
       written-as (ap (λ n. replicate n b) e) w
@@ -75,27 +93,33 @@ module _ (lent : Bytes) (at : ℕ) (bytes : Bytes) where
       record { ends = n; holds = paste-zero lent at bytes }
 
   pub hex-more : {out : Bytes} {next : ℕ} {new : Bytes} {after : ℕ} (j : ℕ) → at ≤ length lent → j < length bytes
-      → Written lent at (hex (take j bytes)) out next → Written out next (hex (getD bytes j 0 ∷ [])) new after → Written lent at (hex (take (j + 1) bytes)) new after
+      → Written lent at (hex (take j bytes)) out next → Written out next (hex (getD bytes j 0 ∷ [])) new after
+      → Written lent at (hex (take (j + 1) bytes)) new after
   hex-more {out} {next} {new} {after} j within h w v =
       let n : suc j ≡ j + 1 = omega arith in
       let e : hex (take j bytes) ++ hex (getD bytes j 0 ∷ []) ≡ hex (take (j + 1) bytes) =
-      sym (hex-append (take j bytes) (getD bytes j 0 ∷ [])) ∙ ap hex (sym (take-suc bytes j 0 h)) ∙ ap (λ m. hex (take m bytes)) n in
+      sym (hex-append (take j bytes) (getD bytes j 0 ∷ [])) ∙ ap hex (sym (take-suc bytes j 0 h))
+      ∙ ap (λ m. hex (take m bytes)) n in
       written-as e (then-written within w v)
 
-  pub hex-written : (out : Bytes) (next j count : ℕ) → j ≤ count → count ≤ j → Written lent at (hex (take j bytes)) out next → Written lent at (hex (take count bytes)) out next
+  pub hex-written : (out : Bytes) (next j count : ℕ) → j ≤ count → count ≤ j → Written lent at (hex (take j bytes)) out next
+      → Written lent at (hex (take count bytes)) out next
   hex-written out next j count h l w =
       let e : j ≡ count = omega arith in
       written-as (ap (λ n. hex (take n bytes)) e) w
 
   pub instruction-long : {out : Bytes} {next : ℕ} {new : Bytes} {after : ℕ} → at ≤ length lent → 8 < length bytes
-      → Written lent at (hex (take 8 bytes)) out next → Written out next (text " ..") new after → Written lent at (instruction bytes) new after
+      → Written lent at (hex (take 8 bytes)) out next → Written out next (text " ..") new after
+      → Written lent at (instruction bytes) new after
   unfolding instruction
   instruction-long within h w v = rw (lt-ltb 8 (length bytes) h) (then-written within w v)
 
-  pub instruction-whole : {new : Bytes} {after : ℕ} → length bytes ≤ 8 → Written lent at (hex (take (length bytes) bytes)) new after → Written lent at (instruction bytes) new after
+  pub instruction-whole : {new : Bytes} {after : ℕ} → length bytes ≤ 8
+      → Written lent at (hex (take (length bytes) bytes)) new after → Written lent at (instruction bytes) new after
   unfolding instruction
   instruction-whole {new} {after} h w =
-      let e : hex (take (length bytes) bytes) ≡ hex (take 8 bytes) ++ [] = ap hex (take-all (length bytes) bytes (omega arith) ∙ sym (take-all 8 bytes h)) ∙ sym (append-nil (hex (take 8 bytes))) in
+      let e : hex (take (length bytes) bytes) ≡ hex (take 8 bytes) ++ [] = ap hex
+      (take-all (length bytes) bytes (omega arith) ∙ sym (take-all 8 bytes h)) ∙ sym (append-nil (hex (take 8 bytes))) in
       rw (le-ltb 8 (length bytes) h) (written-as e w)
 
 -- heights; the end
@@ -104,32 +128,39 @@ module _ {lent : Bytes} {at : ℕ} {new : Bytes} {next : ℕ} (main alt : ℕ) w
   pub heights-dead : main ≡ 65535 → Written lent at deadHeights new next → Written lent at (heights main alt) new next
   heights-dead h w = rw (eq-eqb main 65535 h) w
 
-  pub heights-live : (main ≡ 65535 → ⊥) → Written lent at (liveHeights main alt) new next → Written lent at (heights main alt) new next
+  pub heights-live : (main ≡ 65535 → ⊥) → Written lent at (liveHeights main alt) new next
+      → Written lent at (heights main alt) new next
   heights-live h w = rw (ne-eqb main 65535 h) w
 
   pub ending-some : {mid : Bytes} {between : ℕ} (ended : Bool) → ended ≡ true → at ≤ length lent
-      → Written lent at (labelled ", end main " main) mid between → Written mid between (labelled " alt " alt) new next → Written lent at (ending ended main alt) new next
+      → Written lent at (labelled ", end main " main) mid between → Written mid between (labelled " alt " alt) new next
+      → Written lent at (ending ended main alt) new next
   ending-some ended e within w v = rw e (then-written within w v)
 
-  pub ending-none : (ended : Bool) → ended ≡ false → Written lent at (text ", end none") new next → Written lent at (ending ended main alt) new next
+  pub ending-none : (ended : Bool) → ended ≡ false → Written lent at (text ", end none") new next
+      → Written lent at (ending ended main alt) new next
   ending-none ended e w = rw e w
 
 -- a column; a bar; a row of the log
 
 module _ {lent : Bytes} {at : ℕ} {mid : Bytes} {between : ℕ} {new : Bytes} {next : ℕ} where
   pub column-written : {size gap : ℕ} (width n : ℕ) → size ≡ length (decimal n) → gap ≡ width - size → at ≤ length lent
-      → Written lent at (replicate gap 32) mid between → Written mid between (decimal n) new next → Written lent at (column width n) new next
+      → Written lent at (replicate gap 32) mid between → Written mid between (decimal n) new next
+      → Written lent at (column width n) new next
   unfolding column
   column-written {size} {gap} width n e g within w v =
       written-as (ap (λ m. replicate m 32 ++ decimal n) (g ∙ ap (λ m. width - m) e)) (then-written within w v)
 
   pub bar-written : {full : ℕ} (n : ℕ) → full ≡ filled n → at ≤ length lent
-      → Written lent at (replicate full 35) mid between → Written mid between (replicate (61 - full) 46) new next → Written lent at (bar n) new next
+      → Written lent at (replicate full 35) mid between → Written mid between (replicate (61 - full) 46) new next
+      → Written lent at (bar n) new next
   unfolding bar
   bar-written {full} n e within w v = written-as (ap (λ m. replicate m 35 ++ replicate (61 - m) 46) e) (then-written within w v)
 
-pub row-written : {lent : Bytes} {new : Bytes} {next : ℕ} {offset main alt : ℕ} {bytes : Bytes} (fragment : Bytes) (log : List ℕ) (j : ℕ)
-    → offset ≡ getD log (3 * j) 0 → main ≡ getD log (3 * j + 1) 0 → alt ≡ getD log (3 * j + 2) 0 → bytes ≡ display fragment fragment offset 0
+pub row-written : {lent : Bytes} {new : Bytes} {next : ℕ} {offset main alt : ℕ} {bytes : Bytes} (fragment : Bytes)
+    (log : List ℕ) (j : ℕ)
+    → offset ≡ getD log (3 * j) 0 → main ≡ getD log (3 * j + 1) 0 → alt ≡ getD log (3 * j + 2) 0
+    → bytes ≡ display fragment fragment offset 0
     → Written lent 0 (rowLine offset main alt bytes) new next → Written lent 0 (row fragment log j) new next
 unfolding row
 row-written {lent} {new} {next} {offset} {main} {alt} {bytes} fragment log j e f g h w =

@@ -4,11 +4,13 @@
 // index after it.
 ghost use mathlib.Core.List.{[], _∷_, _++_};
 ghost use mathlib.Core.Path.{_≡_};
-ghost use Prim.Native.Nat.{_+_, _-_, _*_, _≤_, _<_, min};
-ghost use lib.ListN.{length, take, getD, replicate};
-ghost use Rattle.definition.specs.Lines.{text, decimal};
+ghost use Prim.Native.Nat.{_+_, _-_, _*_, _≤_, _<_};
+ghost use lib.ListN.{length, take, replicate};
+ghost use Rattle.definition.specs.Lines.{decimal};
 ghost use Rattle.lines.specs.View.{Written};
-ghost use Rattle.stacklog.specs.Log.{column, filled, bar, hexDigit, hex, instruction, deadHeights, liveHeights, heights, rowLine, row, startLine, ending, acceptedLine, reason, refusal, refusalLine, malformedLine, dispatchLine};
+ghost use Rattle.stacklog.specs.Log.{column, filled, bar, hexDigit, hex, instruction, deadHeights, liveHeights, heights};
+ghost use Rattle.stacklog.specs.Log.{rowLine, row, startLine, ending, acceptedLine};
+ghost use Rattle.stacklog.specs.Log.{reason, refusal, refusalLine, malformedLine, dispatchLine};
 use paper::Dispatch;
 use stack_analysis::Verdict;
 

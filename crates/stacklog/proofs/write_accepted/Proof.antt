@@ -28,11 +28,14 @@ same-length c = search needs
 returns : tie.Need-returns
 unfolding acceptedLine
 returns c =
-    let c = c .before .before in
-    let b = c .before .before .before .before .before in
+    let d = c .before .before in
+    let b = d .before .before .before .before .before in
     let a = b .before .before .before .before in
-    let s = a .before .before .before .before in
-    (then-written (omega arith) (then-written (omega arith) (a .write-labelled .ensures .0) (b .write-ending .ensures .0)) (c .write-word .ensures), omega (arith, a .write-labelled .ensures .1, b .write-ending .ensures .1, c .write-word .ensures .ends, s .pre))
+    let s = a .before .before .before .before in (
+      then-written (omega arith) (then-written (omega arith) (a .write-labelled .ensures .0) (b .write-ending .ensures .0))
+          (d .write-word .ensures),
+      omega (arith, a .write-labelled .ensures .1, b .write-ending .ensures .1, d .write-word .ensures .ends, s .pre),
+    )
 
 pub write-accepted-spec : {M : Type 1} → statement M
 write-accepted-spec =

@@ -24,8 +24,11 @@ returns c =
     let n = c .before .before in
     let w = n .before .before .before .before in
     let p = w .before .before in
-    let s = p .before .before in
-    (bar-written (s .args .n) (p .places .ensures) (omega (arith, s .pre)) (w .write-same .ensures .0) (n .write-same2 .ensures .0), omega (arith, n .write-same2 .ensures .1, w .write-same .ensures .1, p .places .ensures))
+    let s = p .before .before in (
+      bar-written (s .args .n) (p .places .ensures) (omega (arith, s .pre)) (w .write-same .ensures .0)
+          (n .write-same2 .ensures .0),
+      omega (arith, n .write-same2 .ensures .1, w .write-same .ensures .1, p .places .ensures),
+    )
 
 pub write-bar-spec : {M : Type 1} → statement M
 write-bar-spec =

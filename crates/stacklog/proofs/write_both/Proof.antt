@@ -20,8 +20,10 @@ returns c =
     let b = c .before .before in
     let a = b .before .before .before .before in
     let s = a .before .before .before .before .before in
-    let room : s .args .at ≤ length (s .args .out .now) = omega (arith, s .pre) in
-    (then-written room (a .write-labelled .ensures .0) (b .write-labelled2 .ensures .0), omega (arith, a .write-labelled .ensures .1, b .write-labelled2 .ensures .1, s .pre))
+    let room : s .args .at ≤ length (s .args .out .now) = omega (arith, s .pre) in (
+      then-written room (a .write-labelled .ensures .0) (b .write-labelled2 .ensures .0),
+      omega (arith, a .write-labelled .ensures .1, b .write-labelled2 .ensures .1, s .pre),
+    )
 
 pub write-both-spec : {M : Type 1} → statement M
 write-both-spec =

@@ -25,8 +25,19 @@ returns c =
     let w = n .before .before .before .before in
     let l = w .before .before in
     let d = l .before in
-    let s = d .before .before in
-    (column-written (s .args .width) (s .args .n) (d .digits .ensures .0) (l .left-of .ensures) (omega (arith, s .pre)) (w .write-same .ensures .0) (n .write-number .ensures), omega (arith, n .write-number .ensures .ends, w .write-same .ensures .1, l .left-of .ensures, d .digits .ensures .0, d .digits .ensures .1, s .pre))
+    let s = d .before .before in (
+      column-written (s .args .width) (s .args .n) (d .digits .ensures .0) (l .left-of .ensures) (omega (arith, s .pre))
+          (w .write-same .ensures .0) (n .write-number .ensures),
+      omega (
+        arith,
+        n .write-number .ensures .ends,
+        w .write-same .ensures .1,
+        l .left-of .ensures,
+        d .digits .ensures .0,
+        d .digits .ensures .1,
+        s .pre,
+      ),
+    )
 
 pub write-column-spec : {M : Type 1} → statement M
 write-column-spec =

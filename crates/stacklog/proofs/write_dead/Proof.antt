@@ -26,12 +26,14 @@ same-length c = search needs
 
 returns : tie.Need-returns
 returns c =
-    let c = c .before .before in
-    let b = c .before .before .before .before .before in
+    let d = c .before .before in
+    let b = d .before .before .before .before .before in
     let a = b .before .before .before .before in
     let s = a .before .before .before .before in
-    let room : s .args .at ≤ length (s .args .out .now) = omega (arith, s .pre) in
-    (then-written room (then-written room (a .write-word .ensures) (b .write-same .ensures .0)) (c .write-word2 .ensures), omega (arith, a .write-word .ensures .ends, b .write-same .ensures .1, c .write-word2 .ensures .ends, s .pre))
+    let room : s .args .at ≤ length (s .args .out .now) = omega (arith, s .pre) in (
+      then-written room (then-written room (a .write-word .ensures) (b .write-same .ensures .0)) (d .write-word2 .ensures),
+      omega (arith, a .write-word .ensures .ends, b .write-same .ensures .1, d .write-word2 .ensures .ends, s .pre),
+    )
 
 pub write-dead-spec : {M : Type 1} → statement M
 write-dead-spec =

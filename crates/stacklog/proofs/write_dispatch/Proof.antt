@@ -34,12 +34,22 @@ same-length c = search needs
 returns : tie.Need-returns
 unfolding dispatchLine
 returns c =
-    let d = c .before .before in
-    let c = d .before .before .before .before .before in
-    let b = c .before .before .before .before in
+    let e = c .before .before in
+    let d = e .before .before .before .before .before in
+    let b = d .before .before .before .before in
     let a = b .before .before .before .before .before in
-    let s = a .before .before .before .before in
-    (then-written (omega arith) (then-written (omega arith) (then-written (omega arith) (a .write-labelled .ensures .0) (b .write-word .ensures)) (c .write-refusal .ensures .0)) (d .write-word2 .ensures), omega (arith, a .write-labelled .ensures .1, b .write-word .ensures .ends, c .write-refusal .ensures .1, d .write-word2 .ensures .ends, s .pre))
+    let s = a .before .before .before .before in (
+      then-written (omega arith) (then-written (omega arith) (then-written (omega arith) (a .write-labelled .ensures .0)
+          (b .write-word .ensures)) (d .write-refusal .ensures .0)) (e .write-word2 .ensures),
+      omega (
+        arith,
+        a .write-labelled .ensures .1,
+        b .write-word .ensures .ends,
+        d .write-refusal .ensures .1,
+        e .write-word2 .ensures .ends,
+        s .pre,
+      ),
+    )
 
 pub write-dispatch-spec : {M : Type 1} → statement M
 write-dispatch-spec =

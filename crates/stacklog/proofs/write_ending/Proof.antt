@@ -24,8 +24,10 @@ returns c =
     let b = c .before .before in
     let a = b .before .before .before .before .before in
     let i = a .before .before .before in
-    let s = i .before .before in
-    (ending-some _ _ _ (i .if1 .taken) (omega (arith, s .pre)) (a .write-labelled .ensures .0) (b .write-labelled2 .ensures .0), omega (arith, a .write-labelled .ensures .1, b .write-labelled2 .ensures .1))
+    let s = i .before .before in (
+      ending-some _ _ _ (i .if1 .taken) (omega (arith, s .pre)) (a .write-labelled .ensures .0) (b .write-labelled2 .ensures .0),
+      omega (arith, a .write-labelled .ensures .1, b .write-labelled2 .ensures .1),
+    )
 
 slice-aggregate-write-word : tie.Need-slice-aggregate-write-word
 slice-aggregate-write-word c = search needs
@@ -39,8 +41,10 @@ same-length-2 c = search needs
 returns-2 : tie.Need-returns-2
 returns-2 c =
     let a = c .before .before in
-    let i = a .before .before .before in
-    (ending-none _ _ _ (i .if1 .left) (a .write-word .ensures), omega (arith, a .write-word .ensures .ends))
+    let i = a .before .before .before in (
+      ending-none _ _ _ (i .if1 .left) (a .write-word .ensures),
+      omega (arith, a .write-word .ensures .ends),
+    )
 
 pub write-ending-spec : {M : Type 1} → statement M
 write-ending-spec =

@@ -13,8 +13,10 @@ same-length c = search needs
 returns : tie.Need-returns
 returns c =
     let w = c .before .before in
-    let i = w .before .before in
-    (heights-dead _ _ (i .if1 .taken) (w .write-dead .ensures .0), w .write-dead .ensures .1)
+    let i = w .before .before in (
+      heights-dead _ _ (i .if1 .taken) (w .write-dead .ensures .0),
+      w .write-dead .ensures .1,
+    )
 
 write-live-requires : tie.Need-write-live-requires
 write-live-requires c κs = search needs
@@ -25,8 +27,10 @@ same-length-2 c = search needs
 returns-2 : tie.Need-returns-2
 returns-2 c =
     let w = c .before .before in
-    let i = w .before .before in
-    (heights-live _ _ (i .if1 .left) (w .write-live .ensures .0), w .write-live .ensures .1)
+    let i = w .before .before in (
+      heights-live _ _ (i .if1 .left) (w .write-live .ensures .0),
+      w .write-live .ensures .1,
+    )
 
 pub write-heights-spec : {M : Type 1} → statement M
 write-heights-spec =

@@ -37,8 +37,14 @@ loop-again : tie.Need-loop-again Inv-loop μ-loop
 loop-again c =
     let w = c .before .before in
     let l = w .before .before .before .before in
-    let a = l .before .before .before .args in
-    ((hex-more (a .out .now) (a .at) (a .bytes .now) (l .loop .j) (omega arith) (omega arith) (l .loop .inv .0 .0) (w .write-hex-byte .ensures .0), omega arith), (omega (arith, w .write-hex-byte .ensures .1), omega arith))
+    let a = l .before .before .before .args in (
+      (
+        hex-more (a .out .now) (a .at) (a .bytes .now) (l .loop .j) (omega arith) (omega arith) (l .loop .inv .0 .0)
+            (w .write-hex-byte .ensures .0),
+        omega arith,
+      ),
+      (omega (arith, w .write-hex-byte .ensures .1), omega arith),
+    )
 
 same-length : tie.Need-same-length Inv-loop μ-loop
 same-length c = search needs
@@ -46,8 +52,11 @@ same-length c = search needs
 returns : tie.Need-returns Inv-loop μ-loop
 returns c =
     let l = c .before in
-    let a = l .before .before .before .args in
-    (hex-written (a .out .now) (a .at) (a .bytes .now) (l .loop .out) (l .loop .next) (l .loop .j) (a .count) (omega arith) (omega arith) (l .loop .inv .0 .0), omega arith)
+    let a = l .before .before .before .args in (
+      hex-written (a .out .now) (a .at) (a .bytes .now) (l .loop .out) (l .loop .next) (l .loop .j) (a .count) (omega arith)
+          (omega arith) (l .loop .inv .0 .0),
+      omega arith,
+    )
 
 pub write-hex-spec : {M : Type 1} → statement M
 write-hex-spec =

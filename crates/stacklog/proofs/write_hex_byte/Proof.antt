@@ -33,8 +33,11 @@ returns c =
     let d = e .before in
     let b = d .before .before .before .before in
     let s = b .before .before .before in
-    let room : s .args .at ≤ length (s .args .out .now) = omega (arith, s .pre) in
-    (hex-byte (s .args .byte) (d .hex-digit .ensures) (f .hex-digit2 .ensures) (then-written room (then-written room (b .write-byte .ensures) (e .write-byte2 .ensures)) (g .write-byte3 .ensures)), omega (arith, b .write-byte .ensures .ends, e .write-byte2 .ensures .ends, g .write-byte3 .ensures .ends))
+    let room : s .args .at ≤ length (s .args .out .now) = omega (arith, s .pre) in (
+      hex-byte (s .args .byte) (d .hex-digit .ensures) (f .hex-digit2 .ensures)
+          (then-written room (then-written room (b .write-byte .ensures) (e .write-byte2 .ensures)) (g .write-byte3 .ensures)),
+      omega (arith, b .write-byte .ensures .ends, e .write-byte2 .ensures .ends, g .write-byte3 .ensures .ends),
+    )
 
 pub write-hex-byte-spec : {M : Type 1} → statement M
 write-hex-byte-spec =

@@ -21,8 +21,11 @@ returns c =
     let w = c .before .before in
     let h = w .before .before .before .before .before in
     let i = h .before .before in
-    let s = i .before .before .before in
-    (instruction-long (s .args .out .now) (s .args .at) (s .args .bytes .now) (omega (arith, s .pre)) (omega (arith, i .if1 .taken)) (h .write-hex .ensures .0) (w .write-word .ensures), omega (arith, h .write-hex .ensures .1, w .write-word .ensures .ends))
+    let s = i .before .before .before in (
+      instruction-long (s .args .out .now) (s .args .at) (s .args .bytes .now) (omega (arith, s .pre))
+          (omega (arith, i .if1 .taken)) (h .write-hex .ensures .0) (w .write-word .ensures),
+      omega (arith, h .write-hex .ensures .1, w .write-word .ensures .ends),
+    )
 
 write-hex-requires-2 : tie.Need-write-hex-requires-2
 write-hex-requires-2 c κs = search needs
@@ -34,8 +37,11 @@ returns-2 : tie.Need-returns-2
 returns-2 c =
     let h = c .before .before in
     let i = h .before .before in
-    let s = i .before .before .before in
-    (instruction-whole (s .args .out .now) (s .args .at) (s .args .bytes .now) (omega (arith, i .if1 .left)) (h .write-hex2 .ensures .0), omega (arith, h .write-hex2 .ensures .1, i .if1 .left))
+    let s = i .before .before .before in (
+      instruction-whole (s .args .out .now) (s .args .at) (s .args .bytes .now) (omega (arith, i .if1 .left))
+          (h .write-hex2 .ensures .0),
+      omega (arith, h .write-hex2 .ensures .1, i .if1 .left),
+    )
 
 pub write-instruction-spec : {M : Type 1} → statement M
 write-instruction-spec =

@@ -43,15 +43,28 @@ same-length c = search needs
 returns : tie.Need-returns
 unfolding liveHeights
 returns c =
-    let f = c .before .before in
-    let e = f .before .before .before .before in
-    let d = e .before .before .before .before .before in
-    let c = d .before .before .before .before in
-    let b = c .before .before .before .before .before in
+    let g = c .before .before in
+    let f = g .before .before .before .before in
+    let e = f .before .before .before .before .before in
+    let d = e .before .before .before .before in
+    let b = d .before .before .before .before .before in
     let a = b .before .before .before .before in
     let s = a .before .before .before in
-    let room : s .args .at ≤ length (s .args .out .now) = omega (arith, s .pre) in
-    (then-written room (then-written room (then-written room (then-written room (then-written room (a .write-column .ensures .0) (b .write-column2 .ensures .0)) (c .write-word .ensures)) (d .write-bar .ensures .0)) (e .write-word2 .ensures)) (f .write-column3 .ensures .0), omega (arith, a .write-column .ensures .1, b .write-column2 .ensures .1, c .write-word .ensures .ends, d .write-bar .ensures .1, e .write-word2 .ensures .ends, f .write-column3 .ensures .1, s .pre))
+    let room : s .args .at ≤ length (s .args .out .now) = omega (arith, s .pre) in (
+      then-written room (then-written room (then-written room
+          (then-written room (then-written room (a .write-column .ensures .0) (b .write-column2 .ensures .0))
+          (d .write-word .ensures)) (e .write-bar .ensures .0)) (f .write-word2 .ensures)) (g .write-column3 .ensures .0),
+      omega (
+        arith,
+        a .write-column .ensures .1,
+        b .write-column2 .ensures .1,
+        d .write-word .ensures .ends,
+        e .write-bar .ensures .1,
+        f .write-word2 .ensures .ends,
+        g .write-column3 .ensures .1,
+        s .pre,
+      ),
+    )
 
 pub write-live-spec : {M : Type 1} → statement M
 write-live-spec =

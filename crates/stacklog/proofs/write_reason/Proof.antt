@@ -50,8 +50,11 @@ returns-4 c =
 
 returns-5 : tie.Need-returns-5
 returns-5 c =
-    let s = c .before .before .before .before .before in
-    (reason-past (s .args .first) (s .args .second) (s .args .out .now) (s .args .at) (s .args .number) (omega (arith, c .if4 .left)), omega arith)
+    let s = c .before .before .before .before .before in (
+      reason-past (s .args .first) (s .args .second) (s .args .out .now) (s .args .at) (s .args .number)
+          (omega (arith, c .if4 .left)),
+      omega arith,
+    )
 
 pub write-reason-spec : {M : Type 1} → statement M
 write-reason-spec =

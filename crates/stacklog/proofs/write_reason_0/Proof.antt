@@ -61,8 +61,10 @@ unfolding reason
 returns c =
     let w = c .before .before in
     let m = w .before .before .before in
-    let s = m .before .before in
-    (reason-at (s .args .first) (s .args .second) (s .args .number) 0 (m .match .keys1) (w .write-word .ensures), omega (arith, w .write-word .ensures .ends))
+    let s = m .before .before in (
+      reason-at (s .args .first) (s .args .second) (s .args .number) 0 (m .match .keys1) (w .write-word .ensures),
+      omega (arith, w .write-word .ensures .ends),
+    )
 
 same-length-2 : tie.Need-same-length-2
 same-length-2 c = search needs
@@ -72,8 +74,10 @@ unfolding reason
 returns-2 c =
     let w = c .before .before in
     let m = w .before .before .before .before in
-    let s = m .before .before in
-    (reason-at (s .args .first) (s .args .second) (s .args .number) 1 (m .match .keys2) (w .write-both .ensures .0), omega (arith, w .write-both .ensures .1))
+    let s = m .before .before in (
+      reason-at (s .args .first) (s .args .second) (s .args .number) 1 (m .match .keys2) (w .write-both .ensures .0),
+      omega (arith, w .write-both .ensures .1),
+    )
 
 same-length-3 : tie.Need-same-length-3
 same-length-3 c = search needs
@@ -83,8 +87,10 @@ unfolding reason
 returns-3 c =
     let w = c .before .before in
     let m = w .before .before .before .before in
-    let s = m .before .before in
-    (reason-at (s .args .first) (s .args .second) (s .args .number) 2 (m .match .keys3) (w .write-both2 .ensures .0), omega (arith, w .write-both2 .ensures .1))
+    let s = m .before .before in (
+      reason-at (s .args .first) (s .args .second) (s .args .number) 2 (m .match .keys3) (w .write-both2 .ensures .0),
+      omega (arith, w .write-both2 .ensures .1),
+    )
 
 same-length-4 : tie.Need-same-length-4
 same-length-4 c = search needs
@@ -94,8 +100,10 @@ unfolding reason
 returns-4 c =
     let w = c .before .before in
     let m = w .before .before .before in
-    let s = m .before .before in
-    (reason-at (s .args .first) (s .args .second) (s .args .number) 3 (m .match .keys4) (w .write-word2 .ensures), omega (arith, w .write-word2 .ensures .ends))
+    let s = m .before .before in (
+      reason-at (s .args .first) (s .args .second) (s .args .number) 3 (m .match .keys4) (w .write-word2 .ensures),
+      omega (arith, w .write-word2 .ensures .ends),
+    )
 
 same-length-5 : tie.Need-same-length-5
 same-length-5 c = search needs
@@ -105,8 +113,10 @@ unfolding reason
 returns-5 c =
     let w = c .before .before in
     let m = w .before .before .before .before in
-    let s = m .before .before in
-    (reason-at (s .args .first) (s .args .second) (s .args .number) 4 (m .match .keys5) (w .write-both3 .ensures .0), omega (arith, w .write-both3 .ensures .1))
+    let s = m .before .before in (
+      reason-at (s .args .first) (s .args .second) (s .args .number) 4 (m .match .keys5) (w .write-both3 .ensures .0),
+      omega (arith, w .write-both3 .ensures .1),
+    )
 
 same-length-6 : tie.Need-same-length-6
 same-length-6 c = search needs
@@ -116,8 +126,19 @@ unfolding reason
 returns-6 c =
     let w = c .before .before in
     let m = w .before .before .before .before in
-    let s = m .before .before in
-    (reason-at (s .args .first) (s .args .second) (s .args .number) 5 (omega (arith, s .pre, m .match .rest .1, m .match .rest .0 .1, m .match .rest .0 .0 .1, m .match .rest .0 .0 .0 .1, m .match .rest .0 .0 .0 .0 .1)) (w .write-both4 .ensures .0), omega (arith, w .write-both4 .ensures .1))
+    let s = m .before .before in (
+      reason-at (s .args .first) (s .args .second) (s .args .number) 5
+          (omega (
+            arith,
+            s .pre,
+            m .match .rest .1,
+            m .match .rest .0 .1,
+            m .match .rest .0 .0 .1,
+            m .match .rest .0 .0 .0 .1,
+            m .match .rest .0 .0 .0 .0 .1,
+          )) (w .write-both4 .ensures .0),
+      omega (arith, w .write-both4 .ensures .1),
+    )
 
 pub write-reason-0-spec : {M : Type 1} → statement M
 write-reason-0-spec =

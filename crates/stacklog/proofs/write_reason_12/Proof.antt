@@ -52,8 +52,10 @@ unfolding reason
 returns c =
     let w = c .before .before in
     let m = w .before .before .before in
-    let s = m .before .before in
-    (reason-at (s .args .first) (s .args .second) (s .args .number) 12 (m .match .keys1) (w .write-word .ensures), omega (arith, w .write-word .ensures .ends))
+    let s = m .before .before in (
+      reason-at (s .args .first) (s .args .second) (s .args .number) 12 (m .match .keys1) (w .write-word .ensures),
+      omega (arith, w .write-word .ensures .ends),
+    )
 
 same-length-2 : tie.Need-same-length-2
 same-length-2 c = search needs
@@ -63,8 +65,10 @@ unfolding reason
 returns-2 c =
     let w = c .before .before in
     let m = w .before .before .before in
-    let s = m .before .before in
-    (reason-at (s .args .first) (s .args .second) (s .args .number) 13 (m .match .keys2) (w .write-word2 .ensures), omega (arith, w .write-word2 .ensures .ends))
+    let s = m .before .before in (
+      reason-at (s .args .first) (s .args .second) (s .args .number) 13 (m .match .keys2) (w .write-word2 .ensures),
+      omega (arith, w .write-word2 .ensures .ends),
+    )
 
 same-length-3 : tie.Need-same-length-3
 same-length-3 c = search needs
@@ -74,8 +78,10 @@ unfolding reason
 returns-3 c =
     let w = c .before .before in
     let m = w .before .before .before in
-    let s = m .before .before in
-    (reason-at (s .args .first) (s .args .second) (s .args .number) 14 (m .match .keys3) (w .write-word3 .ensures), omega (arith, w .write-word3 .ensures .ends))
+    let s = m .before .before in (
+      reason-at (s .args .first) (s .args .second) (s .args .number) 14 (m .match .keys3) (w .write-word3 .ensures),
+      omega (arith, w .write-word3 .ensures .ends),
+    )
 
 same-length-4 : tie.Need-same-length-4
 same-length-4 c = search needs
@@ -85,8 +91,10 @@ unfolding reason
 returns-4 c =
     let w = c .before .before in
     let m = w .before .before .before in
-    let s = m .before .before in
-    (reason-at (s .args .first) (s .args .second) (s .args .number) 15 (m .match .keys4) (w .write-word4 .ensures), omega (arith, w .write-word4 .ensures .ends))
+    let s = m .before .before in (
+      reason-at (s .args .first) (s .args .second) (s .args .number) 15 (m .match .keys4) (w .write-word4 .ensures),
+      omega (arith, w .write-word4 .ensures .ends),
+    )
 
 same-length-5 : tie.Need-same-length-5
 same-length-5 c = search needs
@@ -96,8 +104,10 @@ unfolding reason
 returns-5 c =
     let w = c .before .before in
     let m = w .before .before .before in
-    let s = m .before .before in
-    (reason-at (s .args .first) (s .args .second) (s .args .number) 16 (m .match .keys5) (w .write-word5 .ensures), omega (arith, w .write-word5 .ensures .ends))
+    let s = m .before .before in (
+      reason-at (s .args .first) (s .args .second) (s .args .number) 16 (m .match .keys5) (w .write-word5 .ensures),
+      omega (arith, w .write-word5 .ensures .ends),
+    )
 
 same-length-6 : tie.Need-same-length-6
 same-length-6 c = search needs
@@ -107,8 +117,19 @@ unfolding reason
 returns-6 c =
     let w = c .before .before in
     let m = w .before .before .before .before in
-    let s = m .before .before in
-    (reason-at (s .args .first) (s .args .second) (s .args .number) 17 (omega (arith, s .pre, m .match .rest .1, m .match .rest .0 .1, m .match .rest .0 .0 .1, m .match .rest .0 .0 .0 .1, m .match .rest .0 .0 .0 .0 .1)) (w .write-both .ensures .0), omega (arith, w .write-both .ensures .1))
+    let s = m .before .before in (
+      reason-at (s .args .first) (s .args .second) (s .args .number) 17
+          (omega (
+            arith,
+            s .pre,
+            m .match .rest .1,
+            m .match .rest .0 .1,
+            m .match .rest .0 .0 .1,
+            m .match .rest .0 .0 .0 .1,
+            m .match .rest .0 .0 .0 .0 .1,
+          )) (w .write-both .ensures .0),
+      omega (arith, w .write-both .ensures .1),
+    )
 
 pub write-reason-12-spec : {M : Type 1} → statement M
 write-reason-12-spec =

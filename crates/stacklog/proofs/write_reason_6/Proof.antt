@@ -55,8 +55,10 @@ unfolding reason
 returns c =
     let w = c .before .before in
     let m = w .before .before .before .before in
-    let s = m .before .before in
-    (reason-at (s .args .first) (s .args .second) (s .args .number) 6 (m .match .keys1) (w .write-both .ensures .0), omega (arith, w .write-both .ensures .1))
+    let s = m .before .before in (
+      reason-at (s .args .first) (s .args .second) (s .args .number) 6 (m .match .keys1) (w .write-both .ensures .0),
+      omega (arith, w .write-both .ensures .1),
+    )
 
 same-length-2 : tie.Need-same-length-2
 same-length-2 c = search needs
@@ -66,8 +68,10 @@ unfolding reason
 returns-2 c =
     let w = c .before .before in
     let m = w .before .before .before .before in
-    let s = m .before .before in
-    (reason-at (s .args .first) (s .args .second) (s .args .number) 7 (m .match .keys2) (w .write-both2 .ensures .0), omega (arith, w .write-both2 .ensures .1))
+    let s = m .before .before in (
+      reason-at (s .args .first) (s .args .second) (s .args .number) 7 (m .match .keys2) (w .write-both2 .ensures .0),
+      omega (arith, w .write-both2 .ensures .1),
+    )
 
 same-length-3 : tie.Need-same-length-3
 same-length-3 c = search needs
@@ -77,8 +81,10 @@ unfolding reason
 returns-3 c =
     let w = c .before .before in
     let m = w .before .before .before in
-    let s = m .before .before in
-    (reason-at (s .args .first) (s .args .second) (s .args .number) 8 (m .match .keys3) (w .write-word .ensures), omega (arith, w .write-word .ensures .ends))
+    let s = m .before .before in (
+      reason-at (s .args .first) (s .args .second) (s .args .number) 8 (m .match .keys3) (w .write-word .ensures),
+      omega (arith, w .write-word .ensures .ends),
+    )
 
 same-length-4 : tie.Need-same-length-4
 same-length-4 c = search needs
@@ -88,8 +94,10 @@ unfolding reason
 returns-4 c =
     let w = c .before .before in
     let m = w .before .before .before in
-    let s = m .before .before in
-    (reason-at (s .args .first) (s .args .second) (s .args .number) 9 (m .match .keys4) (w .write-word2 .ensures), omega (arith, w .write-word2 .ensures .ends))
+    let s = m .before .before in (
+      reason-at (s .args .first) (s .args .second) (s .args .number) 9 (m .match .keys4) (w .write-word2 .ensures),
+      omega (arith, w .write-word2 .ensures .ends),
+    )
 
 same-length-5 : tie.Need-same-length-5
 same-length-5 c = search needs
@@ -99,8 +107,10 @@ unfolding reason
 returns-5 c =
     let w = c .before .before in
     let m = w .before .before .before in
-    let s = m .before .before in
-    (reason-at (s .args .first) (s .args .second) (s .args .number) 10 (m .match .keys5) (w .write-word3 .ensures), omega (arith, w .write-word3 .ensures .ends))
+    let s = m .before .before in (
+      reason-at (s .args .first) (s .args .second) (s .args .number) 10 (m .match .keys5) (w .write-word3 .ensures),
+      omega (arith, w .write-word3 .ensures .ends),
+    )
 
 same-length-6 : tie.Need-same-length-6
 same-length-6 c = search needs
@@ -110,8 +120,19 @@ unfolding reason
 returns-6 c =
     let w = c .before .before in
     let m = w .before .before .before in
-    let s = m .before .before in
-    (reason-at (s .args .first) (s .args .second) (s .args .number) 11 (omega (arith, s .pre, m .match .rest .1, m .match .rest .0 .1, m .match .rest .0 .0 .1, m .match .rest .0 .0 .0 .1, m .match .rest .0 .0 .0 .0 .1)) (w .write-labelled .ensures .0), omega (arith, w .write-labelled .ensures .1))
+    let s = m .before .before in (
+      reason-at (s .args .first) (s .args .second) (s .args .number) 11
+          (omega (
+            arith,
+            s .pre,
+            m .match .rest .1,
+            m .match .rest .0 .1,
+            m .match .rest .0 .0 .1,
+            m .match .rest .0 .0 .0 .1,
+            m .match .rest .0 .0 .0 .0 .1,
+          )) (w .write-labelled .ensures .0),
+      omega (arith, w .write-labelled .ensures .1),
+    )
 
 pub write-reason-6-spec : {M : Type 1} → statement M
 write-reason-6-spec =

@@ -28,12 +28,15 @@ same-length c = search needs
 returns : tie.Need-returns
 unfolding refusal
 returns c =
-    let c = c .before .before in
-    let b = c .before .before .before .before in
+    let d = c .before .before in
+    let b = d .before .before .before .before in
     let a = b .before .before .before .before .before in
     let s = a .before .before .before .before in
-    let room : s .args .at ≤ length (s .args .out .now) = omega (arith, s .pre) in
-    (then-written room (then-written room (a .write-labelled .ensures .0) (b .write-word .ensures)) (c .write-reason .ensures .0), omega (arith, a .write-labelled .ensures .1, b .write-word .ensures .ends, c .write-reason .ensures .1, s .pre))
+    let room : s .args .at ≤ length (s .args .out .now) = omega (arith, s .pre) in (
+      then-written room (then-written room (a .write-labelled .ensures .0) (b .write-word .ensures))
+          (d .write-reason .ensures .0),
+      omega (arith, a .write-labelled .ensures .1, b .write-word .ensures .ends, d .write-reason .ensures .1, s .pre),
+    )
 
 pub write-refusal-spec : {M : Type 1} → statement M
 write-refusal-spec =

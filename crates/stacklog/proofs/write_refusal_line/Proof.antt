@@ -25,11 +25,14 @@ same-length c = search needs
 returns : tie.Need-returns
 unfolding refusalLine
 returns c =
-    let c = c .before .before in
-    let b = c .before .before .before .before .before in
+    let d = c .before .before in
+    let b = d .before .before .before .before .before in
     let a = b .before .before .before .before in
-    let s = a .before .before .before .before in
-    (then-written (omega arith) (then-written (omega arith) (a .write-word .ensures) (b .write-refusal .ensures .0)) (c .write-word2 .ensures), omega (arith, a .write-word .ensures .ends, b .write-refusal .ensures .1, c .write-word2 .ensures .ends, s .pre))
+    let s = a .before .before .before .before in (
+      then-written (omega arith) (then-written (omega arith) (a .write-word .ensures) (b .write-refusal .ensures .0))
+          (d .write-word2 .ensures),
+      omega (arith, a .write-word .ensures .ends, b .write-refusal .ensures .1, d .write-word2 .ensures .ends, s .pre),
+    )
 
 pub write-refusal-line-spec : {M : Type 1} → statement M
 write-refusal-line-spec =

@@ -64,8 +64,11 @@ returns c =
     let d = w .before .before in
     let a = d .before in
     let m = a .before .before in
-    let o = m .before .before in
-    (row-written _ _ _ (o .wide .ensures .0) (m .wide2 .ensures .0) (a .wide3 .ensures .0) (d .display .ensures) (w .write-row-line .ensures .0), w .write-row-line .ensures .1)
+    let o = m .before .before in (
+      row-written _ _ _ (o .wide .ensures .0) (m .wide2 .ensures .0) (a .wide3 .ensures .0) (d .display .ensures)
+          (w .write-row-line .ensures .0),
+      w .write-row-line .ensures .1,
+    )
 
 pub write-row-spec : {M : Type 1} → statement M
 write-row-spec =

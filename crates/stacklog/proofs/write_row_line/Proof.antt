@@ -34,13 +34,25 @@ same-length c = search needs
 returns : tie.Need-returns
 unfolding rowLine
 returns c =
-    let e = c .before .before in
-    let d = e .before .before .before .before .before in
-    let c = d .before .before .before .before in
-    let b = c .before .before .before .before .before in
+    let f = c .before .before in
+    let e = f .before .before .before .before .before in
+    let d = e .before .before .before .before in
+    let b = d .before .before .before .before .before in
     let a = b .before .before .before .before in
-    let s = a .before .before .before .before in
-    (then-written (omega arith) (then-written (omega arith) (then-written (omega arith) (then-written (omega arith) (a .write-column .ensures .0) (b .write-heights .ensures .0)) (c .write-word .ensures)) (d .write-instruction .ensures .0)) (e .write-word2 .ensures), omega (arith, a .write-column .ensures .1, b .write-heights .ensures .1, c .write-word .ensures .ends, d .write-instruction .ensures .1, e .write-word2 .ensures .ends, s .pre))
+    let s = a .before .before .before .before in (
+      then-written (omega arith) (then-written (omega arith) (then-written (omega arith)
+          (then-written (omega arith) (a .write-column .ensures .0) (b .write-heights .ensures .0)) (d .write-word .ensures))
+          (e .write-instruction .ensures .0)) (f .write-word2 .ensures),
+      omega (
+        arith,
+        a .write-column .ensures .1,
+        b .write-heights .ensures .1,
+        d .write-word .ensures .ends,
+        e .write-instruction .ensures .1,
+        f .write-word2 .ensures .ends,
+        s .pre,
+      ),
+    )
 
 pub write-row-line-spec : {M : Type 1} → statement M
 write-row-line-spec =

@@ -35,8 +35,13 @@ loop-less c = search needs
 loop-again : tie.Need-loop-again Inv-loop μ-loop
 loop-again c =
     let l = c .before in
-    let a = l .before .args in
-    ((same-more (a .out .now) (a .at) (a .byte) (l .loop .out) (l .loop .j) (omega arith) (omega arith) (l .loop .inv .0 .0), simp length-set (omega arith)), omega arith)
+    let a = l .before .args in (
+      (
+        same-more (a .out .now) (a .at) (a .byte) (l .loop .out) (l .loop .j) (omega arith) (omega arith) (l .loop .inv .0 .0),
+        simp length-set (omega arith),
+      ),
+      omega arith,
+    )
 
 add-result : tie.Need-add-result Inv-loop μ-loop
 add-result c = search needs
@@ -47,8 +52,11 @@ same-length c = search needs
 returns : tie.Need-returns Inv-loop μ-loop
 returns c =
     let l = c .before in
-    let a = l .before .args in
-    (same-written (a .out .now) (a .at) (a .byte) (l .loop .out) (l .loop .j) (a .count) (omega arith) (omega arith) (l .loop .inv .0 .0), omega arith)
+    let a = l .before .args in (
+      same-written (a .out .now) (a .at) (a .byte) (l .loop .out) (l .loop .j) (a .count) (omega arith) (omega arith)
+          (l .loop .inv .0 .0),
+      omega arith,
+    )
 
 pub write-same-spec : {M : Type 1} → statement M
 write-same-spec =

@@ -40,13 +40,25 @@ same-length c = search needs
 returns : tie.Need-returns
 unfolding startLine
 returns c =
-    let e = c .before .before in
+    let f = c .before .before in
+    let e = f .before .before .before .before .before in
     let d = e .before .before .before .before .before in
-    let c = d .before .before .before .before .before in
-    let b = c .before .before .before .before .before in
+    let b = d .before .before .before .before .before in
     let a = b .before .before .before .before .before in
-    let s = a .before .before .before in
-    (then-written (omega arith) (then-written (omega arith) (then-written (omega arith) (then-written (omega arith) (a .write-name .ensures .0) (b .write-labelled .ensures .0)) (c .write-labelled2 .ensures .0)) (d .write-labelled3 .ensures .0)) (e .write-word .ensures), omega (arith, a .write-name .ensures .1, b .write-labelled .ensures .1, c .write-labelled2 .ensures .1, d .write-labelled3 .ensures .1, e .write-word .ensures .ends, s .pre))
+    let s = a .before .before .before in (
+      then-written (omega arith) (then-written (omega arith) (then-written (omega arith)
+          (then-written (omega arith) (a .write-name .ensures .0) (b .write-labelled .ensures .0))
+          (d .write-labelled2 .ensures .0)) (e .write-labelled3 .ensures .0)) (f .write-word .ensures),
+      omega (
+        arith,
+        a .write-name .ensures .1,
+        b .write-labelled .ensures .1,
+        d .write-labelled2 .ensures .1,
+        e .write-labelled3 .ensures .1,
+        f .write-word .ensures .ends,
+        s .pre,
+      ),
+    )
 
 pub write-start-spec : {M : Type 1} → statement M
 write-start-spec =
