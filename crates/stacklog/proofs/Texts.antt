@@ -12,7 +12,10 @@ use Rattle.definition.specs.Basics.{Bytes}
 use Rattle.definition.specs.Lines.{text, decimal, labelled}
 use Rattle.lines.specs.View.{Written}
 use Rattle.lines.proofs.Texts.{then-written, byte-written, decimal-one, decimal-more}
-use Rattle.definition.specs.Papers.{display}
+use Rattle.definition.specs.Papers.{entryCount, display}
+use Rattle.paper.specs.View.{fragmentAt}
+use Rattle.stack_analysis.specs.declared.Verdict.{Verdict}
+use Rattle.stacklog.specs.Log.{startLine, start, acceptedLine, refusalLine, malformedLine, verdictLine}
 use Rattle.stacklog.specs.Log.{
   column,
   filled,
@@ -184,3 +187,46 @@ module _ (first second : ℕ) where
       let n : at ≡ at + 0 = omega arith in
       let w : Written lent at [] lent at = record { ends = n; holds = paste-zero lent at [] } in
       written-as (sym (List·getD-eq-default (reasons first second) [] h)) w
+
+-- the lines around the rows of a fragment
+
+pub start-written : {lent : Bytes} {new : Bytes} {next : ℕ} {entries main alt : ℕ} {bytes : Bytes} (paper : Bytes) (k : ℕ)
+    → entries ≡ entryCount paper → bytes ≡ fragmentAt paper k .bytes → main ≡ fragmentAt paper k .main
+    → alt ≡ fragmentAt paper k .alt → Written lent 0 (startLine entries k (length bytes) main alt) new next
+    → Written lent 0 (start paper k) new next
+unfolding start
+start-written {lent} {new} {next} {entries} {main} {alt} {bytes} paper k e f g h w =
+    let b : Bytes = fragmentAt paper k .bytes in
+    written-as
+    (ap (λ n. startLine n k (length bytes) main alt) e
+    ∙ ap (λ (l : Bytes). startLine (entryCount paper) k (length l) main alt) f
+    ∙ ap (λ n. startLine (entryCount paper) k (length b) n alt) g
+    ∙ ap (λ n. startLine (entryCount paper) k (length b) (fragmentAt paper k .main) n) h)
+    w
+
+module _ {lent : Bytes} {new : Bytes} {next : ℕ} (fragment : Bytes) (v : Verdict) where
+  pub verdict-accepted : v .number ≡ 0 → Written lent 0 (acceptedLine (v .peak) (v .ended) (v .end .mains)
+      (v .end .alts)) new next
+      → Written lent 0 (verdictLine fragment v) new next
+  unfolding verdictLine
+  verdict-accepted e w = rw (eq-eqb (v .number) 0 e) w
+
+  module _ (accepted : v .number ≡ 0 → ⊥) where
+    pub verdict-malformed : {bytes : Bytes} → v .number ≡ 3 → bytes ≡ display fragment fragment (v .offset) 0
+        → Written lent 0 (malformedLine (v .offset) bytes) new next → Written lent 0 (verdictLine fragment v) new next
+    unfolding verdictLine
+    verdict-malformed {bytes} e d w =
+        rw (ne-eqb (v .number) 0 accepted, eq-eqb (v .number) 3 e)
+        (written-as (ap (λ (b : Bytes). malformedLine (v .offset) b) d) w)
+
+    module _ (malformed : v .number ≡ 3 → ⊥) where
+      pub verdict-before : v .rows ≡ 0 → Written lent 0 (refusalLine [] (v .number) (v .first) (v .second)) new next
+          → Written lent 0 (verdictLine fragment v) new next
+      unfolding verdictLine
+      verdict-before e w = rw (ne-eqb (v .number) 0 accepted, ne-eqb (v .number) 3 malformed, eq-eqb (v .rows) 0 e) w
+
+      pub verdict-walk : (v .rows ≡ 0 → ⊥) → Written lent 0 (refusalLine (text "        ^ ") (v .number) (v .first)
+          (v .second)) new next
+          → Written lent 0 (verdictLine fragment v) new next
+      unfolding verdictLine
+      verdict-walk e w = rw (ne-eqb (v .number) 0 accepted, ne-eqb (v .number) 3 malformed, ne-eqb (v .rows) 0 e) w

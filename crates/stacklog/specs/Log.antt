@@ -7,7 +7,9 @@ use lib.Dec.{ltb, eqb}
 use lib.ListN.{length, take, getD, replicate}
 use Rattle.definition.specs.Basics.{Bytes, pick}
 use Rattle.definition.specs.Lines.{text, decimal, labelled, name}
-use Rattle.definition.specs.Papers.{display}
+use Rattle.definition.specs.Papers.{entryCount, display}
+use Rattle.paper.specs.View.{fragmentAt}
+use Rattle.stack_analysis.specs.declared.Verdict.{Verdict}
 
 -- An instruction and the heights before it
 
@@ -70,6 +72,11 @@ unfoldable pub startLine : ℕ → ℕ → ℕ → ℕ → ℕ → Bytes
 startLine entries k size main alt =
     name entries k ++ labelled ": length " size ++ labelled ", from main " main ++ labelled " alt " alt ++ text "\n"
 
+-- that of fragment k of a paper
+unfoldable pub start : Bytes → ℕ → Bytes
+start paper k =
+    startLine (entryCount paper) k (length (fragmentAt paper k .bytes)) (fragmentAt paper k .main) (fragmentAt paper k .alt)
+
 -- how it ends: whether it has an end, and its heights
 abbrev pub ending : Bool → ℕ → ℕ → Bytes
 ending ended main alt = pick ended (labelled ", end main " main ++ labelled " alt " alt) (text ", end none")
@@ -131,3 +138,12 @@ malformedLine offset bytes = refusal 3 0 0 ++ labelled " at " offset ++ text ":"
 -- that of the dispatch check: which entry
 unfoldable pub dispatchLine : ℕ → ℕ → Bytes
 dispatchLine k sum = labelled "entry " k ++ text ": " ++ refusal 20 sum 244 ++ text "\n"
+
+-- the line after the rows of a fragment: accepted, malformed, refused before the walk, or refused at the last row; the arrow
+-- stands under the last digit of its offset
+unfoldable pub verdictLine : Bytes → Verdict → Bytes
+verdictLine fragment v =
+    pick (eqb (v .number) 0) (acceptedLine (v .peak) (v .ended) (v .end .mains) (v .end .alts))
+    (pick (eqb (v .number) 3) (malformedLine (v .offset) (display fragment fragment (v .offset) 0))
+    (pick (eqb (v .rows) 0) (refusalLine [] (v .number) (v .first) (v .second))
+    (refusalLine (text "        ^ ") (v .number) (v .first) (v .second))))

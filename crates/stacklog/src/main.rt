@@ -9,8 +9,8 @@ ghost use lib.ListN.{length, take, replicate};
 ghost use Rattle.definition.specs.Lines.{decimal};
 ghost use Rattle.lines.specs.View.{Written};
 ghost use Rattle.stacklog.specs.Log.{column, filled, bar, hexDigit, hex, instruction, deadHeights, liveHeights, heights};
-ghost use Rattle.stacklog.specs.Log.{rowLine, row, startLine, ending, acceptedLine};
-ghost use Rattle.stacklog.specs.Log.{reason, refusal, refusalLine, malformedLine, dispatchLine};
+ghost use Rattle.stacklog.specs.Log.{rowLine, row, startLine, start, ending, acceptedLine};
+ghost use Rattle.stacklog.specs.Log.{reason, refusal, refusalLine, malformedLine, dispatchLine, verdictLine};
 use paper::Dispatch;
 use stack_analysis::Verdict;
 
@@ -234,6 +234,19 @@ fn write_start(out: &mut [u8], entries: usize, k: usize, size: usize, main: u32,
     lines::write_word(out, d, b"\n")
 }
 
+// That of fragment k of a paper.
+fn write_head(out: &mut [u8], paper: &[u8], k: usize) -> usize
+    requires { ⌜ 256 ≤ length (now out) ⌝ }
+    ensures same { λ r. ⌜ Written (now (out .entry)) 0 (start (now (paper .entry)) k) (now (out .exit)) r ⌝ }
+    ensures short { λ r. ⌜ r ≤ 256 ⌝ }
+{
+    let entries = paper::field(paper, 0) as usize;
+    let size = paper::fragment_bytes(paper, k).len();
+    let main = paper::fragment_main(paper, k);
+    let alt = paper::fragment_alt(paper, k);
+    write_start(out, entries, k, size, main, alt)
+}
+
 // How an accepted fragment ends.
 fn write_ending(out: &mut [u8], at: usize, ended: bool, main: u32, alt: u32) -> usize
     requires { ⌜ at + 60 ≤ length (now out) ⌝ }
@@ -428,6 +441,26 @@ fn write_dispatch(out: &mut [u8], k: usize, sum: u32) -> usize
     lines::write_word(out, c, b"\n")
 }
 
+// The line after the rows of a fragment: 1 to 4 come before any row.
+fn write_verdict(out: &mut [u8], fragment: &[u8], v: Verdict) -> usize
+    requires { ⌜ 256 ≤ length (now out) ⌝ }
+    ensures same { λ r.
+        ⌜ Written (now (out .entry)) 0 (verdictLine (now (fragment .entry)) v) (now (out .exit)) r ⌝ }
+    ensures short { λ r. ⌜ r ≤ 256 ⌝ }
+{
+    if v.number == 0 {
+        return write_accepted(out, v.peak, v.ended, v.end.mains, v.end.alts);
+    }
+    if v.number == 3 {
+        let bytes = display::display(fragment, fragment, v.offset, 0);
+        return write_malformed(out, v.offset, bytes);
+    }
+    if v.rows == 0 {
+        return write_refusal_line(out, b"", v.number, v.first, v.second);
+    }
+    write_refusal_line(out, b"        ^ ", v.number, v.first, v.second)
+}
+
 // Row j of the log is printed.
 fn print_row(fragment: &[u8], log: &[u16], j: usize)
     requires { ⌜ 3 * j + 3 ≤ length (now log) ⌝ }
@@ -451,11 +484,7 @@ fn print_rows(fragment: &[u8], log: &[u16], from: usize, to: usize)
 // The line before the rows of fragment k.
 fn print_start(paper: &[u8], k: usize) {
     let mut line = [0u8; 256];
-    let entries = paper::field(paper, 0) as usize;
-    let size = paper::fragment_bytes(paper, k).len();
-    let main = paper::fragment_main(paper, k);
-    let alt = paper::fragment_alt(paper, k);
-    let n = write_start(&mut line, entries, k, size, main, alt);
+    let n = write_head(&mut line, paper, k);
     io::write_all(1, &line[..n]);
 }
 
@@ -469,26 +498,10 @@ fn print_heading(rows: usize) {
     }
 }
 
-// The line after the rows of an accepted fragment.
-fn print_accepted(peak: u32, ended: bool, main: u32, alt: u32) {
+// The line of a refusal of the paper.
+fn print_refusal(number: u32, first: u64, second: u64) {
     let mut line = [0u8; 256];
-    let n = write_accepted(&mut line, peak, ended, main, alt);
-    io::write_all(1, &line[..n]);
-}
-
-// The line of a refusal; the arrow stands under the last digit of the offset of the instruction refused.
-fn print_refusal(lead: &[u8], number: u32, first: u64, second: u64)
-    requires { ⌜ length (now lead) ≤ 100 ⌝ }
-{
-    let mut line = [0u8; 256];
-    let n = write_refusal_line(&mut line, lead, number, first, second);
-    io::write_all(1, &line[..n]);
-}
-
-fn print_malformed(fragment: &[u8], offset: usize) {
-    let mut line = [0u8; 256];
-    let bytes = display::display(fragment, fragment, offset, 0);
-    let n = write_malformed(&mut line, offset, bytes);
+    let n = write_refusal_line(&mut line, b"", number, first, second);
     io::write_all(1, &line[..n]);
 }
 
@@ -506,21 +519,11 @@ fn print_last(number: u32, entry: usize, offset: usize, first: u64, second: u64)
     io::write_all(1, &line[..n]);
 }
 
-// The verdict of a fragment in words: 1 to 4 come before any row.
+// The line after the rows of a fragment.
 fn print_verdict(fragment: &[u8], v: Verdict) {
-    if v.number == 0 {
-        print_accepted(v.peak, v.ended, v.end.mains, v.end.alts);
-        return;
-    }
-    if v.number == 3 {
-        print_malformed(fragment, v.offset);
-        return;
-    }
-    if v.rows == 0 {
-        print_refusal(b"", v.number, v.first, v.second);
-        return;
-    }
-    print_refusal(b"        ^ ", v.number, v.first, v.second);
+    let mut line = [0u8; 256];
+    let n = write_verdict(&mut line, fragment, v);
+    io::write_all(1, &line[..n]);
 }
 
 // The fragments of a paper, each marked in its order with its rows in the log, and the last line.
@@ -550,12 +553,12 @@ fn print_fragments(paper: &[u8], log: &mut [u16]) {
 // A paper: 21, 19, the dispatch check of each entry, the bodies in order, then the initialiser.
 fn print_paper(paper: &[u8], log: &mut [u16]) {
     if paper.len() > 8000 {
-        print_refusal(b"", 21, paper.len() as u64, 8000);
+        print_refusal(21, paper.len() as u64, 8000);
         print_last(21, 0, 0, paper.len() as u64, 8000);
         return;
     }
     if !paper::header_ok(paper) {
-        print_refusal(b"", 19, 0, 0);
+        print_refusal(19, 0, 0);
         print_last(19, 0, 0, 0, 0);
         return;
     }

@@ -7,6 +7,9 @@ use Rattle.stacklog.proofs.print_refusal.Tie as tie
 slice-aggregate-write-refusal-line : tie.Need-slice-aggregate-write-refusal-line
 slice-aggregate-write-refusal-line c = search needs
 
+slice-aggregate-write-refusal-line-2 : tie.Need-slice-aggregate-write-refusal-line-2
+slice-aggregate-write-refusal-line-2 c = search needs
+
 write-refusal-line-requires : tie.Need-write-refusal-line-requires
 write-refusal-line-requires c κs = search needs
 
@@ -27,6 +30,7 @@ print-refusal-spec =
     tie.close
     (tie.spec
     slice-aggregate-write-refusal-line
+    slice-aggregate-write-refusal-line-2
     write-refusal-line-requires
     array-share-prefix-line
     slice-aggregate-write-all

@@ -1,14 +1,14 @@
 use borrow.Author.Needs.{needs}
 use native.Mathlib.Omega.{arith}
 use lib.ListN.{length-take}
-use Rattle.stacklog.proofs.print_accepted.Statement.{statement}
-use Rattle.stacklog.proofs.print_accepted.Tie as tie
+use Rattle.stacklog.proofs.print_verdict.Statement.{statement}
+use Rattle.stacklog.proofs.print_verdict.Tie as tie
 
-slice-aggregate-write-accepted : tie.Need-slice-aggregate-write-accepted
-slice-aggregate-write-accepted c = search needs
+slice-aggregate-write-verdict : tie.Need-slice-aggregate-write-verdict
+slice-aggregate-write-verdict c = search needs
 
-write-accepted-requires : tie.Need-write-accepted-requires
-write-accepted-requires c κs = search needs
+write-verdict-requires : tie.Need-write-verdict-requires
+write-verdict-requires c κs = search needs
 
 array-share-prefix-line : tie.Need-array-share-prefix-line
 array-share-prefix-line c = search needs
@@ -22,12 +22,12 @@ write-all-requires c κs = search needs
 returns : tie.Need-returns
 returns c = search needs
 
-pub print-accepted-spec : {M : Type 1} → statement M
-print-accepted-spec =
+pub print-verdict-spec : {M : Type 1} → statement M
+print-verdict-spec =
     tie.close
     (tie.spec
-    slice-aggregate-write-accepted
-    write-accepted-requires
+    slice-aggregate-write-verdict
+    write-verdict-requires
     array-share-prefix-line
     slice-aggregate-write-all
     write-all-requires
