@@ -505,6 +505,7 @@ fn print_refusal(number: u32, first: u64, second: u64) {
     io::write_all(1, &line[..n]);
 }
 
+// The line of the dispatch check.
 fn print_dispatch(k: usize, sum: u32) {
     let mut line = [0u8; 256];
     let n = write_dispatch(&mut line, k, sum);
