@@ -12,7 +12,7 @@ ghost use Rattle.lines.specs.View.{Written, endText, lineText, Prints, l
 use paper::Dispatch;
 
 // A word, byte by byte.
-fn write_word(out: &mut [u8], at: usize, word: &[u8]) -> usize
+pub fn write_word(out: &mut [u8], at: usize, word: &[u8]) -> usize
     requires { ⌜ at + length (now word) ≤ length (now out) ⌝ }
     ensures { λ r. ⌜ Written (now (out .entry)) at (now (word .entry)) (now (out .exit)) r ⌝ }
 {
@@ -34,7 +34,7 @@ fn write_digit(out: &mut [u8], at: usize, d: u64) -> usize
 }
 
 // A number in decimal: all digits but the last, and the last.
-fn write_number(out: &mut [u8], at: usize, n: u64) -> usize
+pub fn write_number(out: &mut [u8], at: usize, n: u64) -> usize
     requires { ⌜ at + length (decimal n) ≤ length (now out) ⌝ }
     ensures { λ r. ⌜ Written (now (out .entry)) at (decimal n) (now (out .exit)) r ⌝ }
 {
@@ -46,7 +46,7 @@ fn write_number(out: &mut [u8], at: usize, n: u64) -> usize
 }
 
 // A word and the number behind it, of at most 20 digits.
-fn write_labelled(out: &mut [u8], at: usize, word: &[u8], n: u64) -> usize
+pub fn write_labelled(out: &mut [u8], at: usize, word: &[u8], n: u64) -> usize
     requires { ⌜ at + length (now word) + 20 ≤ length (now out) ⌝ }
     ensures same { λ r. ⌜ Written (now (out .entry)) at (now (word .entry) ++ decimal n) (now (out .exit)) r ⌝ }
     ensures short { λ r. ⌜ r ≤ at + length (now (word .entry)) + 20 ⌝ }
@@ -56,7 +56,7 @@ fn write_labelled(out: &mut [u8], at: usize, word: &[u8], n: u64) -> usize
 }
 
 // Fragment k of a paper with so many entries: `entry k`, or `state` at the initialiser.
-fn write_name(out: &mut [u8], at: usize, entries: usize, k: usize) -> usize
+pub fn write_name(out: &mut [u8], at: usize, entries: usize, k: usize) -> usize
     requires { ⌜ at + 26 ≤ length (now out) ⌝ }
     ensures same { λ r. ⌜ Written (now (out .entry)) at (name entries k) (now (out .exit)) r ⌝ }
     ensures short { λ r. ⌜ r ≤ at + 26 ⌝ }
@@ -110,7 +110,7 @@ fn write_line(
 }
 
 // The last line of a refused paper, of at most 116 bytes.
-fn write_refused(
+pub fn write_refused(
     out: &mut [u8],
     at: usize,
     number: u32,
@@ -140,7 +140,7 @@ fn write_refused(
 }
 
 // The last line of an accepted paper.
-fn write_accepted(out: &mut [u8], at: usize) -> usize
+pub fn write_accepted(out: &mut [u8], at: usize) -> usize
     requires { ⌜ at + 9 ≤ length (now out) ⌝ }
     ensures same { λ r. ⌜ Written (now (out .entry)) at (text "accepted\n") (now (out .exit)) r ⌝ }
     ensures short { λ r. ⌜ r ≤ at + 9 ⌝ }

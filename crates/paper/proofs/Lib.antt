@@ -3,3 +3,4 @@ pub mod Headers
 pub mod Entries
 pub mod Fragments
 pub mod Markings
+pub mod Numbered
