@@ -57,7 +57,7 @@ module _ (s : Stacks) (f : Fit s) where
       pub to-alt-done : (y : List ℕ) → Copied (s .bytes) (s .mains - 1) (243 - s .alts) 1 y → Says (stepped y c (s .mains - 1) (s .alts + 1)) (moveToAlt (view s))
       to-alt-done y w = to-alt-placed y (copied-both (slotsOf s) (f .sound) c (s .mains - 1) (243 - s .alts) 1 v y w)
 
-      pub to-alt-codes : Suffice (s .codes) (s .mains - 1) 1 → Says (stepped (s .bytes) c (s .mains - 1) (s .alts + 1)) (moveToAlt (view s))
+      pub to-alt-codes : Suffice c (243 - s .alts) 1 → Says (stepped (s .bytes) c (s .mains - 1) (s .alts + 1)) (moveToAlt (view s))
       to-alt-codes k = to-alt-placed (s .bytes) (copied-codes (slotsOf s) (f .sound) c (s .mains - 1) (243 - s .alts) 1 v k)
 
   pub from-alt-dry : s .alts < 1 → Says (refusing s AltDry) (moveFromAlt (view s))
@@ -94,5 +94,5 @@ module _ (s : Stacks) (f : Fit s) where
       pub from-alt-done : (y : List ℕ) → Copied (s .bytes) (244 - s .alts) (s .mains) 1 y → Says (stepped y c (s .mains + 1) (s .alts - 1)) (moveFromAlt (view s))
       from-alt-done y w = from-alt y (copied-both (slotsOf s) (f .sound) c (244 - s .alts) (s .mains) 1 v y w)
 
-      pub from-alt-codes : Suffice (s .codes) (244 - s .alts) 1 → Says (stepped (s .bytes) c (s .mains + 1) (s .alts - 1)) (moveFromAlt (view s))
+      pub from-alt-codes : Suffice c (s .mains) 1 → Says (stepped (s .bytes) c (s .mains + 1) (s .alts - 1)) (moveFromAlt (view s))
       from-alt-codes k = from-alt (s .bytes) (copied-codes (slotsOf s) (f .sound) c (244 - s .alts) (s .mains) 1 v k)

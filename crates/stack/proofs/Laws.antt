@@ -213,14 +213,17 @@ module _ (f : ℕ → ℕ) (p : Slots) (s : Sound p) (b e : ℕ) (c : List ℕ) 
   placed-both y w = placed y (each-map _ (p .bytes) b Beside e y (λ j h g x k. rw k (refl, s .canon (f j))) w)
 
   -- the bytes stay
-  pub placed-codes : ((j : ℕ) → b ≤ j → j < e → sufficient (getD (p .codes) (f j) 0) ≡ true) → Placed f p b e (slots (p .bytes) c)
+  pub placed-codes : (n : ℕ) → e ≡ b + n → Suffice c b n → Placed f p b e (slots (p .bytes) c)
   unfolding Beside
-  placed-codes k = placed (p .bytes) (record {
+  placed-codes n m k = placed (p .bytes) (record {
     whole = refl;
-    each = λ j h g. (same-item _ _ _ (k j h g), same-canon _ _ _ (k j h g) (s .canon (f j)));
+    each = λ j h g. (same-item _ _ _ (at j h g), same-canon _ _ _ (at j h g) (s .canon (f j)));
     below = λ j h. refl;
     above = λ j h. refl;
   })
+    where
+      at : (j : ℕ) → b ≤ j → j < e → sufficient (getD (p .codes) (f j) 0) ≡ true
+      at j h g = let i : b + (j - b) ≡ j = omega arith in sym (ap sufficient (v .each j h g)) ∙ rw i at (k (j - b) (omega arith))
 
 -- the n slots of r from b on hold the items l, the last first, the others are those of p
 pub record Wrote (p : Slots) (b n : ℕ) (l : List Item) (r : Slots) : Type 0 where
@@ -276,20 +279,12 @@ module _ (p : Slots) (s : Sound p) (c : List ℕ) where
     pub copied-both : (y : List ℕ) → Copied (p .bytes) a b n y → Placed (apart a b) p b (b + n) (slots y c)
     copied-both = placed-both (apart a b) p s b (b + n) c v
 
-    pub copied-codes : Suffice (p .codes) a n → Placed (apart a b) p b (b + n) (slots (p .bytes) c)
-    unfolding apart
-    copied-codes k = placed-codes (apart a b) p s b (b + n) c v (λ j h g. k (j - b) (omega arith))
+    pub copied-codes : Suffice c b n → Placed (apart a b) p b (b + n) (slots (p .bytes) c)
+    copied-codes = placed-codes (apart a b) p s b (b + n) c v n refl
 
   module _ (b n k : ℕ) (v : Turned (p .codes) b n k c) where
     pub turned-both : (y : List ℕ) → Turned (p .bytes) b n k y → Placed (turn b n k) p b (b + (k + n)) (slots y c)
     turned-both = placed-both (turn b n k) p s b (b + (k + n)) c v
 
-    pub turned-codes : Suffice (p .codes) b (k + n) → Placed (turn b n k) p b (b + (k + n)) (slots (p .bytes) c)
-    turned-codes m = placed-codes (turn b n k) p s b (b + (k + n)) c v (λ j h g. by j h g (ltb j (b + n)) refl)
-      where
-        at : (i : ℕ) → b ≤ i → i < b + (k + n) → sufficient (getD (p .codes) i 0) ≡ true
-        at i h g = let e : b + (i - b) ≡ i = omega arith in rw e at (m (i - b) (omega arith))
-
-        by : (j : ℕ) → b ≤ j → j < b + (k + n) → (t : Bool) → ltb j (b + n) ≡ t → sufficient (getD (p .codes) (turn b n k j) 0) ≡ true
-        by j h g true e = let z = ltb-true j (b + n) e in rw (turn-low b n k j z) (at (j + k) (omega arith) (omega arith))
-        by j h g false e = let z = ltb-false j (b + n) e in rw (turn-high b n k j z) (at (j - n) (omega arith) (omega arith))
+    pub turned-codes : Suffice c b (k + n) → Placed (turn b n k) p b (b + (k + n)) (slots (p .bytes) c)
+    turned-codes = placed-codes (turn b n k) p s b (b + (k + n)) c v (k + n) refl

@@ -23,7 +23,7 @@ use Rattle.stack.specs.declared.Refusal.the-variants.{StacksFull, MainDr
 use Rattle.stack.specs.declared.Answer.the-variants.{Done, Refused}
 use Rattle.stack.specs.declared.Stepped.{Stepped}
 use Rattle.stack.proofs.Codes.{either, same-item, sufficient-high, canon-sufficient}
-use Rattle.stack.proofs.Laws.{seg, length-tops, tops-ext, length-seg, tops-seg, tops-parts, length-parts, low-part, turned-list, Placed, Wrote, wrote-copies, wrote-turned, placed-one, copied-both, copied-codes, turned-both, turned-codes}
+use Rattle.stack.proofs.Laws.{seg, length-tops, tops-ext, length-seg, tops-seg, tops-parts, length-parts, low-part, turned-list, Placed, Wrote, wrote-copies, wrote-turned, placed-one, turn-low, copied-both, copied-codes, turned-both, turned-codes}
 
 abbrev pub stepped : List ℕ → List ℕ → ℕ → ℕ → Stepped
 stepped y c m a = record { stacks = record { bytes = y; mains = m; alts = a; codes = c }; answer = Done }
@@ -175,7 +175,7 @@ module _ (s : Stacks) (f : Fit s) (limit depth count : ℕ) where
         pub copy-done : (y : List ℕ) → Copied (s .bytes) (s .mains - depth) (s .mains) count y → Says (stepped y c (s .mains + count) (s .alts)) (copyItems limit depth count (view s))
         copy-done y w = copied y (copied-both (slotsOf s) (f .sound) c (s .mains - depth) (s .mains) count v y w)
 
-        pub copy-codes : Suffice (s .codes) (s .mains - depth) count → Says (stepped (s .bytes) c (s .mains + count) (s .alts)) (copyItems limit depth count (view s))
+        pub copy-codes : Suffice c (s .mains) count → Says (stepped (s .bytes) c (s .mains + count) (s .alts)) (copyItems limit depth count (view s))
         copy-codes k = copied (s .bytes) (copied-codes (slotsOf s) (f .sound) c (s .mains - depth) (s .mains) count v k)
 
 module _ (s : Stacks) (f : Fit s) (count shift : ℕ) where
@@ -205,9 +205,9 @@ module _ (s : Stacks) (f : Fit s) (count shift : ℕ) where
       pub rotate-done : (y : List ℕ) → Turned (s .bytes) (s .mains - count) (count - shift) shift y → Says (stepped y c (s .mains) (s .alts)) (rotateItems count shift (view s))
       rotate-done y w = turned y (turned-both (slotsOf s) (f .sound) c (s .mains - count) (count - shift) shift v y w)
 
-      pub rotate-codes : Suffice (s .codes) (s .mains - count) count → Says (stepped (s .bytes) c (s .mains) (s .alts)) (rotateItems count shift (view s))
+      pub rotate-codes : Suffice c (s .mains - count) count → Says (stepped (s .bytes) c (s .mains) (s .alts)) (rotateItems count shift (view s))
       rotate-codes m =
-          let w : Suffice (s .codes) (s .mains - count) (shift + (count - shift)) = λ j lt. m j (omega arith) in
+          let w : Suffice c (s .mains - count) (shift + (count - shift)) = λ j lt. m j (omega arith) in
           turned (s .bytes) (turned-codes (slotsOf s) (f .sound) c (s .mains - count) (count - shift) shift v w)
 
 -- TUCK and NIP
@@ -267,16 +267,15 @@ module _ (s : Stacks) (f : Fit s) where
               let q = copied-both (slotsOf s) (f .sound) d (b + 1) (b + 2) 1 v x m in
               tucked (slots x d) y c q (wrote-turned (slots x d) b 1 (slots y c) 2 (turned-both (slots x d) (q .sound) c b 1 2 w y o))
 
-          pub tuck-codes : Suffice (s .codes) (s .mains - 2) 2 → Says (stepped (s .bytes) c (s .mains + 1) (s .alts)) (tuckTop limit (view s))
-          unfolding apart
+          pub tuck-codes : Suffice c (s .mains - 2) 3 → Says (stepped (s .bytes) c (s .mains + 1) (s .alts)) (tuckTop limit (view s))
           tuck-codes m =
               let b : ℕ = s .mains - 2 in
-              let k : Suffice (s .codes) (b + 1) 1 = λ j lt. let e : b + 1 + j ≡ b + 1 = omega arith in rw e (m 1 (omega arith)) in
+              let k : Suffice d (b + 2) 1 = λ j lt.
+              let e : b + 2 + j ≡ turn b 1 2 b = omega (arith, turn-low b 1 2 b (omega arith)) in
+              let z : sufficient (getD c b 0) ≡ true = rw add-zero at (m 0 (omega arith)) in
+              rw e (sym (ap sufficient (w .each b (omega arith) (omega arith))) ∙ z) in
               let q = copied-codes (slotsOf s) (f .sound) d (b + 1) (b + 2) 1 v k in
-              let n : Suffice d b (2 + 1) = λ j lt. either j 2 (sufficient (getD d (b + j) 0) ≡ true)
-              (λ e. rw (e, v .each (b + 2) (omega arith) (omega arith)) (let z : b + 1 + (b + 2 - (b + 2)) ≡ b + 1 = omega arith in rw z (m 1 (omega arith))))
-              (λ e. rw (v .below (b + j) (omega (arith, e))) (m j (omega (arith, e)))) in
-              tucked (slots (s .bytes) d) (s .bytes) c q (wrote-turned (slots (s .bytes) d) b 1 (slots (s .bytes) c) 2 (turned-codes (slots (s .bytes) d) (q .sound) c b 1 2 w n))
+              tucked (slots (s .bytes) d) (s .bytes) c q (wrote-turned (slots (s .bytes) d) b 1 (slots (s .bytes) c) 2 (turned-codes (slots (s .bytes) d) (q .sound) c b 1 2 w m))
 
   pub nip-dry : s .mains < 2 → Says (refusing s (MainDry 2 (s .mains))) (nipSecond (view s))
   unfolding nipSecond view
@@ -294,5 +293,5 @@ module _ (s : Stacks) (f : Fit s) where
       pub nip-done : (y : List ℕ) → Copied (s .bytes) (s .mains - 2 + 1) (s .mains - 2) 1 y → Says (stepped y c (s .mains - 1) (s .alts)) (nipSecond (view s))
       nip-done y w = nipped y (copied-both (slotsOf s) (f .sound) c (s .mains - 2 + 1) (s .mains - 2) 1 v y w)
 
-      pub nip-codes : Suffice (s .codes) (s .mains - 2 + 1) 1 → Says (stepped (s .bytes) c (s .mains - 1) (s .alts)) (nipSecond (view s))
+      pub nip-codes : Suffice c (s .mains - 2) 1 → Says (stepped (s .bytes) c (s .mains - 1) (s .alts)) (nipSecond (view s))
       nip-codes k = nipped (s .bytes) (copied-codes (slotsOf s) (f .sound) c (s .mains - 2 + 1) (s .mains - 2) 1 v k)

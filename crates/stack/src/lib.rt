@@ -487,8 +487,8 @@ impl Stacks {
         let n = count as usize;
         self.mains = m + count;
         let codes = self.codes;
-        let suffice = all_suffice(codes, from, n);
         let moved = copy_codes(codes, from, to, n);
+        let suffice = all_suffice(moved, to, n);
         self.codes = moved;
         if suffice {
             return Stepped {
@@ -525,8 +525,8 @@ impl Stacks {
         let k = shift as usize;
         let b = m as usize - n;
         let codes = self.codes;
-        let suffice = all_suffice(codes, b, n);
         let turned = rotate_codes(codes, b, k, n - k);
+        let suffice = all_suffice(turned, b, n);
         self.codes = turned;
         if suffice {
             return Stepped {
@@ -575,9 +575,9 @@ impl Stacks {
         let b = (m - 2) as usize;
         self.mains = m + 1;
         let codes = self.codes;
-        let suffice = all_suffice(codes, b, 2);
         let copied = copy_codes(codes, b + 1, b + 2, 1);
         let turned = rotate_codes(copied, b, 2, 1);
+        let suffice = all_suffice(turned, b, 3);
         self.codes = turned;
         if suffice {
             return Stepped {
@@ -609,8 +609,8 @@ impl Stacks {
         let b = (m - 2) as usize;
         self.mains = m - 1;
         let codes = self.codes;
-        let suffice = all_suffice(codes, b + 1, 1);
         let moved = copy_codes(codes, b + 1, b, 1);
+        let suffice = all_suffice(moved, b, 1);
         self.codes = moved;
         if suffice {
             return Stepped {
@@ -652,8 +652,8 @@ impl Stacks {
                 };
             }
         }
-        let suffice = all_suffice(codes, from, 1);
         let moved = copy_codes(codes, from, to, 1);
+        let suffice = all_suffice(moved, to, 1);
         self.codes = moved;
         if suffice {
             return Stepped {
@@ -695,8 +695,8 @@ impl Stacks {
                 };
             }
         }
-        let suffice = all_suffice(codes, from, 1);
         let moved = copy_codes(codes, from, to, 1);
+        let suffice = all_suffice(moved, to, 1);
         self.codes = moved;
         if suffice {
             return Stepped {

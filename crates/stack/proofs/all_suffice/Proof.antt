@@ -17,39 +17,30 @@ Inv-loop from count codes j₀ j = (j ≤ count) × (Suffice codes from j)
 abbrev μ-loop : tie.MeasureT-loop
 μ-loop from count codes j₀ j = count - j
 
--- src/lib.rt:93:5
 loop-holds : tie.Need-loop-holds Inv-loop μ-loop
 loop-holds c = (omega arith, search (suffice-none))
 
--- src/lib.rt:94:26
 add-code : tie.Need-add-code Inv-loop μ-loop
 add-code c = search needs
 
--- src/lib.rt:94:20
 array-read-code : tie.Need-array-read-code Inv-loop μ-loop
 array-read-code c = search needs
 
--- src/lib.rt:95:13
 suffices-requires : tie.Need-suffices-requires Inv-loop μ-loop
 suffices-requires c κs = search needs
 
--- src/lib.rt:96:13
 returns : tie.Need-returns Inv-loop μ-loop
 returns c = λ e. absurd (let z : _≡_ {A = ℕ} 0 1 = cc in omega arith)
 
--- src/lib.rt:98:9
 add-j : tie.Need-add-j Inv-loop μ-loop
 add-j c = search needs
 
--- src/lib.rt:93:5
 loop-less : tie.Need-loop-less Inv-loop μ-loop
 loop-less c = search needs
 
--- src/lib.rt:93:5
 loop-again : tie.Need-loop-again Inv-loop μ-loop
 loop-again c = let e = sym (c .before .suffices .ensures) ∙ not-false _ (c .if1 .left) in (omega arith, search (suffice-more))
 
--- src/lib.rt:88:1
 returns-2 : tie.Need-returns-2 Inv-loop μ-loop
 returns-2 c = λ e. search (suffice-end)
 

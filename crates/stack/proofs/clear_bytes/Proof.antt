@@ -8,15 +8,12 @@ use Rattle.stack.proofs.clear_bytes.Reads as reads
 use Rattle.stack.proofs.clear_bytes.Lts as lts
 use Rattle.stack.proofs.suffices.Reads as suffices-reads
 
--- src/lib.rt:219:8
 suffices-requires : tie.Need-suffices-requires
 suffices-requires c κs = search needs
 
--- src/lib.rt:220:9
 returns : tie.Need-returns
 returns c = let e = sym (c .before .suffices .ensures) ∙ c .if1 .taken in search (clear-none)
 
--- src/lib.rt:215:1
 returns-2 : tie.Need-returns-2
 returns-2 c = let e = sym (c .before .suffices .ensures) ∙ c .if1 .left in search (clear-some)
 

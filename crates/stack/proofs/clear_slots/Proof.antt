@@ -17,47 +17,36 @@ Inv-loop from to cleared₀ codes bytes i₀ cleared i = (Each (ClearAt (slots b
 abbrev μ-loop : tie.MeasureT-loop
 μ-loop from to cleared₀ codes bytes i₀ cleared i = to - i
 
--- src/lib.rt:230:5
 loop-holds : tie.Need-loop-holds Inv-loop μ-loop
 loop-holds c = (search (each-none), omega arith, omega arith)
 
--- src/lib.rt:231:20
 array-read-code : tie.Need-array-read-code Inv-loop μ-loop
 array-read-code c = search needs
 
--- src/lib.rt:232:17
 mul-n : tie.Need-mul-n Inv-loop μ-loop
 mul-n c = search needs
 
--- src/lib.rt:232:17
 array-read-n : tie.Need-array-read-n Inv-loop μ-loop
 array-read-n c = search needs
 
--- src/lib.rt:233:22
 clear-bytes-requires : tie.Need-clear-bytes-requires Inv-loop μ-loop
 clear-bytes-requires c κs = c .before .before .pre .1 .canon (c .before .loop .i)
 
--- src/lib.rt:233:9
 mul-cleared : tie.Need-mul-cleared Inv-loop μ-loop
 mul-cleared c = search needs
 
--- src/lib.rt:233:9
 array-write-cleared : tie.Need-array-write-cleared Inv-loop μ-loop
 array-write-cleared c = search needs
 
--- src/lib.rt:234:9
 add-i : tie.Need-add-i Inv-loop μ-loop
 add-i c = search needs
 
--- src/lib.rt:230:5
 loop-less : tie.Need-loop-less Inv-loop μ-loop
 loop-less c = search needs
 
--- src/lib.rt:230:5
 loop-again : tie.Need-loop-again Inv-loop μ-loop
 loop-again c = (search (clearing-more), omega arith, omega arith)
 
--- src/lib.rt:225:1
 returns : tie.Need-returns Inv-loop μ-loop
 returns c = search (each-end)
 

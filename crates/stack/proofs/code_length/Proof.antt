@@ -6,11 +6,9 @@ use Rattle.stack.proofs.code_length.Tie as tie
 use Rattle.stack.proofs.code_length.Reads as reads
 use Rattle.stack.proofs.code_length.Lts as lts
 
--- src/lib.rt:292:9
 returns : tie.Need-returns
 returns c = search (length-of)
 
--- src/lib.rt:288:1
 returns-2 : tie.Need-returns-2
 returns-2 c = search (length-one)
 

@@ -6,23 +6,18 @@ use Rattle.stack.proofs.code_of.Tie as tie
 use Rattle.stack.proofs.code_of.Reads as reads
 use Rattle.stack.proofs.code_of.Lts as lts
 
--- src/lib.rt:79:9
 returns : tie.Need-returns
 returns c = search (code-long)
 
--- src/lib.rt:82:22
 cast-result : tie.Need-cast-result
 cast-result c = search needs
 
--- src/lib.rt:82:16
 add-result : tie.Need-add-result
 add-result c = search needs
 
--- src/lib.rt:82:9
 returns-2 : tie.Need-returns-2
 returns-2 c = search (code-small)
 
--- src/lib.rt:75:1
 returns-3 : tie.Need-returns-3
 returns-3 c = search (code-large)
 

@@ -13,47 +13,36 @@ Inv-loop from to count bytes₀ j₀ bytes j = Copying bytes₀ from to count by
 abbrev μ-loop : tie.MeasureT-loop
 μ-loop from to count bytes₀ j₀ bytes j = count - j
 
--- src/lib.rt:125:5
 loop-holds : tie.Need-loop-holds Inv-loop μ-loop
 loop-holds c = search (copying-none)
 
--- src/lib.rt:126:23
 add-x : tie.Need-add-x Inv-loop μ-loop
 add-x c = search needs
 
--- src/lib.rt:126:17
 mul-x : tie.Need-mul-x Inv-loop μ-loop
 mul-x c = search needs
 
--- src/lib.rt:126:17
 array-read-x : tie.Need-array-read-x Inv-loop μ-loop
 array-read-x c = search needs
 
--- src/lib.rt:127:15
 add-bytes : tie.Need-add-bytes Inv-loop μ-loop
 add-bytes c = search needs
 
--- src/lib.rt:127:9
 mul-bytes : tie.Need-mul-bytes Inv-loop μ-loop
 mul-bytes c = search needs
 
--- src/lib.rt:127:9
 array-write-bytes : tie.Need-array-write-bytes Inv-loop μ-loop
 array-write-bytes c = search needs
 
--- src/lib.rt:128:9
 add-j : tie.Need-add-j Inv-loop μ-loop
 add-j c = search needs
 
--- src/lib.rt:125:5
 loop-less : tie.Need-loop-less Inv-loop μ-loop
 loop-less c = search needs
 
--- src/lib.rt:125:5
 loop-again : tie.Need-loop-again Inv-loop μ-loop
 loop-again c = search (copying-more)
 
--- src/lib.rt:119:1
 returns : tie.Need-returns Inv-loop μ-loop
 returns c = search (copying-done)
 

@@ -13,39 +13,30 @@ Inv-loop from to count codes₀ j₀ codes j = Copying codes₀ from to count co
 abbrev μ-loop : tie.MeasureT-loop
 μ-loop from to count codes₀ j₀ codes j = count - j
 
--- src/lib.rt:110:5
 loop-holds : tie.Need-loop-holds Inv-loop μ-loop
 loop-holds c = search (copying-none)
 
--- src/lib.rt:111:23
 add-x : tie.Need-add-x Inv-loop μ-loop
 add-x c = search needs
 
--- src/lib.rt:111:17
 array-read-x : tie.Need-array-read-x Inv-loop μ-loop
 array-read-x c = search needs
 
--- src/lib.rt:112:15
 add-codes : tie.Need-add-codes Inv-loop μ-loop
 add-codes c = search needs
 
--- src/lib.rt:112:9
 array-write-codes : tie.Need-array-write-codes Inv-loop μ-loop
 array-write-codes c = search needs
 
--- src/lib.rt:113:9
 add-j : tie.Need-add-j Inv-loop μ-loop
 add-j c = search needs
 
--- src/lib.rt:110:5
 loop-less : tie.Need-loop-less Inv-loop μ-loop
 loop-less c = search needs
 
--- src/lib.rt:110:5
 loop-again : tie.Need-loop-again Inv-loop μ-loop
 loop-again c = search (copying-more)
 
--- src/lib.rt:104:1
 returns : tie.Need-returns Inv-loop μ-loop
 returns c = search (copying-done)
 

@@ -7,39 +7,30 @@ use Rattle.stack.proofs.count_of.Reads as reads
 use Rattle.stack.proofs.count_of.Lts as lts
 use Rattle.decode.proofs.read_index.Reads as read-index-reads
 
--- src/lib.rt:278:9
 read-index-requires : tie.Need-read-index-requires
 read-index-requires c κs = search needs
 
--- src/lib.rt:280:19
 enum-known-index : tie.Need-enum-known-index
 enum-known-index c = search needs
 
--- src/lib.rt:281:42
 enum-told : tie.Need-enum-told
 enum-told c = search needs
 
--- src/lib.rt:282:43
 enum-told-2 : tie.Need-enum-told-2
 enum-told-2 c = search needs
 
--- src/lib.rt:283:43
 enum-told-3 : tie.Need-enum-told-3
 enum-told-3 c = search needs
 
--- src/lib.rt:274:1
 returns : tie.Need-returns
 returns c = search (count-at)
 
--- src/lib.rt:274:1
 returns-2 : tie.Need-returns-2
 returns-2 c = search (count-unknown)
 
--- src/lib.rt:274:1
 returns-3 : tie.Need-returns-3
 returns-3 c = search (count-no-number)
 
--- src/lib.rt:274:1
 returns-4 : tie.Need-returns-4
 returns-4 c = search (count-negative)
 

@@ -17,55 +17,42 @@ Inv-loop from to codes₀ bytes codes1 bytes1 i₀ codes i = (Each (JoinedAt (sl
 abbrev μ-loop : tie.MeasureT-loop
 μ-loop from to codes₀ bytes codes1 bytes1 i₀ codes i = to - i
 
--- src/lib.rt:203:5
 loop-holds : tie.Need-loop-holds Inv-loop μ-loop
 loop-holds c = (search (each-none), omega arith, omega arith)
 
--- src/lib.rt:204:20
 array-read-code : tie.Need-array-read-code Inv-loop μ-loop
 array-read-code c = search needs
 
--- src/lib.rt:205:17
 mul-n : tie.Need-mul-n Inv-loop μ-loop
 mul-n c = search needs
 
--- src/lib.rt:205:17
 array-read-n : tie.Need-array-read-n Inv-loop μ-loop
 array-read-n c = search needs
 
--- src/lib.rt:206:21
 array-read-code1 : tie.Need-array-read-code1 Inv-loop μ-loop
 array-read-code1 c = search needs
 
--- src/lib.rt:207:18
 mul-n1 : tie.Need-mul-n1 Inv-loop μ-loop
 mul-n1 c = search needs
 
--- src/lib.rt:207:18
 array-read-n1 : tie.Need-array-read-n1 Inv-loop μ-loop
 array-read-n1 c = search needs
 
--- src/lib.rt:208:20
 joined-requires : tie.Need-joined-requires Inv-loop μ-loop
 joined-requires c κs = (joined-now _ _ _ _ _ (c .before .before .pre .0) (c .before .loop .inv .0) (c .before .loop .i) (omega arith), c .before .before .pre .1 .canon (c .before .loop .i))
 
--- src/lib.rt:208:9
 array-write-codes : tie.Need-array-write-codes Inv-loop μ-loop
 array-write-codes c = search needs
 
--- src/lib.rt:209:9
 add-i : tie.Need-add-i Inv-loop μ-loop
 add-i c = search needs
 
--- src/lib.rt:203:5
 loop-less : tie.Need-loop-less Inv-loop μ-loop
 loop-less c = search needs
 
--- src/lib.rt:203:5
 loop-again : tie.Need-loop-again Inv-loop μ-loop
 loop-again c = (search (joining-more), omega arith, omega arith)
 
--- src/lib.rt:191:1
 returns : tie.Need-returns Inv-loop μ-loop
 returns c = search (each-end)
 

@@ -8,26 +8,21 @@ use Rattle.stack.proofs.joined.Reads as reads
 use Rattle.stack.proofs.joined.Lts as lts
 use Rattle.stack.proofs.suffices.Reads as suffices-reads
 
--- src/lib.rt:179:9
 returns : tie.Need-returns
 returns c = joined-code _ _ _ _ (c .before .pre .0) (c .before .pre .1) (λ e. omega (arith, c .if1 .taken))
 
--- src/lib.rt:181:8
 suffices-requires : tie.Need-suffices-requires
 suffices-requires c κs = search needs
 
--- src/lib.rt:182:9
 returns-2 : tie.Need-returns-2
 returns-2 c = let e = sym (c .before .suffices .ensures) ∙ c .if2 .taken in search (joined-suffices)
 
--- src/lib.rt:185:9
 returns-3 : tie.Need-returns-3
 returns-3 c =
     let s = c .before .before .before .before in
     let e = sym (c .before .before .suffices .ensures) ∙ c .before .if2 .left in
     joined-bytes _ _ _ _ (s .pre .0) (s .pre .1) (c .before .before .before .if1 .left) e (λ g. omega (arith, c .if3 .taken))
 
--- src/lib.rt:174:1
 returns-4 : tie.Need-returns-4
 returns-4 c = search (joined-same)
 

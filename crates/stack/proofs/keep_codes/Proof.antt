@@ -15,31 +15,24 @@ Inv-loop from to kept₀ codes i₀ kept i = (Each (SameAt codes) kept₀ from i
 abbrev μ-loop : tie.MeasureT-loop
 μ-loop from to kept₀ codes i₀ kept i = to - i
 
--- src/lib.rt:245:5
 loop-holds : tie.Need-loop-holds Inv-loop μ-loop
 loop-holds c = (search (each-none), omega arith, omega arith)
 
--- src/lib.rt:246:20
 array-read-code : tie.Need-array-read-code Inv-loop μ-loop
 array-read-code c = search needs
 
--- src/lib.rt:247:9
 array-write-kept : tie.Need-array-write-kept Inv-loop μ-loop
 array-write-kept c = search needs
 
--- src/lib.rt:248:9
 add-i : tie.Need-add-i Inv-loop μ-loop
 add-i c = search needs
 
--- src/lib.rt:245:5
 loop-less : tie.Need-loop-less Inv-loop μ-loop
 loop-less c = search needs
 
--- src/lib.rt:245:5
 loop-again : tie.Need-loop-again Inv-loop μ-loop
 loop-again c = (search (keeping-more), omega arith, omega arith)
 
--- src/lib.rt:240:1
 returns : tie.Need-returns Inv-loop μ-loop
 returns c = search (each-end)
 

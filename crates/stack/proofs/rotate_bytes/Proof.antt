@@ -13,99 +13,75 @@ Inv-loop b k rest bytes₀ from x0 x1 j₀ bytes j = Copying bytes₀ from b res
 abbrev μ-loop : tie.MeasureT-loop
 μ-loop b k rest bytes₀ from x0 x1 j₀ bytes j = rest - j
 
--- src/lib.rt:159:16
 add-from : tie.Need-add-from Inv-loop μ-loop
 add-from c = search needs
 
--- src/lib.rt:160:14
 mul-x0 : tie.Need-mul-x0 Inv-loop μ-loop
 mul-x0 c = search needs
 
--- src/lib.rt:160:14
 array-read-x0 : tie.Need-array-read-x0 Inv-loop μ-loop
 array-read-x0 c = search needs
 
--- src/lib.rt:161:20
 sub-x1 : tie.Need-sub-x1 Inv-loop μ-loop
 sub-x1 c = search needs
 
--- src/lib.rt:161:14
 mul-x1 : tie.Need-mul-x1 Inv-loop μ-loop
 mul-x1 c = search needs
 
--- src/lib.rt:161:14
 array-read-x1 : tie.Need-array-read-x1 Inv-loop μ-loop
 array-read-x1 c = search needs
 
--- src/lib.rt:163:5
 loop-holds : tie.Need-loop-holds Inv-loop μ-loop
 loop-holds c = search (copying-none)
 
--- src/lib.rt:164:23
 add-x : tie.Need-add-x Inv-loop μ-loop
 add-x c = search needs
 
--- src/lib.rt:164:17
 mul-x : tie.Need-mul-x Inv-loop μ-loop
 mul-x c = search needs
 
--- src/lib.rt:164:17
 array-read-x : tie.Need-array-read-x Inv-loop μ-loop
 array-read-x c = search needs
 
--- src/lib.rt:165:15
 add-bytes : tie.Need-add-bytes Inv-loop μ-loop
 add-bytes c = search needs
 
--- src/lib.rt:165:9
 mul-bytes : tie.Need-mul-bytes Inv-loop μ-loop
 mul-bytes c = search needs
 
--- src/lib.rt:165:9
 array-write-bytes : tie.Need-array-write-bytes Inv-loop μ-loop
 array-write-bytes c = search needs
 
--- src/lib.rt:166:9
 add-j : tie.Need-add-j Inv-loop μ-loop
 add-j c = search needs
 
--- src/lib.rt:163:5
 loop-less : tie.Need-loop-less Inv-loop μ-loop
 loop-less c = search needs
 
--- src/lib.rt:163:5
 loop-again : tie.Need-loop-again Inv-loop μ-loop
 loop-again c = search (copying-down)
 
--- src/lib.rt:168:11
 add-bytes-2 : tie.Need-add-bytes-2 Inv-loop μ-loop
 add-bytes-2 c = search needs
 
--- src/lib.rt:168:5
 mul-bytes-2 : tie.Need-mul-bytes-2 Inv-loop μ-loop
 mul-bytes-2 c = search needs
 
--- src/lib.rt:168:5
 array-write-bytes-2 : tie.Need-array-write-bytes-2 Inv-loop μ-loop
 array-write-bytes-2 c = search needs
 
--- src/lib.rt:169:11
 add-bytes-3 : tie.Need-add-bytes-3 Inv-loop μ-loop
 add-bytes-3 c = search needs
 
--- src/lib.rt:169:11
 sub-bytes : tie.Need-sub-bytes Inv-loop μ-loop
 sub-bytes c = search needs
 
--- src/lib.rt:169:5
 mul-bytes-3 : tie.Need-mul-bytes-3 Inv-loop μ-loop
 mul-bytes-3 c = search needs
 
--- src/lib.rt:169:5
 array-write-bytes-3 : tie.Need-array-write-bytes-3 Inv-loop μ-loop
 array-write-bytes-3 c = search needs
 
--- src/lib.rt:154:1
 returns : tie.Need-returns Inv-loop μ-loop
 returns c = search (turned)
 

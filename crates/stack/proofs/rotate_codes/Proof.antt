@@ -13,75 +13,57 @@ Inv-loop b k rest codes₀ from x0 x1 j₀ codes j = Copying codes₀ from b res
 abbrev μ-loop : tie.MeasureT-loop
 μ-loop b k rest codes₀ from x0 x1 j₀ codes j = rest - j
 
--- src/lib.rt:139:16
 add-from : tie.Need-add-from Inv-loop μ-loop
 add-from c = search needs
 
--- src/lib.rt:140:14
 array-read-x0 : tie.Need-array-read-x0 Inv-loop μ-loop
 array-read-x0 c = search needs
 
--- src/lib.rt:141:20
 sub-x1 : tie.Need-sub-x1 Inv-loop μ-loop
 sub-x1 c = search needs
 
--- src/lib.rt:141:14
 array-read-x1 : tie.Need-array-read-x1 Inv-loop μ-loop
 array-read-x1 c = search needs
 
--- src/lib.rt:143:5
 loop-holds : tie.Need-loop-holds Inv-loop μ-loop
 loop-holds c = search (copying-none)
 
--- src/lib.rt:144:23
 add-x : tie.Need-add-x Inv-loop μ-loop
 add-x c = search needs
 
--- src/lib.rt:144:17
 array-read-x : tie.Need-array-read-x Inv-loop μ-loop
 array-read-x c = search needs
 
--- src/lib.rt:145:15
 add-codes : tie.Need-add-codes Inv-loop μ-loop
 add-codes c = search needs
 
--- src/lib.rt:145:9
 array-write-codes : tie.Need-array-write-codes Inv-loop μ-loop
 array-write-codes c = search needs
 
--- src/lib.rt:146:9
 add-j : tie.Need-add-j Inv-loop μ-loop
 add-j c = search needs
 
--- src/lib.rt:143:5
 loop-less : tie.Need-loop-less Inv-loop μ-loop
 loop-less c = search needs
 
--- src/lib.rt:143:5
 loop-again : tie.Need-loop-again Inv-loop μ-loop
 loop-again c = search (copying-down)
 
--- src/lib.rt:148:11
 add-codes-2 : tie.Need-add-codes-2 Inv-loop μ-loop
 add-codes-2 c = search needs
 
--- src/lib.rt:148:5
 array-write-codes-2 : tie.Need-array-write-codes-2 Inv-loop μ-loop
 array-write-codes-2 c = search needs
 
--- src/lib.rt:149:11
 add-codes-3 : tie.Need-add-codes-3 Inv-loop μ-loop
 add-codes-3 c = search needs
 
--- src/lib.rt:149:11
 sub-codes : tie.Need-sub-codes Inv-loop μ-loop
 sub-codes c = search needs
 
--- src/lib.rt:149:5
 array-write-codes-3 : tie.Need-array-write-codes-3 Inv-loop μ-loop
 array-write-codes-3 c = search needs
 
--- src/lib.rt:134:1
 returns : tie.Need-returns Inv-loop μ-loop
 returns c = search (turned)
 

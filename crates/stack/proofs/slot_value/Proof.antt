@@ -6,23 +6,18 @@ use Rattle.stack.proofs.slot_value.Tie as tie
 use Rattle.stack.proofs.slot_value.Reads as reads
 use Rattle.stack.proofs.slot_value.Lts as lts
 
--- src/lib.rt:259:9
 returns : tie.Need-returns
 returns c = search (slot-unknown)
 
--- src/lib.rt:264:21
 sub-t4 : tie.Need-sub-t4
 sub-t4 c = search needs
 
--- src/lib.rt:264:20
 cast-t5 : tie.Need-cast-t5
 cast-t5 c = search needs
 
--- src/lib.rt:262:9
 returns-2 : tie.Need-returns-2
 returns-2 c = search (slot-byte)
 
--- src/lib.rt:254:1
 returns-3 : tie.Need-returns-3
 returns-3 c = search (slot-exact)
 

@@ -6,11 +6,9 @@ use Rattle.stack.proofs.suffices.Tie as tie
 use Rattle.stack.proofs.suffices.Reads as reads
 use Rattle.stack.proofs.suffices.Lts as lts
 
--- src/lib.rt:69:9
 returns : tie.Need-returns
 returns c = search (sufficient-none)
 
--- src/lib.rt:65:1
 returns-2 : tie.Need-returns-2
 returns-2 c = search (sufficient-test)
 

@@ -6,47 +6,36 @@ use Rattle.stack.proofs.Stacks.apply_effect.Tie as tie
 use Rattle.stack.proofs.Stacks.apply_effect.Reads as reads
 use Rattle.stack.proofs.Stacks.apply_effect.Lts as lts
 
--- src/lib.rt:416:13
 returns : tie.Need-returns
 returns c = search (effect-dry)
 
--- src/lib.rt:427:13
 returns-2 : tie.Need-returns-2
 returns-2 c = search (effect-none)
 
--- src/lib.rt:432:20
 add-if3 : tie.Need-add-if3
 add-if3 c = search needs
 
--- src/lib.rt:432:20
 add-if3-2 : tie.Need-add-if3-2
 add-if3-2 c = search needs
 
--- src/lib.rt:436:29
 add-t17 : tie.Need-add-t17
 add-t17 c = search needs
 
--- src/lib.rt:436:29
 add-t18 : tie.Need-add-t18
 add-t18 c = search needs
 
--- src/lib.rt:433:13
 returns-3 : tie.Need-returns-3
 returns-3 c = search (effect-full)
 
--- src/lib.rt:441:17
 cast-i : tie.Need-cast-i
 cast-i c = search needs
 
--- src/lib.rt:442:22
 add-self : tie.Need-add-self
 add-self c = search needs
 
--- src/lib.rt:444:9
 array-write-codes : tie.Need-array-write-codes
 array-write-codes c = search needs
 
--- src/lib.rt:407:5
 returns-4 : tie.Need-returns-4
 returns-4 c = search (effect-mark)
 

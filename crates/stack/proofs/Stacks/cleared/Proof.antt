@@ -8,47 +8,36 @@ use Rattle.stack.proofs.Stacks.cleared.Lts as lts
 use Rattle.stack.proofs.clear_slots.Reads as clear-slots-reads
 use Rattle.stack.proofs.keep_codes.Reads as keep-codes-reads
 
--- src/lib.rt:751:61
 cast-clear-slots : tie.Need-cast-clear-slots
 cast-clear-slots c = search needs
 
--- src/lib.rt:751:13
 clear-slots-requires : tie.Need-clear-slots-requires
 clear-slots-requires c κs = search needs
 
--- src/lib.rt:752:52
 sub-clear-slots : tie.Need-sub-clear-slots
 sub-clear-slots c = search needs
 
--- src/lib.rt:752:51
 cast-clear-slots-2 : tie.Need-cast-clear-slots-2
 cast-clear-slots-2 c = search needs
 
--- src/lib.rt:752:13
 clear-slots-requires-2 : tie.Need-clear-slots-requires-2
 clear-slots-requires-2 c κs = search needs
 
--- src/lib.rt:754:53
 cast-keep-codes : tie.Need-cast-keep-codes
 cast-keep-codes c = search needs
 
--- src/lib.rt:754:13
 keep-codes-requires : tie.Need-keep-codes-requires
 keep-codes-requires c κs = search needs
 
--- src/lib.rt:755:45
 sub-keep-codes : tie.Need-sub-keep-codes
 sub-keep-codes c = search needs
 
--- src/lib.rt:755:44
 cast-keep-codes-2 : tie.Need-cast-keep-codes-2
 cast-keep-codes-2 c = search needs
 
--- src/lib.rt:755:13
 keep-codes-requires-2 : tie.Need-keep-codes-requires-2
 keep-codes-requires-2 c κs = search needs
 
--- src/lib.rt:743:5
 returns : tie.Need-returns
 returns c = search (cleared-is)
 

@@ -8,19 +8,15 @@ use Rattle.stack.proofs.Stacks.depth.Lts as lts
 use Rattle.decode.proofs.number_value.Reads as number-value-reads
 use Rattle.stack.proofs.Stacks.push.Reads as push-reads
 
--- src/lib.rt:805:30
 cast-number-value : tie.Need-cast-number-value
 cast-number-value c = search needs
 
--- src/lib.rt:805:13
 number-value-requires : tie.Need-number-value-requires
 number-value-requires c κs = search needs
 
--- src/lib.rt:806:9
 push-requires : tie.Need-push-requires
 push-requires c κs = (search needs, (search (number-held), search needs))
 
--- src/lib.rt:800:5
 returns : tie.Need-returns
 returns c = search (depth-done)
 

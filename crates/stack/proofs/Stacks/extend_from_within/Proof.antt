@@ -9,63 +9,48 @@ use Rattle.stack.proofs.all_suffice.Reads as all-suffice-reads
 use Rattle.stack.proofs.copy_bytes.Reads as copy-bytes-reads
 use Rattle.stack.proofs.copy_codes.Reads as copy-codes-reads
 
--- src/lib.rt:461:13
 cast-if1 : tie.Need-cast-if1
 cast-if1 c = search needs
 
--- src/lib.rt:462:13
 returns : tie.Need-returns
 returns c = search (copy-dry)
 
--- src/lib.rt:470:20
 add-if2 : tie.Need-add-if2
 add-if2 c = search needs
 
--- src/lib.rt:470:20
 add-if2-2 : tie.Need-add-if2-2
 add-if2-2 c = search needs
 
--- src/lib.rt:474:29
 add-t21 : tie.Need-add-t21
 add-t21 c = search needs
 
--- src/lib.rt:474:29
 add-t22 : tie.Need-add-t22
 add-t22 c = search needs
 
--- src/lib.rt:471:13
 returns-2 : tie.Need-returns-2
 returns-2 c = search (copy-full)
 
--- src/lib.rt:479:18
 cast-to : tie.Need-cast-to
 cast-to c = search needs
 
--- src/lib.rt:480:20
 sub-from : tie.Need-sub-from
 sub-from c = search needs
 
--- src/lib.rt:482:22
 add-self : tie.Need-add-self
 add-self c = search needs
 
--- src/lib.rt:484:13
-all-suffice-requires : tie.Need-all-suffice-requires
-all-suffice-requires c κs = search needs
-
--- src/lib.rt:485:13
 copy-codes-requires : tie.Need-copy-codes-requires
 copy-codes-requires c κs = search needs
 
--- src/lib.rt:488:13
-returns-3 : tie.Need-returns-3
-returns-3 c = let b = c .before .before .all-suffice .ensures (c .if3 .taken) in search (copy-codes)
+all-suffice-requires : tie.Need-all-suffice-requires
+all-suffice-requires c κs = search needs
 
--- src/lib.rt:494:13
+returns-3 : tie.Need-returns-3
+returns-3 c = let b = c .before .all-suffice .ensures (c .if3 .taken) in search (copy-codes)
+
 copy-bytes-requires : tie.Need-copy-bytes-requires
 copy-bytes-requires c κs = search needs
 
--- src/lib.rt:453:5
 returns-4 : tie.Need-returns-4
 returns-4 c = search (copy-done)
 
@@ -83,8 +68,8 @@ extend-from-within-spec =
     cast-to
     sub-from
     add-self
-    all-suffice-requires
     copy-codes-requires
+    all-suffice-requires
     returns-3
     copy-bytes-requires
     returns-4)

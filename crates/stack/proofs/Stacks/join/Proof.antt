@@ -7,35 +7,27 @@ use Rattle.stack.proofs.Stacks.join.Reads as reads
 use Rattle.stack.proofs.Stacks.join.Lts as lts
 use Rattle.stack.proofs.join_codes.Reads as join-codes-reads
 
--- src/lib.rt:718:13
 returns : tie.Need-returns
 returns c = search (join-main)
 
--- src/lib.rt:724:13
 returns-2 : tie.Need-returns-2
 returns-2 c = search (join-alt)
 
--- src/lib.rt:733:64
 cast-join-codes : tie.Need-cast-join-codes
 cast-join-codes c = search needs
 
--- src/lib.rt:733:13
 join-codes-requires : tie.Need-join-codes-requires
 join-codes-requires c κs = search needs
 
--- src/lib.rt:734:61
 sub-join-codes : tie.Need-sub-join-codes
 sub-join-codes c = search needs
 
--- src/lib.rt:734:60
 cast-join-codes-2 : tie.Need-cast-join-codes-2
 cast-join-codes-2 c = search needs
 
--- src/lib.rt:734:13
 join-codes-requires-2 : tie.Need-join-codes-requires-2
 join-codes-requires-2 c κs = (search (joined-sound), search needs, search needs, search needs)
 
--- src/lib.rt:710:5
 returns-3 : tie.Need-returns-3
 returns-3 c = search (join-done)
 

@@ -9,55 +9,42 @@ use Rattle.stack.proofs.all_suffice.Reads as all-suffice-reads
 use Rattle.stack.proofs.copy_bytes.Reads as copy-bytes-reads
 use Rattle.stack.proofs.copy_codes.Reads as copy-codes-reads
 
--- src/lib.rt:631:13
 returns : tie.Need-returns
 returns c = search (to-alt-dry)
 
--- src/lib.rt:636:20
 cast-from : tie.Need-cast-from
 cast-from c = search needs
 
--- src/lib.rt:637:19
 sub-to : tie.Need-sub-to
 sub-to c = search needs
 
--- src/lib.rt:637:18
 cast-to : tie.Need-cast-to
 cast-to c = search needs
 
--- src/lib.rt:639:21
 add-self : tie.Need-add-self
 add-self c = search needs
 
--- src/lib.rt:641:12
 array-read-if2 : tie.Need-array-read-if2
 array-read-if2 c = search needs
 
--- src/lib.rt:642:16
 array-read-if3 : tie.Need-array-read-if3
 array-read-if3 c = search needs
 
--- src/lib.rt:643:17
 returns-2 : tie.Need-returns-2
 returns-2 c = search (to-alt-still)
 
--- src/lib.rt:649:13
-all-suffice-requires : tie.Need-all-suffice-requires
-all-suffice-requires c κs = search needs
-
--- src/lib.rt:650:13
 copy-codes-requires : tie.Need-copy-codes-requires
 copy-codes-requires c κs = search needs
 
--- src/lib.rt:653:13
-returns-3 : tie.Need-returns-3
-returns-3 c = let b = c .before .before .all-suffice .ensures (c .if4 .taken) in search (to-alt-codes)
+all-suffice-requires : tie.Need-all-suffice-requires
+all-suffice-requires c κs = search needs
 
--- src/lib.rt:659:13
+returns-3 : tie.Need-returns-3
+returns-3 c = let b = c .before .all-suffice .ensures (c .if4 .taken) in search (to-alt-codes)
+
 copy-bytes-requires : tie.Need-copy-bytes-requires
 copy-bytes-requires c κs = search needs
 
--- src/lib.rt:624:5
 returns-4 : tie.Need-returns-4
 returns-4 c = search (to-alt-done)
 
@@ -73,8 +60,8 @@ move-to-alt-spec =
     array-read-if2
     array-read-if3
     returns-2
-    all-suffice-requires
     copy-codes-requires
+    all-suffice-requires
     returns-3
     copy-bytes-requires
     returns-4)

@@ -6,7 +6,6 @@ use Rattle.stack.proofs.Stacks.new.Tie as tie
 use Rattle.stack.proofs.Stacks.new.Reads as reads
 use Rattle.stack.proofs.Stacks.new.Lts as lts
 
--- src/lib.rt:298:5
 returns : tie.Need-returns
 returns c = search (fresh)
 

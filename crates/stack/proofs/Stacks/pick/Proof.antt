@@ -9,35 +9,27 @@ use Rattle.stack.proofs.Stacks.pick.Lts as lts
 use Rattle.stack.proofs.Stacks.extend_from_within.Reads as extend-from-within-reads
 use Rattle.stack.proofs.Stacks.top_count.Reads as top-count-reads
 
--- src/lib.rt:785:13
 top-count-requires : tie.Need-top-count-requires
 top-count-requires c κs = search needs
 
--- src/lib.rt:787:23
 enum-known-count : tie.Need-enum-known-count
 enum-known-count c = search needs
 
--- src/lib.rt:788:30
 sub-self : tie.Need-sub-self
 sub-self c = search (had-one)
 
--- src/lib.rt:789:41
 add-extend-from-within : tie.Need-add-extend-from-within
 add-extend-from-within c = search (next-fits, needs)
 
--- src/lib.rt:789:17
 extend-from-within-requires : tie.Need-extend-from-within-requires
 extend-from-within-requires c κs = search needs
 
--- src/lib.rt:791:28
 enum-known-count-2 : tie.Need-enum-known-count-2
 enum-known-count-2 c = search needs
 
--- src/lib.rt:780:5
 returns : tie.Need-returns
 returns c = search (pick-at)
 
--- src/lib.rt:780:5
 returns-2 : tie.Need-returns-2
 returns-2 c = search (pick-refused)
 

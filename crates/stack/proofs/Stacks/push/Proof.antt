@@ -11,42 +11,33 @@ use Rattle.stack.proofs.Stacks.push_exact.Reads as push-exact-reads
 use Rattle.stack.proofs.code_of.Reads as code-of-reads
 use Rattle.stack.proofs.suffices.Reads as suffices-reads
 
--- src/lib.rt:316:31
 enum-known-v : tie.Need-enum-known-v
 enum-known-v c = search needs
 
--- src/lib.rt:317:17
 code-of-requires : tie.Need-code-of-requires
 code-of-requires c κs = search needs
 
--- src/lib.rt:318:16
 suffices-requires : tie.Need-suffices-requires
 suffices-requires c κs = search needs
 
--- src/lib.rt:319:17
 push-code-requires : tie.Need-push-code-requires
 push-code-requires c κs = let e = sym (c .before .suffices .ensures) ∙ c .if1 .taken in (search needs, (e, search needs))
 
--- src/lib.rt:319:17
 returns : tie.Need-returns
 returns c = let e = sym (c .before .before .suffices .ensures) ∙ c .before .if1 .taken in search (push-is-code)
 
--- src/lib.rt:321:13
 push-exact-requires : tie.Need-push-exact-requires
 push-exact-requires c κs = let e = sym (c .before .suffices .ensures) ∙ c .if1 .left in (search needs, (search (held-exact), (search (code-wants), search needs)))
 
--- src/lib.rt:321:13
 returns-2 : tie.Need-returns-2
 returns-2 c = search (push-is-exact)
 
 enum-told : tie.Need-enum-told
 enum-told c = search needs
 
--- src/lib.rt:323:9
 push-code-requires-2 : tie.Need-push-code-requires-2
 push-code-requires-2 c κs = (search needs, (unknown-suffices, search needs))
 
--- src/lib.rt:310:5
 returns-3 : tie.Need-returns-3
 returns-3 c = search (push-is-unknown)
 

@@ -7,39 +7,30 @@ use Rattle.stack.proofs.Stacks.push_code.Tie as tie
 use Rattle.stack.proofs.Stacks.push_code.Reads as reads
 use Rattle.stack.proofs.Stacks.push_code.Lts as lts
 
--- src/lib.rt:335:20
 add-if1 : tie.Need-add-if1
 add-if1 c = search needs
 
--- src/lib.rt:335:20
 add-if1-2 : tie.Need-add-if1-2
 add-if1-2 c = search needs
 
--- src/lib.rt:339:29
 add-t11 : tie.Need-add-t11
 add-t11 c = search needs
 
--- src/lib.rt:339:29
 add-t12 : tie.Need-add-t12
 add-t12 c = search needs
 
--- src/lib.rt:336:13
 returns : tie.Need-returns
 returns c = search (push-full)
 
--- src/lib.rt:344:22
 add-self : tie.Need-add-self
 add-self c = search needs
 
--- src/lib.rt:345:17
 cast-i : tie.Need-cast-i
 cast-i c = search needs
 
--- src/lib.rt:347:9
 array-write-codes : tie.Need-array-write-codes
 array-write-codes c = search needs
 
--- src/lib.rt:327:5
 returns-2 : tie.Need-returns-2
 returns-2 c = search (push-code)
 

@@ -9,35 +9,27 @@ use Rattle.stack.proofs.Stacks.roll.Lts as lts
 use Rattle.stack.proofs.Stacks.rotate_left.Reads as rotate-left-reads
 use Rattle.stack.proofs.Stacks.top_count.Reads as top-count-reads
 
--- src/lib.rt:802:13
 top-count-requires : tie.Need-top-count-requires
 top-count-requires c κs = search needs
 
--- src/lib.rt:804:23
 enum-known-count : tie.Need-enum-known-count
 enum-known-count c = search needs
 
--- src/lib.rt:805:30
 sub-self : tie.Need-sub-self
 sub-self c = search (had-one)
 
--- src/lib.rt:806:34
 add-rotate-left : tie.Need-add-rotate-left
 add-rotate-left c = search (next-fits, needs)
 
--- src/lib.rt:806:17
 rotate-left-requires : tie.Need-rotate-left-requires
 rotate-left-requires c κs = search needs
 
--- src/lib.rt:808:28
 enum-known-count-2 : tie.Need-enum-known-count-2
 enum-known-count-2 c = search needs
 
--- src/lib.rt:798:5
 returns : tie.Need-returns
 returns c = search (roll-at)
 
--- src/lib.rt:798:5
 returns-2 : tie.Need-returns-2
 returns-2 c = search (roll-refused)
 

@@ -10,43 +10,33 @@ use Rattle.stack.proofs.Stacks.apply_effect.Reads as apply-effect-reads
 use Rattle.stack.proofs.Stacks.push.Reads as push-reads
 use Rattle.stack.proofs.code_length.Reads as code-length-reads
 
--- src/lib.rt:816:13
 returns : tie.Need-returns
 returns c = search (size-dry)
 
--- src/lib.rt:821:17
 cast-i : tie.Need-cast-i
 cast-i c = search needs
 
--- src/lib.rt:823:20
 array-read-code : tie.Need-array-read-code
 array-read-code c = search needs
 
--- src/lib.rt:825:13
 apply-effect-requires : tie.Need-apply-effect-requires
 apply-effect-requires c κs = search needs
 
--- src/lib.rt:825:13
 returns-2 : tie.Need-returns-2
 returns-2 c = search (size-unknown)
 
--- src/lib.rt:827:30
 code-length-requires : tie.Need-code-length-requires
 code-length-requires c κs = search needs
 
--- src/lib.rt:827:30
 cast-number-value : tie.Need-cast-number-value
 cast-number-value c = search needs
 
--- src/lib.rt:827:13
 number-value-requires : tie.Need-number-value-requires
 number-value-requires c κs = search needs
 
--- src/lib.rt:828:9
 push-requires : tie.Need-push-requires
 push-requires c κs = (search needs, (search (number-held), search needs))
 
--- src/lib.rt:809:5
 returns-3 : tie.Need-returns-3
 returns-3 c = search (size-done)
 

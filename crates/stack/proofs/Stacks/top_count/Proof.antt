@@ -10,51 +10,39 @@ use Rattle.stack.proofs.count_of.Reads as count-of-reads
 use Rattle.stack.proofs.slot_value.Reads as slot-value-reads
 use Rattle.stack.proofs.suffices.Reads as suffices-reads
 
--- src/lib.rt:752:13
 returns : tie.Need-returns
 returns c = search (pops-dry)
 
--- src/lib.rt:754:17
 cast-i : tie.Need-cast-i
 cast-i c = search needs
 
--- src/lib.rt:756:20
 array-read-code : tie.Need-array-read-code
 array-read-code c = search needs
 
--- src/lib.rt:757:12
 suffices-requires : tie.Need-suffices-requires
 suffices-requires c κs = search needs
 
--- src/lib.rt:758:29
 slot-value-requires : tie.Need-slot-value-requires
 slot-value-requires c κs = let e = sym (c .before .suffices .ensures) ∙ c .if2 .taken in code-alone _ _ (c .before .before .before .before .pre .sound .canon _) e
 
--- src/lib.rt:758:13
 count-of-requires : tie.Need-count-of-requires
 count-of-requires c κs = search needs
 
--- src/lib.rt:758:13
 returns-2 : tie.Need-returns-2
 returns-2 c = let e = sym (c .before .before .before .suffices .ensures) ∙ c .before .before .if2 .taken in search (pops-code)
 
--- src/lib.rt:761:17
 mul-n : tie.Need-mul-n
 mul-n c = search needs
 
--- src/lib.rt:761:17
 array-read-n : tie.Need-array-read-n
 array-read-n c = search needs
 
--- src/lib.rt:762:18
 slot-value-requires-2 : tie.Need-slot-value-requires-2
 slot-value-requires-2 c κs = let e = sym (c .before .before .suffices .ensures) ∙ c .before .if2 .left in with-bytes _ _ (c .before .before .before .before .before .pre .sound .canon _) e
 
--- src/lib.rt:762:9
 count-of-requires-2 : tie.Need-count-of-requires-2
 count-of-requires-2 c κs = search needs
 
--- src/lib.rt:746:5
 returns-3 : tie.Need-returns-3
 returns-3 c = search (pops-bytes)
 

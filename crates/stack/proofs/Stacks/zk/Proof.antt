@@ -8,59 +8,45 @@ use Rattle.stack.proofs.Stacks.zk.Lts as lts
 use Rattle.stack.proofs.Stacks.top_count.Reads as top-count-reads
 use Rattle.stack.proofs.Stacks.zk_drop.Reads as zk-drop-reads
 
--- src/lib.rt:857:13
 returns : tie.Need-returns
 returns c = search (zk-dry)
 
--- src/lib.rt:862:17
 cast-i : tie.Need-cast-i
 cast-i c = search needs
 
--- src/lib.rt:864:20
 array-read-code : tie.Need-array-read-code
 array-read-code c = search needs
 
--- src/lib.rt:867:13
 zk-drop-requires : tie.Need-zk-drop-requires
 zk-drop-requires c κs = search needs
 
--- src/lib.rt:867:13
 returns-2 : tie.Need-returns-2
 returns-2 c = search (zk-r0)
 
--- src/lib.rt:870:13
 returns-3 : tie.Need-returns-3
 returns-3 c = search (zk-other)
 
--- src/lib.rt:877:13
 returns-4 : tie.Need-returns-4
 returns-4 c = search (zk-short)
 
--- src/lib.rt:883:13
 top-count-requires : tie.Need-top-count-requires
 top-count-requires c κs = search needs
 
--- src/lib.rt:885:23
 enum-known-count : tie.Need-enum-known-count
 enum-known-count c = search needs
 
--- src/lib.rt:886:30
 sub-self : tie.Need-sub-self
 sub-self c = search (zk-four)
 
--- src/lib.rt:887:17
 zk-drop-requires-2 : tie.Need-zk-drop-requires-2
 zk-drop-requires-2 c κs = search needs
 
--- src/lib.rt:889:28
 enum-known-count-2 : tie.Need-enum-known-count-2
 enum-known-count-2 c = search needs
 
--- src/lib.rt:850:5
 returns-5 : tie.Need-returns-5
 returns-5 c = search (zk-at)
 
--- src/lib.rt:850:5
 returns-6 : tie.Need-returns-6
 returns-6 c = search (zk-refused)
 

@@ -8,27 +8,21 @@ use Rattle.stack.proofs.Stacks.zk_drop.Reads as reads
 use Rattle.stack.proofs.Stacks.zk_drop.Lts as lts
 use Rattle.stack.proofs.Stacks.push_code.Reads as push-code-reads
 
--- src/lib.rt:838:13
 cast-if1 : tie.Need-cast-if1
 cast-if1 c = search needs
 
--- src/lib.rt:839:13
 returns : tie.Need-returns
 returns c = search (zk-drop-dry)
 
--- src/lib.rt:844:27
 cast-self : tie.Need-cast-self
 cast-self c = search needs
 
--- src/lib.rt:844:22
 sub-self : tie.Need-sub-self
 sub-self c = search needs
 
--- src/lib.rt:845:9
 push-code-requires : tie.Need-push-code-requires
 push-code-requires c κs = (search needs, (sufficient-high 11 (omega arith), search needs))
 
--- src/lib.rt:832:5
 returns-2 : tie.Need-returns-2
 returns-2 c = search (zk-drop-done)
 
