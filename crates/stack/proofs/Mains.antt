@@ -3,7 +3,7 @@ use mathlib.Core.Bool.{true}
 use mathlib.Core.Path.{_≡_, refl, sym, ap, _∙_}
 use mathlib.Core.List.{List, [], _∷_, _++_}
 use Prim.Native.Nat.{ℕ, zero, suc, _+_, _-_, _≤_, _<_}
-use native.Mathlib.Nat.{add-zero, add-suc, add-assoc, add-comm, sub-zero}
+use native.Mathlib.Nat.{add-zero}
 use native.Mathlib.Numerals.{add-one}
 use native.Mathlib.Omega.{arith}
 use borrow.Author.Tests.{le-leb, lt-leb}
@@ -15,7 +15,7 @@ use Rattle.definition.specs.Refusals as D
 use Rattle.definition.specs.Stacks as S
 use Rattle.definition.specs.Stacks.{pushItem, dropItems, copyItems, rotateItems, tuckTop, nipSecond}
 use Rattle.definition.specs.Walk.{Item, unknown, marking}
-use Rattle.stack.specs.View.{refusalOf, Slots, slots, slotsOf, slotItem, sufficient, codeOf, cells, backs, tops, view, plain, Canon, Sound, Fit, Says, Steps}
+use Rattle.stack.specs.View.{refusalOf, Slots, slots, slotsOf, slotItem, sufficient, cells, backs, tops, view, plain, Canon, Fit, Says, Steps}
 use Rattle.stack.specs.Parts.{Suffice, apart, Copied, turn, Turned, without}
 use Rattle.stack.specs.declared.Stacks.{Stacks}
 use Rattle.stack.specs.declared.Refusal.{Refusal}

@@ -1,5 +1,4 @@
 use Rattle.stack.proofs.Mains.{effect-dry, effect-none, effect-full, effect-mark}
-use native.Mathlib.Omega.{arith}
 use borrow.Author.Needs.{needs}
 use Rattle.stack.proofs.Stacks.apply_effect.Statement.{statement}
 use Rattle.stack.proofs.Stacks.apply_effect.Tie as tie
