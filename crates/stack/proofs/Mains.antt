@@ -143,6 +143,12 @@ module _ (s : Stacks) (f : Fit s) (k : ℕ) where
         pub effect-mark : Steps (stepped (s .bytes) (set (s .codes) (s .mains - k) 9) (s .mains - k + 1) (s .alts)) limit (plain k pushes) (view s)
         effect-mark = effect-one _ (push-mark (without s k) without-fit limit t g 9 (omega arith) (sufficient-high 9 (omega arith)))
 
+        -- the slot is unknown already
+        pub effect-still : getD (s .codes) (s .mains - k) 0 ≡ 9 → Steps (stepped (s .bytes) (s .codes) (s .mains - k + 1) (s .alts)) limit (plain k pushes) (view s)
+        effect-still e =
+            let z : set (s .codes) (s .mains - k) 9 ≡ s .codes = ap (set (s .codes) (s .mains - k)) (sym e) ∙ set-getD (s .codes) (s .mains - k) 0 in
+            rw z at effect-mark
+
 -- Copies and rotations
 
 module _ (s : Stacks) (f : Fit s) (limit depth count : ℕ) where
