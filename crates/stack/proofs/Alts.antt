@@ -1,7 +1,7 @@
 -- Transfers between main and alt.
-use mathlib.Core.Path.{_≡_, refl, sym, ap, _∙_}
-use mathlib.Core.List.{List, [], _∷_}
-use Prim.Native.Nat.{ℕ, zero, suc, _+_, _-_, _≤_, _<_}
+use mathlib.Core.Path.{_≡_, refl, sym, _∙_}
+use mathlib.Core.List.{List, _∷_}
+use Prim.Native.Nat.{ℕ, _+_, _-_, _≤_, _<_}
 use native.Mathlib.Nat.{add-zero}
 use native.Mathlib.Numerals.{add-one}
 use native.Mathlib.Omega.{arith}
@@ -10,7 +10,7 @@ use lib.ListN.{getD}
 use Rattle.definition.specs.Stacks as S
 use Rattle.definition.specs.Stacks.{moveToAlt, moveFromAlt}
 use Rattle.definition.specs.Walk.{Item, unknown}
-use Rattle.stack.specs.View.{Slots, slots, slotsOf, cells, backs, tops, view, Sound, Fit, Says}
+use Rattle.stack.specs.View.{slots, slotsOf, cells, backs, tops, view, Sound, Fit, Says}
 use Rattle.stack.specs.Parts.{Suffice, apart, Copied}
 use Rattle.stack.specs.declared.Stacks.{Stacks}
 use Rattle.stack.specs.declared.Refusal.the-variants.{MainDry, AltDry}

@@ -1,19 +1,17 @@
 -- The codes of slots, and the items that they say.
-use mathlib.Core.Bool.{Bool, true, false, _&&_, _||_}
-use mathlib.Core.Path.{_≡_, refl, sym, ap, _∙_, subst⁻¹}
-use mathlib.Core.List.{List, [], _∷_}
-use Prim.Native.Nat.{ℕ, zero, suc, _+_, _-_, _%_, _^_, _≤_, _<_}
+use mathlib.Core.Bool.{Bool, true, false}
+use mathlib.Core.Path.{_≡_, refl, sym, ap, _∙_}
+use mathlib.Core.List.{[], _∷_}
+use Prim.Native.Nat.{ℕ, _+_, _-_, _%_, _≤_, _<_}
 use native.Mathlib.Omega.{arith}
 use borrow.Author.Tests.{leb-true, leb-false, eqb-true, eqb-false, le-leb, lt-leb, ne-eqb}
 use lib.Dec.{leb, eqb}
 use lib.ListN.{length}
-use Rattle.definition.specs.Basics.{Bytes, pick}
 use Rattle.definition.specs.Decoding.{number}
-use Rattle.definition.specs.Replay.{AreBytes}
-use Rattle.definition.specs.Walk.{Item, unknown, exact}
+use Rattle.definition.specs.Walk.{unknown, exact}
 use Rattle.decode.specs.View.{lowBytes, Held}
 use Rattle.decode.specs.declared.Value.the-variants.{Exact}
-use Rattle.decode.proofs.Bytes.{length-low, number-low, low-number, number-below, bytes-low}
+use Rattle.decode.proofs.Bytes.{length-low, number-low}
 use Rattle.stack.specs.View.{slotItem, sufficient, codeOf, slotCode, itemNumber, slotBytes, Canon}
 
 pub either : (i j : ℕ) (C : Type 0) → (i ≡ j → C) → ((i ≡ j → ⊥) → C) → C

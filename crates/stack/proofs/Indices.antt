@@ -1,20 +1,16 @@
 -- PICK, ROLL, DEPTH, SIZE and ZK.
 use mathlib.Core.Path.{_≡_, refl, sym, ap, _∙_}
-use mathlib.Core.Bool.{Bool, true, false}
-use mathlib.Core.List.{List, [], _∷_}
 use mathlib.Core.Option.{some}
 use Prim.Native.Nat.{ℕ, zero, suc, _+_, _-_, _%_, _^_, _≤_, _<_}
 use native.Mathlib.Omega.{arith}
 use borrow.Author.Tests.{le-leb, lt-leb, ne-eqb}
-use lib.Dec.{leb}
 use lib.ListN.{length, getD}
-use Rattle.definition.specs.Basics.{pick}
 use Rattle.definition.specs.Classes.{DEPTH, SIZE, PICK, ZK}
-use Rattle.definition.specs.Decoding.{Instruction, serialize, plus}
-use Rattle.definition.specs.Refusals.{mainDry, badTag}
+use Rattle.definition.specs.Decoding.{serialize, plus}
+use Rattle.definition.specs.Refusals.{mainDry}
 use Rattle.definition.specs.Stacks as S
-use Rattle.definition.specs.Stacks.{pushItem, dropItems, copyItems, rotateItems, pop, popIndex, sizeItem, zkDrop, zkBy, tagOf, noTag, groth16, r0Succinct, step}
-use Rattle.definition.specs.Walk.{Item, unknown, exact, known, bytesKnown, marking}
+use Rattle.definition.specs.Stacks.{pushItem, dropItems, copyItems, rotateItems, popIndex, sizeItem, zkDrop, zkBy, tagOf, noTag, groth16, r0Succinct, step}
+use Rattle.definition.specs.Walk.{Item, known, bytesKnown, marking}
 use Rattle.decode.specs.View.{lowBytes, itemOf, valueOf, Held}
 use Rattle.decode.specs.declared.Value.{Value}
 use Rattle.decode.proofs.Bytes.{length-low}
@@ -27,7 +23,7 @@ use Rattle.stack.specs.declared.Refusal.the-variants.{MainDry, BadTag}
 use Rattle.stack.specs.declared.Count.the-variants as C
 use Rattle.stack.specs.declared.Count.{Count}
 use Rattle.stack.specs.declared.Stepped.{Stepped}
-use Rattle.stack.proofs.Codes.{either, by-code, item-low, item-high, item-none}
+use Rattle.stack.proofs.Codes.{either, by-code, item-low, item-high}
 use Rattle.stack.proofs.Laws.{length-tops}
 use Rattle.stack.proofs.Mains.{refusing, refuses, steps, without-fit, drop-dry, drop-is}
 use Rattle.stack.proofs.Pops.{pop-dry, pop-is, had-one, on-at, on-refused}

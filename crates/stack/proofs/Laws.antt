@@ -9,7 +9,6 @@ use borrow.Author.Tests.{ltb-true, ltb-false, lt-ltb, le-ltb}
 use lib.Dec.{ltb}
 use lib.ListN.{length, take, drop, getD, set, length-set, length-append}
 use lib.Seq.{getD-set-same, getD-set-other, set-set, take-at, drop-at}
-use Rattle.definition.specs.Basics.{pick}
 use Rattle.definition.specs.Walk.{Item}
 use Rattle.stack.specs.View.{Slots, slots, slotItem, sufficient, cells, tops, Canon, Sound}
 use Rattle.stack.specs.Parts.{Suffice, Each, Moved, apart, Copied, turn, Turned}

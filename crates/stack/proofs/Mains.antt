@@ -3,7 +3,7 @@ use mathlib.Core.Bool.{true}
 use mathlib.Core.Path.{_≡_, refl, sym, ap, _∙_}
 use mathlib.Core.List.{List, [], _∷_, _++_}
 use Prim.Native.Nat.{ℕ, zero, suc, _+_, _-_, _≤_, _<_}
-use native.Mathlib.Nat.{add-zero, add-suc, add-assoc, add-comm, sub-zero}
+use native.Mathlib.Nat.{add-zero}
 use native.Mathlib.Numerals.{add-one}
 use native.Mathlib.Omega.{arith}
 use borrow.Author.Tests.{le-leb, lt-leb}
@@ -15,7 +15,7 @@ use Rattle.definition.specs.Refusals as D
 use Rattle.definition.specs.Stacks as S
 use Rattle.definition.specs.Stacks.{pushItem, dropItems, copyItems, rotateItems, tuckTop, nipSecond}
 use Rattle.definition.specs.Walk.{Item, unknown, marking}
-use Rattle.stack.specs.View.{refusalOf, Slots, slots, slotsOf, slotItem, sufficient, codeOf, cells, backs, tops, view, plain, Canon, Sound, Fit, Says, Steps}
+use Rattle.stack.specs.View.{refusalOf, Slots, slots, slotsOf, slotItem, sufficient, cells, backs, tops, view, plain, Canon, Fit, Says, Steps}
 use Rattle.stack.specs.Parts.{Suffice, apart, Copied, turn, Turned, without}
 use Rattle.stack.specs.declared.Stacks.{Stacks}
 use Rattle.stack.specs.declared.Refusal.{Refusal}
@@ -142,6 +142,12 @@ module _ (s : Stacks) (f : Fit s) (k : ℕ) where
       module _ (t : limit ≤ 244) (g : s .mains - k + s .alts + 1 ≤ limit) where
         pub effect-mark : Steps (stepped (s .bytes) (set (s .codes) (s .mains - k) 9) (s .mains - k + 1) (s .alts)) limit (plain k pushes) (view s)
         effect-mark = effect-one _ (push-mark (without s k) without-fit limit t g 9 (omega arith) (sufficient-high 9 (omega arith)))
+
+        -- the slot is unknown already
+        pub effect-still : getD (s .codes) (s .mains - k) 0 ≡ 9 → Steps (stepped (s .bytes) (s .codes) (s .mains - k + 1) (s .alts)) limit (plain k pushes) (view s)
+        effect-still e =
+            let z : set (s .codes) (s .mains - k) 9 ≡ s .codes = ap (set (s .codes) (s .mains - k)) (sym e) ∙ set-getD (s .codes) (s .mains - k) 0 in
+            rw z at effect-mark
 
 -- Copies and rotations
 

@@ -1,5 +1,4 @@
 -- The one form of stacks: `packed` gives stacks that fit, and they show what they were made of. Heights.
-use mathlib.Core.Bool.{Bool, true, false}
 use mathlib.Core.Path.{_≡_, refl, ap, _∙_, subst⁻¹}
 use mathlib.Core.List.{List, [], _∷_, _++_, reverse, reverseAux, reverse-cons, append-assoc}
 use Prim.Native.Nat.{ℕ, zero, suc, _+_, _-_, _≤_, _<_}
@@ -11,11 +10,10 @@ use Rattle.definition.specs.Decoding.{number}
 use Rattle.definition.specs.Replay.{AreBytes}
 use Rattle.definition.specs.Stacks as S
 use Rattle.definition.specs.Walk.{Item, unknown, exact}
-use Rattle.decode.specs.View.{lowBytes}
 use Rattle.decode.proofs.Bytes.{length-low, low-number, number-below, bytes-low}
 use Rattle.stack.specs.View.{slotsOf, slotItem, sufficient, codeOf, cells, backs, tops, view, slotCode, slotBytes, pool, packed, Canon, Fit}
 use Rattle.stack.specs.declared.Stacks.{Stacks}
-use Rattle.stack.proofs.Codes.{either, either-le, by-code, item-low, item-high, item-none, sufficient-high, sufficient-low, canon-sufficient, canon-unknown, canon-none, code-long, code-small, code-large}
+use Rattle.stack.proofs.Codes.{either-le, by-code, item-low, item-high, item-none, sufficient-high, sufficient-low, canon-sufficient, canon-unknown, canon-none, code-long, code-small, code-large}
 use Rattle.stack.proofs.Laws.{length-tops, tops-ext}
 
 -- Heights

@@ -9,12 +9,12 @@ use native.Mathlib.Omega.{arith}
 use borrow.Author.Tests.{ltb-true, ltb-false}
 use lib.Dec.{ltb}
 use lib.ListN.{length, getD, set, replicate, getD-replicate, List·getD-eq-default}
-use Rattle.definition.specs.Walk.{Item, unknown, unknowns}
-use Rattle.stack.specs.View.{Slots, slots, slotsOf, slotItem, sufficient, cells, backs, tops, view, Canon, Sound, Fit, Fresh, slotCode, slotBytes, pool, packed}
+use Rattle.definition.specs.Walk.{Item, unknown}
+use Rattle.stack.specs.View.{Slots, slots, slotsOf, sufficient, cells, backs, tops, view, Canon, Sound, Fit, Fresh, slotCode, slotBytes, packed}
 use Rattle.stack.specs.Parts.{Each, ClearAt, SameAt}
 use Rattle.stack.specs.declared.Stacks.{Stacks}
 use Rattle.stack.proofs.Codes.{canon-unknown, canon-none, clear-code}
-use Rattle.stack.proofs.Laws.{length-tops, tops-ext, each-more}
+use Rattle.stack.proofs.Laws.{length-tops, each-more}
 
 -- Fresh stacks
 

@@ -1,9 +1,9 @@
 -- Items popped one by one: indices, counts and tags.
-use mathlib.Core.Path.{_≡_, refl, sym, ap, _∙_}
+use mathlib.Core.Path.{_≡_, refl, sym, _∙_}
 use mathlib.Core.Bool.{Bool, true, false, _&&_}
-use mathlib.Core.List.{List, [], _∷_}
+use mathlib.Core.List.{[], _∷_}
 use mathlib.Core.Option.{none, some}
-use Prim.Native.Nat.{ℕ, zero, suc, _+_, _-_, _*_, _%_, _^_, _≤_, _<_}
+use Prim.Native.Nat.{ℕ, _+_, _-_, _*_, _%_, _^_, _≤_, _<_}
 use native.Mathlib.Nat.{add-zero, pow-succ', pow-le-pow-right}
 use native.Mathlib.Omega.{arith}
 use borrow.Author.Tests.{ltb-true}
@@ -14,10 +14,10 @@ use lib.ListN.{length, getD}
 use Rattle.definition.specs.Basics.{Bytes, pick}
 use Rattle.definition.specs.Decoding.{number, last, minimal, value, deserialize, indexRead, indexOf}
 use Rattle.definition.specs.Decoding as D
-use Rattle.definition.specs.Refusals.{mainDry, badIndex}
+use Rattle.definition.specs.Refusals.{mainDry}
 use Rattle.definition.specs.Stacks as S
 use Rattle.definition.specs.Stacks.{pop, popIndex, readable}
-use Rattle.definition.specs.Walk.{Item, unknown, exact, bytesKnown, marking}
+use Rattle.definition.specs.Walk.{Item, bytesKnown, marking}
 use Rattle.definition.specs.Replay.{AreBytes}
 use Rattle.decode.specs.View.{lowBytes, itemOf, Held, indexed}
 use Rattle.decode.specs.declared.Value.{Value}
@@ -25,7 +25,7 @@ use Rattle.decode.specs.declared.Value.the-variants.{Unknown, Exact}
 use Rattle.decode.specs.declared.Index.{Index}
 use Rattle.decode.specs.declared.Index.the-variants as I
 use Rattle.decode.proofs.Bytes.{bytes-low, length-low}
-use Rattle.stack.specs.View.{slotsOf, slotItem, sufficient, cells, tops, view, Canon, Fit, Says}
+use Rattle.stack.specs.View.{slotsOf, sufficient, cells, view, Canon, Fit, Says}
 use Rattle.stack.specs.Parts.{InSlot, countOf, without, Small, counted, Pops}
 use Rattle.stack.specs.declared.Stacks.{Stacks}
 use Rattle.stack.specs.declared.Refusal.{Refusal}
@@ -33,9 +33,9 @@ use Rattle.stack.specs.declared.Refusal.the-variants.{MainDry, BadIndex}
 use Rattle.stack.specs.declared.Stepped.{Stepped}
 use Rattle.stack.specs.declared.Count.{Count}
 use Rattle.stack.specs.declared.Count.the-variants as C
-use Rattle.stack.proofs.Codes.{either, item-low, item-high, item-none, same-item, same-canon, is-sufficient, not-sufficient}
+use Rattle.stack.proofs.Codes.{either, item-low, item-high, item-none, same-item, same-canon, not-sufficient}
 use Rattle.stack.proofs.Laws.{tops-seg}
-use Rattle.stack.proofs.Mains.{without-fit, refusing, refuses}
+use Rattle.stack.proofs.Mains.{refusing, refuses}
 
 -- The value in a slot
 

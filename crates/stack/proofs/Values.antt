@@ -1,7 +1,7 @@
 -- Pushes of values, by their codes and with their bytes.
 use mathlib.Core.Bool.{true, false}
-use mathlib.Core.Path.{_≡_, refl, sym, ap, _∙_}
-use Prim.Native.Nat.{ℕ, _+_, _≤_, _<_}
+use mathlib.Core.Path.{_≡_, ap, _∙_}
+use Prim.Native.Nat.{ℕ, _+_, _≤_}
 use native.Mathlib.Omega.{arith}
 use mir.Syntax.{w8}
 use mir.Val.{Fits}
@@ -23,13 +23,8 @@ held-exact v len n e h = rw e at h
 pub unknown-suffices : sufficient 9 ≡ true
 unknown-suffices = sufficient-high 9 (omega arith)
 
--- a code that suffices, and one that does not
-module _ (code c : ℕ) (e : code ≡ c) where
-  pub code-suffices : sufficient code ≡ true → sufficient c ≡ true
-  code-suffices h = rw e at h
-
-  pub code-wants : sufficient code ≡ false → sufficient c ≡ false
-  code-wants h = rw e at h
+pub code-wants : (code c : ℕ) → code ≡ c → sufficient code ≡ false → sufficient c ≡ false
+code-wants code c e h = rw e at h
 
 module _ (s : Stacks) (f : Fit s) (limit : ℕ) (t : limit ≤ 244) (h : s .mains + s .alts + 1 ≤ limit) where
   pub push-code : (code : ℕ) → Fits w8 code → sufficient code ≡ true → Says (stepped (s .bytes) (set (s .codes) (s .mains) code) (s .mains + 1) (s .alts)) (pushItem limit (slotItem code 0) (view s))

@@ -63,7 +63,7 @@ slotItem code bytes = pick (leb code 8) (exact (lowBytes code bytes)) (pick (leb
 unfoldable pub sufficient : ℕ → Bool
 sufficient code = eqb code 0 || leb 9 code
 
--- the code of an exact item of len bytes, which are the number n
+-- the code of an exact item of len bytes, which are the number n: 10 + n of one byte up to 245, the length of any other
 unfoldable pub codeOf : ℕ → ℕ → ℕ
 codeOf len n = pick (eqb len 1 && leb n 245) (10 + n) len
 

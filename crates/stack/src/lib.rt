@@ -447,6 +447,12 @@ impl Stacks {
         let i = n as usize;
         self.mains = n + 1;
         let mut codes = self.codes;
+        if codes[i] == 9 {
+            return Stepped {
+                stacks: self,
+                answer: Answer::Done,
+            };
+        }
         codes[i] = 9;
         self.codes = codes;
         Stepped {

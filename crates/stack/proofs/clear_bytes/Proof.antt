@@ -1,6 +1,5 @@
 use mathlib.Core.Path.{sym, _∙_}
 use Rattle.stack.proofs.Codes.{clear-none, clear-some}
-use native.Mathlib.Omega.{arith}
 use borrow.Author.Needs.{needs}
 use Rattle.stack.proofs.clear_bytes.Statement.{statement}
 use Rattle.stack.proofs.clear_bytes.Tie as tie

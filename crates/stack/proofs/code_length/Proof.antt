@@ -1,6 +1,4 @@
 use Rattle.stack.proofs.Indices.{length-of, length-one}
-use borrow.Author.Needs.{needs}
-use native.Mathlib.Omega.{arith}
 use Rattle.stack.proofs.code_length.Statement.{statement}
 use Rattle.stack.proofs.code_length.Tie as tie
 use Rattle.stack.proofs.code_length.Reads as reads

@@ -1,5 +1,4 @@
 use Rattle.stack.proofs.Codes.{code-long, code-small, code-large}
-use native.Mathlib.Omega.{arith}
 use borrow.Author.Needs.{needs}
 use Rattle.stack.proofs.code_of.Statement.{statement}
 use Rattle.stack.proofs.code_of.Tie as tie

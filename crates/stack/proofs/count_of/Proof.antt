@@ -1,5 +1,4 @@
 use Rattle.stack.proofs.Pops.{count-at, count-unknown, count-no-number, count-negative}
-use native.Mathlib.Omega.{arith}
 use borrow.Author.Needs.{needs}
 use Rattle.stack.proofs.count_of.Statement.{statement}
 use Rattle.stack.proofs.count_of.Tie as tie

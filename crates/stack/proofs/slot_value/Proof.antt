@@ -1,5 +1,4 @@
 use Rattle.stack.proofs.Pops.{slot-unknown, slot-byte, slot-exact}
-use native.Mathlib.Omega.{arith}
 use borrow.Author.Needs.{needs}
 use Rattle.stack.proofs.slot_value.Statement.{statement}
 use Rattle.stack.proofs.slot_value.Tie as tie

@@ -1,6 +1,4 @@
 use Rattle.stack.proofs.Codes.{sufficient-none, sufficient-test}
-use borrow.Author.Needs.{needs}
-use native.Mathlib.Omega.{arith}
 use Rattle.stack.proofs.suffices.Statement.{statement}
 use Rattle.stack.proofs.suffices.Tie as tie
 use Rattle.stack.proofs.suffices.Reads as reads

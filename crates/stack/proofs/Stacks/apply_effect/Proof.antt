@@ -1,5 +1,4 @@
-use Rattle.stack.proofs.Mains.{effect-dry, effect-none, effect-full, effect-mark}
-use native.Mathlib.Omega.{arith}
+use Rattle.stack.proofs.Mains.{effect-dry, effect-none, effect-full, effect-still, effect-mark}
 use borrow.Author.Needs.{needs}
 use Rattle.stack.proofs.Stacks.apply_effect.Statement.{statement}
 use Rattle.stack.proofs.Stacks.apply_effect.Tie as tie
@@ -33,11 +32,17 @@ cast-i c = search needs
 add-self : tie.Need-add-self
 add-self c = search needs
 
+array-read-if4 : tie.Need-array-read-if4
+array-read-if4 c = search needs
+
+returns-4 : tie.Need-returns-4
+returns-4 c = search (effect-still)
+
 array-write-codes : tie.Need-array-write-codes
 array-write-codes c = search needs
 
-returns-4 : tie.Need-returns-4
-returns-4 c = search (effect-mark)
+returns-5 : tie.Need-returns-5
+returns-5 c = search (effect-mark)
 
 pub apply-effect-spec : {M : Type 1} → statement M
 apply-effect-spec =
@@ -52,5 +57,7 @@ apply-effect-spec =
     returns-3
     cast-i
     add-self
+    array-read-if4
+    returns-4
     array-write-codes
-    returns-4)
+    returns-5)

@@ -1,5 +1,4 @@
 use Rattle.stack.proofs.Packs.{cleared-is}
-use native.Mathlib.Omega.{arith}
 use borrow.Author.Needs.{needs}
 use Rattle.stack.proofs.Stacks.cleared.Statement.{statement}
 use Rattle.stack.proofs.Stacks.cleared.Tie as tie

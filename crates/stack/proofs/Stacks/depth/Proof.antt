@@ -1,5 +1,4 @@
 use Rattle.stack.proofs.Indices.{number-held, depth-done}
-use native.Mathlib.Omega.{arith}
 use borrow.Author.Needs.{needs}
 use Rattle.stack.proofs.Stacks.depth.Statement.{statement}
 use Rattle.stack.proofs.Stacks.depth.Tie as tie

@@ -1,5 +1,4 @@
 use Rattle.stack.proofs.Mains.{drop-dry, drop-done}
-use native.Mathlib.Omega.{arith}
 use borrow.Author.Needs.{needs}
 use Rattle.stack.proofs.Stacks.drop_items.Statement.{statement}
 use Rattle.stack.proofs.Stacks.drop_items.Tie as tie

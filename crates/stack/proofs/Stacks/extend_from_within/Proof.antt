@@ -1,5 +1,4 @@
 use Rattle.stack.proofs.Mains.{copy-dry, copy-full, copy-codes, copy-done}
-use native.Mathlib.Omega.{arith}
 use borrow.Author.Needs.{needs}
 use Rattle.stack.proofs.Stacks.extend_from_within.Statement.{statement}
 use Rattle.stack.proofs.Stacks.extend_from_within.Tie as tie

@@ -1,5 +1,4 @@
 use Rattle.stack.proofs.Joins.{join-main, join-alt, join-done, joined-sound}
-use native.Mathlib.Omega.{arith}
 use borrow.Author.Needs.{needs}
 use Rattle.stack.proofs.Stacks.join.Statement.{statement}
 use Rattle.stack.proofs.Stacks.join.Tie as tie

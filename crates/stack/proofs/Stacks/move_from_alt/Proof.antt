@@ -1,5 +1,4 @@
 use Rattle.stack.proofs.Alts.{from-alt-dry, from-alt-still, from-alt-codes, from-alt-done}
-use native.Mathlib.Omega.{arith}
 use borrow.Author.Needs.{needs}
 use Rattle.stack.proofs.Stacks.move_from_alt.Statement.{statement}
 use Rattle.stack.proofs.Stacks.move_from_alt.Tie as tie

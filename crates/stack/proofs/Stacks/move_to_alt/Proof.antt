@@ -1,5 +1,4 @@
 use Rattle.stack.proofs.Alts.{to-alt-dry, to-alt-still, to-alt-codes, to-alt-done}
-use native.Mathlib.Omega.{arith}
 use borrow.Author.Needs.{needs}
 use Rattle.stack.proofs.Stacks.move_to_alt.Statement.{statement}
 use Rattle.stack.proofs.Stacks.move_to_alt.Tie as tie

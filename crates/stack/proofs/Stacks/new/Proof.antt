@@ -1,6 +1,4 @@
 use Rattle.stack.proofs.Packs.{fresh}
-use borrow.Author.Needs.{needs}
-use native.Mathlib.Omega.{arith}
 use Rattle.stack.proofs.Stacks.new.Statement.{statement}
 use Rattle.stack.proofs.Stacks.new.Tie as tie
 use Rattle.stack.proofs.Stacks.new.Reads as reads

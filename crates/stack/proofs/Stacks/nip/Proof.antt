@@ -1,5 +1,4 @@
 use Rattle.stack.proofs.Mains.{nip-dry, nip-codes, nip-done}
-use native.Mathlib.Omega.{arith}
 use borrow.Author.Needs.{needs}
 use Rattle.stack.proofs.Stacks.nip.Statement.{statement}
 use Rattle.stack.proofs.Stacks.nip.Tie as tie

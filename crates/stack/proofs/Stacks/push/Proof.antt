@@ -1,6 +1,5 @@
 use mathlib.Core.Path.{sym, _∙_}
-use Rattle.stack.proofs.Values.{held-exact, unknown-suffices, code-suffices, code-wants, push-is-code, push-is-exact, push-is-unknown}
-use native.Mathlib.Omega.{arith}
+use Rattle.stack.proofs.Values.{held-exact, unknown-suffices, code-wants, push-is-code, push-is-exact, push-is-unknown}
 use borrow.Author.Needs.{needs}
 use Rattle.stack.proofs.Stacks.push.Statement.{statement}
 use Rattle.stack.proofs.Stacks.push.Tie as tie

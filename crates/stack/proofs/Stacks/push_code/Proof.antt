@@ -1,6 +1,5 @@
 use Rattle.stack.proofs.Mains.{push-full}
 use Rattle.stack.proofs.Values.{push-code}
-use native.Mathlib.Omega.{arith}
 use borrow.Author.Needs.{needs}
 use Rattle.stack.proofs.Stacks.push_code.Statement.{statement}
 use Rattle.stack.proofs.Stacks.push_code.Tie as tie

@@ -1,6 +1,5 @@
 use Rattle.stack.proofs.Pops.{next-fits, had-one}
 use Rattle.stack.proofs.Indices.{roll-at, roll-refused}
-use native.Mathlib.Omega.{arith}
 use borrow.Author.Needs.{needs}
 use Rattle.stack.proofs.Stacks.roll.Statement.{statement}
 use Rattle.stack.proofs.Stacks.roll.Tie as tie

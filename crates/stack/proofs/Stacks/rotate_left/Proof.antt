@@ -1,5 +1,4 @@
 use Rattle.stack.proofs.Mains.{rotate-dry, rotate-codes, rotate-done}
-use native.Mathlib.Omega.{arith}
 use borrow.Author.Needs.{needs}
 use Rattle.stack.proofs.Stacks.rotate_left.Statement.{statement}
 use Rattle.stack.proofs.Stacks.rotate_left.Tie as tie

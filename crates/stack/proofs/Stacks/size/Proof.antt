@@ -1,5 +1,4 @@
 use Rattle.stack.proofs.Indices.{number-held, size-dry, size-unknown, size-done}
-use native.Mathlib.Omega.{arith}
 use borrow.Author.Needs.{needs}
 use Rattle.stack.proofs.Stacks.size.Statement.{statement}
 use Rattle.stack.proofs.Stacks.size.Tie as tie

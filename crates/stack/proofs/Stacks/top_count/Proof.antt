@@ -1,6 +1,5 @@
 use mathlib.Core.Path.{sym, _∙_}
 use Rattle.stack.proofs.Pops.{code-alone, with-bytes, pops-dry, pops-code, pops-bytes}
-use native.Mathlib.Omega.{arith}
 use borrow.Author.Needs.{needs}
 use Rattle.stack.proofs.Stacks.top_count.Statement.{statement}
 use Rattle.stack.proofs.Stacks.top_count.Tie as tie

@@ -1,5 +1,4 @@
 use Rattle.stack.proofs.Mains.{tuck-dry-1, tuck-dry-2, tuck-full, tuck-codes, tuck-done}
-use native.Mathlib.Omega.{arith}
 use borrow.Author.Needs.{needs}
 use Rattle.stack.proofs.Stacks.tuck.Statement.{statement}
 use Rattle.stack.proofs.Stacks.tuck.Tie as tie

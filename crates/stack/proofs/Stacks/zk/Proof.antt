@@ -1,5 +1,4 @@
 use Rattle.stack.proofs.Indices.{zk-dry, zk-other, zk-r0, zk-short, zk-four, zk-at, zk-refused}
-use native.Mathlib.Omega.{arith}
 use borrow.Author.Needs.{needs}
 use Rattle.stack.proofs.Stacks.zk.Statement.{statement}
 use Rattle.stack.proofs.Stacks.zk.Tie as tie
