@@ -1,6 +1,7 @@
 //! What is compared: every small fragment, then generated cases.
 
 use tools::case;
+use tools::case::Case;
 use tools::generate::{Kind, body, case, mutate, planned, start};
 use tools::model::{FAULTS, Fault, Writer};
 use tools::rng::Rng;
@@ -430,22 +431,30 @@ fn limits<M: Marker>(worker: &mut Worker<M>, chunk: u64, cases: usize) -> Done {
         return Ok(());
     }
     for _ in 0..cases / 2 {
-        let case = case(&mut worker.rng, Kind::Limits);
-        worker.limits(case.bytes())?;
-        let mut damaged = case.bytes().to_vec();
+        let bytes = bytes_of(case(&mut worker.rng, Kind::Limits));
+        worker.limits(&bytes)?;
+        let mut damaged = bytes;
         mutate(&mut worker.rng, &mut damaged);
         worker.limits(&damaged)?;
     }
     Ok(())
 }
 
+/// The bytes of a case of limits or a paper.
+fn bytes_of(case: Case) -> Vec<u8> {
+    match case {
+        Case::Limits { bytes } | Case::Paper { bytes } => bytes,
+        other => panic!("limits or a paper were asked for, not {other:?}"),
+    }
+}
+
 /// Half of them damaged copies of the other half.
 fn papers<M: Marker>(worker: &mut Worker<M>, cases: usize) -> Done {
     for _ in 0..cases / 2 {
-        let case = case(&mut worker.rng, Kind::Paper);
-        let mut damaged = case.bytes().to_vec();
+        let whole = bytes_of(case(&mut worker.rng, Kind::Paper));
+        let mut damaged = whole.clone();
         mutate(&mut worker.rng, &mut damaged);
-        for bytes in [case.bytes(), &damaged] {
+        for bytes in [&whole, &damaged] {
             let lent = if worker.rng.percent(8) { worker.rng.below(bytes.len() + 1) } else { enough(bytes) };
             worker.paper(bytes, lent)?;
         }
