@@ -46,6 +46,10 @@ module _ (s : Stacks) (f : Fit s) where
       );
     }
 
+    -- the slot is the same
+    pub to-alt-same : s .mains - 1 ≡ 243 - s .alts → Says (stepped (s .bytes) (s .codes) (s .mains - 1) (s .alts + 1)) (moveToAlt (view s))
+    to-alt-same x = to-alt (s .bytes) (s .codes) (f .sound) (rw x) (λ j n. refl)
+
     -- both are unknown already
     pub to-alt-still : getD (s .codes) (s .mains - 1) 0 ≡ 9 → getD (s .codes) (243 - s .alts) 0 ≡ 9 → Says (stepped (s .bytes) (s .codes) (s .mains - 1) (s .alts + 1)) (moveToAlt (view s))
     to-alt-still x z = to-alt (s .bytes) (s .codes) (f .sound) (item-none _ _ z ∙ sym (item-none _ _ x)) (λ j n. refl)

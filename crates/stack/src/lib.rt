@@ -557,6 +557,7 @@ impl Stacks {
     {
         let m = self.mains;
         let a = self.alts;
+        let wanted = m + a + 1;
         if m < 1 {
             return Stepped {
                 stacks: self,
@@ -569,13 +570,10 @@ impl Stacks {
                 answer: Answer::Refused(Refusal::MainDry { needed: 2, had: m }),
             };
         }
-        if limit < m + a + 1 {
+        if limit < wanted {
             return Stepped {
                 stacks: self,
-                answer: Answer::Refused(Refusal::StacksFull {
-                    wanted: m + a + 1,
-                    limit: limit,
-                }),
+                answer: Answer::Refused(Refusal::StacksFull { wanted, limit }),
             };
         }
         let b = (m - 2) as usize;
@@ -649,6 +647,13 @@ impl Stacks {
         let to = (243 - a) as usize;
         self.mains = m - 1;
         self.alts = a + 1;
+        // with 244 items this is the slot that alt takes: the item stays, and no room is wanted
+        if from == to {
+            return Stepped {
+                stacks: self,
+                answer: Answer::Done,
+            };
+        }
         let codes = self.codes;
         if codes[from] == 9 {
             if codes[to] == 9 {

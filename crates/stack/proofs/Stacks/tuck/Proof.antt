@@ -10,23 +10,17 @@ use Rattle.stack.proofs.copy_codes.Reads as copy-codes-reads
 use Rattle.stack.proofs.rotate_bytes.Reads as rotate-bytes-reads
 use Rattle.stack.proofs.rotate_codes.Reads as rotate-codes-reads
 
+add-wanted : tie.Need-add-wanted
+add-wanted c = search needs
+
+add-wanted-2 : tie.Need-add-wanted-2
+add-wanted-2 c = search needs
+
 returns : tie.Need-returns
 returns c = search (tuck-dry-1)
 
 returns-2 : tie.Need-returns-2
 returns-2 c = search (tuck-dry-2)
-
-add-if3 : tie.Need-add-if3
-add-if3 c = search needs
-
-add-if3-2 : tie.Need-add-if3-2
-add-if3-2 c = search needs
-
-add-t20 : tie.Need-add-t20
-add-t20 c = search needs
-
-add-t21 : tie.Need-add-t21
-add-t21 c = search needs
 
 returns-3 : tie.Need-returns-3
 returns-3 c = search (tuck-full)
@@ -74,12 +68,10 @@ pub tuck-spec : {M : Type 1} → statement M
 tuck-spec =
     tie.close
     (tie.spec
+    add-wanted
+    add-wanted-2
     returns
     returns-2
-    add-if3
-    add-if3-2
-    add-t20
-    add-t21
     returns-3
     cast-b
     add-self
