@@ -12,6 +12,11 @@ use Rattle.definition.specs.Basics.{Bytes, pick}
 use Rattle.definition.specs.Lines.{decimalWithin, decimal}
 use Rattle.lines.specs.View.{placed, Written}
 
+-- a text by another name
+pub written-as : {lent : Bytes} {at : ℕ} {t u : Bytes} {new : Bytes} {next : ℕ} → t ≡ u → Written lent at t new next
+    → Written lent at u new next
+written-as {lent} {at} {t} {u} {new} {next} e w = subst (λ (x : Bytes). Written lent at x new next) e w
+
 -- One text behind another
 
 module _ (lent : Bytes) (at : ℕ) (s : Bytes) (within : at ≤ length lent) where

@@ -6,12 +6,12 @@ use mathlib.Core.Path.{_≡_, refl, sym, ap, subst, _∙_}
 use Prim.Native.Nat.{ℕ, suc, _+_, _-_, _*_, _/_, _%_, _≤_, _<_}
 use native.Mathlib.Omega.{arith}
 use borrow.Author.Tests.{lt-ltb, le-ltb, eq-eqb, ne-eqb}
-use lib.ListN.{List·getD-eq-default, length, take, set, getD, replicate, length-append, replicate-append-replicate}
+use lib.ListN.{length, take, set, getD, replicate, length-append, replicate-append-replicate}
 use lib.Seq.{paste-zero, take-suc, take-all}
 use Rattle.definition.specs.Basics.{Bytes}
 use Rattle.definition.specs.Lines.{text, decimal, labelled}
 use Rattle.lines.specs.View.{Written}
-use Rattle.lines.proofs.Texts.{then-written, byte-written, decimal-one, decimal-more}
+use Rattle.lines.proofs.Texts.{written-as, then-written, byte-written, decimal-one, decimal-more}
 use Rattle.definition.specs.Papers.{entryCount, display}
 use Rattle.paper.specs.View.{fragmentAt}
 use Rattle.stack_analysis.specs.declared.Verdict.{Verdict}
@@ -29,14 +29,7 @@ use Rattle.stacklog.specs.Log.{
   liveHeights,
   heights,
   ending,
-  reasons,
-  reason,
 }
-
--- a text by another name
-pub written-as : {lent : Bytes} {at : ℕ} {t u : Bytes} {new : Bytes} {next : ℕ} → t ≡ u → Written lent at t new next
-    → Written lent at u new next
-written-as {lent} {at} {t} {u} {new} {next} e w = subst (λ (x : Bytes). Written lent at x new next) e w
 
 -- a byte so many times
 
@@ -173,20 +166,6 @@ row-written {lent} {new} {next} {offset} {main} {alt} {bytes} fragment log j e f
     ∙ ap (λ m. rowLine (getD log (3 * j) 0) m alt (display fragment fragment (getD log (3 * j) 0) 0)) f
     ∙ ap (λ a. rowLine (getD log (3 * j) 0) (getD log (3 * j + 1) 0) a (display fragment fragment (getD log (3 * j) 0) 0)) g)
     w
-
--- the words of a number
-
-module _ (first second : ℕ) where
-  pub reason-at : {lent : Bytes} {at : ℕ} {new : Bytes} {next : ℕ} (number k : ℕ) → number ≡ k
-      → Written lent at (reason k first second) new next → Written lent at (reason number first second) new next
-  reason-at number k e w = written-as (ap (λ n. reason n first second) (sym e)) w
-
-  pub reason-past : (lent : Bytes) (at number : ℕ) → 23 ≤ number → Written lent at (reason number first second) lent at
-  unfolding reason
-  reason-past lent at number h =
-      let n : at ≡ at + 0 = omega arith in
-      let w : Written lent at [] lent at = record { ends = n; holds = paste-zero lent at [] } in
-      written-as (sym (List·getD-eq-default (reasons first second) [] h)) w
 
 -- the lines around the rows of a fragment
 

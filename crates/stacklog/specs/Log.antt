@@ -2,13 +2,13 @@
 use mathlib.Core.Bool.{Bool, true, false}
 use mathlib.Core.List.{List, [], _∷_, _++_}
 use Prim.Native.Nat.{ℕ, _+_, _-_, _*_, _/_, _%_, min}
-use Prim.Native.String.{String}
 use lib.Dec.{ltb, eqb}
 use lib.ListN.{length, take, getD, replicate}
 use Rattle.definition.specs.Basics.{Bytes, pick}
 use Rattle.definition.specs.Lines.{text, decimal, labelled, name}
 use Rattle.definition.specs.Papers.{entryCount, display}
 use Rattle.paper.specs.View.{fragmentAt}
+use Rattle.reasons.specs.Reasons.{reason}
 use Rattle.stack_analysis.specs.declared.Verdict.{Verdict}
 
 -- An instruction and the heights before it
@@ -85,43 +85,7 @@ ending ended main alt = pick ended (labelled ", end main " main ++ labelled " al
 unfoldable pub acceptedLine : ℕ → Bool → ℕ → ℕ → Bytes
 acceptedLine peak ended main alt = labelled "accepted: peak " peak ++ ending ended main alt ++ text "\n"
 
--- A refusal in words: document 01, section 7
-
--- a word with both figures
-abbrev pub both : String → ℕ → String → ℕ → Bytes
-both word first and second = labelled word first ++ labelled and second
-
--- the word of each number with its figures, from 0 on
-abbrev pub reasons : ℕ → ℕ → List Bytes
-reasons first second =
-    text "accepted"
-    ∷ both "long fragment: length " first ", limit " second
-    ∷ both "start: sum " first ", limit " second
-    ∷ text "malformed"
-    ∷ both "short log: needed " first ", lent " second
-    ∷ both "nesting: open " first ", limit " second
-    ∷ both "stacks full: total wanted " first ", limit " second
-    ∷ both "main dry: needed " first ", had " second
-    ∷ text "alt dry"
-    ∷ text "index"
-    ∷ text "tag"
-    ∷ labelled "unmodelled: opcode " first
-    ∷ text "arms differ"
-    ∷ text "stray ELSE"
-    ∷ text "second ELSE"
-    ∷ text "stray ENDIF"
-    ∷ text "open IF"
-    ∷ both "opcode count: count " first ", limit " second
-    ∷ both "script size: length " first ", limit " second
-    ∷ text "header"
-    ∷ both "dispatch: sum " first ", limit " second
-    ∷ both "long paper: length " first ", limit " second
-    ∷ text "tally full"
-    ∷ []
-
--- that of one number, and nothing for a number past the table
-unfoldable pub reason : ℕ → ℕ → ℕ → Bytes
-reason number first second = getD (reasons first second) number []
+-- A refusal in words
 
 -- number and word
 unfoldable pub refusal : ℕ → ℕ → ℕ → Bytes

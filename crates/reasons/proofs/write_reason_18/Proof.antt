@@ -1,9 +1,9 @@
 use borrow.Author.Needs.{needs}
 use native.Mathlib.Omega.{arith}
-use Rattle.stacklog.specs.Log.{reason}
-use Rattle.stacklog.proofs.Texts.{reason-at}
-use Rattle.stacklog.proofs.write_reason_18.Statement.{statement}
-use Rattle.stacklog.proofs.write_reason_18.Tie as tie
+use Rattle.reasons.specs.Reasons.{reason}
+use Rattle.reasons.proofs.Texts.{reason-at}
+use Rattle.reasons.proofs.write_reason_18.Statement.{statement}
+use Rattle.reasons.proofs.write_reason_18.Tie as tie
 
 slice-aggregate-write-both : tie.Need-slice-aggregate-write-both
 slice-aggregate-write-both c = search needs

@@ -1,8 +1,8 @@
 use borrow.Author.Needs.{needs}
 use native.Mathlib.Omega.{arith}
-use Rattle.stacklog.proofs.Texts.{reason-past}
-use Rattle.stacklog.proofs.write_reason.Statement.{statement}
-use Rattle.stacklog.proofs.write_reason.Tie as tie
+use Rattle.reasons.proofs.Texts.{reason-past}
+use Rattle.reasons.proofs.write_reason.Statement.{statement}
+use Rattle.reasons.proofs.write_reason.Tie as tie
 
 write-reason-0-requires : tie.Need-write-reason-0-requires
 write-reason-0-requires c κs = search needs

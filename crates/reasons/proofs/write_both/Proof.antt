@@ -3,8 +3,8 @@ use native.Mathlib.Omega.{arith}
 use Prim.Native.Nat.{_≤_}
 use lib.ListN.{length}
 use Rattle.lines.proofs.Texts.{then-written}
-use Rattle.stacklog.proofs.write_both.Statement.{statement}
-use Rattle.stacklog.proofs.write_both.Tie as tie
+use Rattle.reasons.proofs.write_both.Statement.{statement}
+use Rattle.reasons.proofs.write_both.Tie as tie
 
 write-labelled-requires : tie.Need-write-labelled-requires
 write-labelled-requires c κs = search needs

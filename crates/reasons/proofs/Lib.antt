@@ -1,0 +1,2 @@
+-- What is proved of the words for this crate's functions.
+mod Texts
