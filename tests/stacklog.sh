@@ -1,23 +1,8 @@
 #!/bin/sh
 # Runs target/bin/stacklog, which `rt check stacklog` builds, on papers of every kind, and compares what it prints. Says how
 # many passed, and exits 1 on a difference.
-root=$(cd "$(dirname "$0")/.." && pwd) || exit 1
-program=$root/target/bin/stacklog
-if [ ! -x "$program" ]; then
-    echo "tests/stacklog.sh: $program is missing: run rt check stacklog" >&2
-    exit 1
-fi
-work=$(mktemp -d) || exit 1
-trap 'rm -rf "$work"' EXIT
-passed=0
-failed=0
-
-# hex BYTES..: the bytes that these hexadecimal numbers stand for
-hex() {
-    for byte in "$@"; do
-        printf "\\$(printf %03o "0x$byte")"
-    done
-}
+name=stacklog
+. "$(dirname "$0")/common.sh"
 
 # field N: a number as two bytes, lowest first
 field() {
@@ -55,20 +40,11 @@ heading="   offset  main   alt  total against 244                               
 on() {
     cat >"$work/expected"
     "$program" <"$work/paper" >"$work/out"
-    if cmp -s "$work/out" "$work/expected"; then
-        passed=$((passed + 1))
-    else
-        failed=$((failed + 1))
-        echo "$1: expected"
-        sed 's/^/    /' "$work/expected"
-        echo "and got"
-        sed 's/^/    /' "$work/out"
-    fi
+    compare "$1"
 }
 
 # The paper of document 01, section 6
 
-hex 01 00 01 00 0e 00 00 00 01 00 0e 00 06 00 63 51 67 52 68 75 >"$work/sample"
 cp "$work/sample" "$work/paper"
 on "the paper of section 6" <<END
 entry 0: length 6, from main 2 alt 0
@@ -381,5 +357,4 @@ $heading
 refused 8 at 2 1 0 0
 END
 
-echo "tests/stacklog.sh: $passed passed, $failed failed"
-[ "$failed" -eq 0 ]
+finish

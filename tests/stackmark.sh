@@ -1,23 +1,8 @@
 #!/bin/sh
 # Runs target/bin/stackmark, which `rt check stackmark` builds, on papers of every kind, and compares what it prints. Says how
 # many passed, and exits 1 on a difference.
-root=$(cd "$(dirname "$0")/.." && pwd) || exit 1
-program=$root/target/bin/stackmark
-if [ ! -x "$program" ]; then
-    echo "tests/stackmark.sh: $program is missing: run rt check stackmark" >&2
-    exit 1
-fi
-work=$(mktemp -d) || exit 1
-trap 'rm -rf "$work"' EXIT
-passed=0
-failed=0
-
-# hex BYTES..: the bytes that these hexadecimal numbers stand for
-hex() {
-    for byte in "$@"; do
-        printf "\\$(printf %03o "0x$byte")"
-    done
-}
+name=stackmark
+. "$(dirname "$0")/common.sh"
 
 # zeros N: so many bytes 00; nothings N: so many bytes 61
 zeros() {
@@ -38,15 +23,7 @@ slowly() {
 # same NAME TEXT: what was printed into $work/out is TEXT
 same() {
     printf "$2" >"$work/expected"
-    if cmp -s "$work/out" "$work/expected"; then
-        passed=$((passed + 1))
-    else
-        failed=$((failed + 1))
-        echo "$1: expected"
-        sed 's/^/    /' "$work/expected"
-        echo "and got"
-        sed 's/^/    /' "$work/out"
-    fi
+    compare "$1"
 }
 
 # on NAME TEXT: the paper on standard input prints TEXT
@@ -56,7 +33,6 @@ on() {
 }
 
 sample='entry 0 peak 2 end 1 0\naccepted\n'
-hex 01 00 01 00 0e 00 00 00 01 00 0e 00 06 00 63 51 67 52 68 75 >"$work/sample"
 on "the paper of section 6" "$sample" <"$work/sample"
 
 on "no byte" 'refused 19 at 0 0 0 0\n' </dev/null
@@ -115,5 +91,4 @@ done
 hex 61 >>"$work/paper"
 on "32 entries and an initialiser" "${lines}state peak 242 end 241 1\\naccepted\\n" <"$work/paper"
 
-echo "$passed passed, $failed failed"
-[ "$failed" = 0 ]
+finish
