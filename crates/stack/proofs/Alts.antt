@@ -10,12 +10,13 @@ use lib.ListN.{getD}
 use Rattle.definition.specs.Stacks as S
 use Rattle.definition.specs.Stacks.{moveToAlt, moveFromAlt}
 use Rattle.definition.specs.Walk.{Item, unknown}
-use Rattle.stack.specs.View.{slots, slotsOf, cells, backs, tops, view, Sound, Fit, Says}
-use Rattle.stack.specs.Parts.{Suffice, apart, Copied}
+use Rattle.slots.specs.View.{slots, cells, backs, tops, Sound}
+use Rattle.slots.specs.Parts.{Suffice, apart, Copied}
+use Rattle.slots.proofs.Codes.{item-none}
+use Rattle.slots.proofs.Laws.{length-tops, tops-ext, tops-seg, Placed, wrote-copies, placed-one, placed-other, copied-both, copied-codes}
+use Rattle.stack.specs.View.{slotsOf, view, Fit, Says}
 use Rattle.stack.specs.declared.Stacks.{Stacks}
 use Rattle.stack.specs.declared.Refusal.the-variants.{MainDry, AltDry}
-use Rattle.stack.proofs.Codes.{item-none}
-use Rattle.stack.proofs.Laws.{length-tops, tops-ext, tops-seg, Placed, wrote-copies, placed-one, placed-other, copied-both, copied-codes}
 use Rattle.stack.proofs.Mains.{stepped, refusing, changed, refuses, says-main}
 
 top : (c : ℕ → Item) (m : ℕ) → 1 ≤ m → tops c m ≡ c (m - 1) ∷ tops c (m - 1)

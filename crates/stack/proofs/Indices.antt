@@ -15,16 +15,18 @@ use Rattle.decode.specs.View.{lowBytes, itemOf, valueOf, Held}
 use Rattle.decode.specs.declared.Value.{Value}
 use Rattle.decode.proofs.Bytes.{length-low}
 use Rattle.decode.proofs.Numbers.{held-number, item-of-number}
-use Rattle.stack.specs.View.{slotsOf, slotItem, cells, view, plain, Canon, Fit, Says, Steps}
-use Rattle.stack.specs.Parts.{codeLength, without, Pops}
+use Rattle.slots.specs.View.{slotItem, cells, Canon}
+use Rattle.slots.specs.Parts.{codeLength}
+use Rattle.slots.proofs.Codes.{either, by-code, item-low, item-high}
+use Rattle.slots.proofs.Laws.{length-tops}
+use Rattle.stack.specs.View.{slotsOf, view, plain, Fit, Says, Steps}
+use Rattle.stack.specs.Parts.{without, Pops}
 use Rattle.stack.specs.declared.Stacks.{Stacks}
 use Rattle.stack.specs.declared.Refusal.{Refusal}
 use Rattle.stack.specs.declared.Refusal.the-variants.{MainDry, BadTag}
 use Rattle.stack.specs.declared.Count.the-variants as C
 use Rattle.stack.specs.declared.Count.{Count}
 use Rattle.stack.specs.declared.Stepped.{Stepped}
-use Rattle.stack.proofs.Codes.{either, by-code, item-low, item-high}
-use Rattle.stack.proofs.Laws.{length-tops}
 use Rattle.stack.proofs.Mains.{refusing, refuses, steps, without-fit, drop-dry, drop-is}
 use Rattle.stack.proofs.Pops.{pop-dry, pop-is, had-one, on-at, on-refused}
 
@@ -59,15 +61,6 @@ drop-none s = rw (le-leb 0 (length (s .main)) (omega arith))
 
 pub number-held : (v : Value) (n : ℕ) → v ≡ valueOf (known (serialize (plus n))) → Held v
 number-held v n e = rw e (held-number n)
-
-module _ (code : ℕ) where
-  pub length-of : code ≤ 8 → code ≡ codeLength code
-  unfolding codeLength
-  length-of h = rw (le-leb code 8 h)
-
-  pub length-one : 8 < code → 1 ≡ codeLength code
-  unfolding codeLength
-  length-one h = rw (lt-leb code 8 h)
 
 -- the length of the item in a slot
 sized : (code n len : ℕ) → (code ≡ 9 → ⊥) → len ≡ codeLength code → sizeItem marking (bytesKnown (slotItem code n)) ≡ known (serialize (plus len))

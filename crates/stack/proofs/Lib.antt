@@ -1,5 +1,3 @@
-pub mod Codes
-pub mod Laws
 pub mod Mains
 pub mod Alts
 pub mod Joins

@@ -15,15 +15,17 @@ use Rattle.definition.specs.Refusals as D
 use Rattle.definition.specs.Stacks as S
 use Rattle.definition.specs.Stacks.{pushItem, dropItems, copyItems, rotateItems, tuckTop, nipSecond}
 use Rattle.definition.specs.Walk.{Item, unknown, marking}
-use Rattle.stack.specs.View.{refusalOf, Slots, slots, slotsOf, slotItem, sufficient, cells, backs, tops, view, plain, Canon, Fit, Says, Steps}
-use Rattle.stack.specs.Parts.{Suffice, apart, Copied, turn, Turned, without}
+use Rattle.slots.specs.View.{Slots, slots, slotItem, sufficient, cells, backs, tops, Canon}
+use Rattle.slots.specs.Parts.{Suffice, apart, Copied, turn, Turned}
+use Rattle.slots.proofs.Codes.{either, same-item, sufficient-high, canon-sufficient}
+use Rattle.slots.proofs.Laws.{seg, length-tops, tops-ext, length-seg, tops-seg, tops-parts, length-parts, low-part, turned-list, Placed, Wrote, wrote-copies, wrote-turned, placed-one, turn-low, copied-both, copied-codes, turned-both, turned-codes}
+use Rattle.stack.specs.View.{refusalOf, slotsOf, view, plain, Fit, Says, Steps}
+use Rattle.stack.specs.Parts.{without}
 use Rattle.stack.specs.declared.Stacks.{Stacks}
 use Rattle.stack.specs.declared.Refusal.{Refusal}
 use Rattle.stack.specs.declared.Refusal.the-variants.{StacksFull, MainDry}
 use Rattle.stack.specs.declared.Answer.the-variants.{Done, Refused}
 use Rattle.stack.specs.declared.Stepped.{Stepped}
-use Rattle.stack.proofs.Codes.{either, same-item, sufficient-high, canon-sufficient}
-use Rattle.stack.proofs.Laws.{seg, length-tops, tops-ext, length-seg, tops-seg, tops-parts, length-parts, low-part, turned-list, Placed, Wrote, wrote-copies, wrote-turned, placed-one, turn-low, copied-both, copied-codes, turned-both, turned-codes}
 
 abbrev pub stepped : List ℕ → List ℕ → ℕ → ℕ → Stepped
 stepped y c m a = record { stacks = record { bytes = y; mains = m; alts = a; codes = c }; answer = Done }

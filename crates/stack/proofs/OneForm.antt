@@ -11,10 +11,11 @@ use Rattle.definition.specs.Replay.{AreBytes}
 use Rattle.definition.specs.Stacks as S
 use Rattle.definition.specs.Walk.{Item, unknown, exact}
 use Rattle.decode.proofs.Bytes.{length-low, low-number, number-below, bytes-low}
-use Rattle.stack.specs.View.{slotsOf, slotItem, sufficient, codeOf, cells, backs, tops, view, slotCode, slotBytes, pool, packed, Canon, Fit}
+use Rattle.slots.specs.View.{slotItem, sufficient, codeOf, cells, backs, tops, slotCode, slotBytes, Canon}
+use Rattle.slots.proofs.Codes.{either-le, by-code, item-low, item-high, item-none, sufficient-high, sufficient-low, canon-sufficient, canon-unknown, canon-none, code-long, code-small, code-large}
+use Rattle.slots.proofs.Laws.{length-tops, tops-ext}
+use Rattle.stack.specs.View.{slotsOf, view, pool, packed, Fit}
 use Rattle.stack.specs.declared.Stacks.{Stacks}
-use Rattle.stack.proofs.Codes.{either-le, by-code, item-low, item-high, item-none, sufficient-high, sufficient-low, canon-sufficient, canon-unknown, canon-none, code-long, code-small, code-large}
-use Rattle.stack.proofs.Laws.{length-tops, tops-ext}
 
 -- Heights
 

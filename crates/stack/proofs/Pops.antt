@@ -3,7 +3,7 @@ use mathlib.Core.Path.{_≡_, refl, sym, _∙_}
 use mathlib.Core.Bool.{Bool, true, false, _&&_}
 use mathlib.Core.List.{[], _∷_}
 use mathlib.Core.Option.{none, some}
-use Prim.Native.Nat.{ℕ, _+_, _-_, _*_, _%_, _^_, _≤_, _<_}
+use Prim.Native.Nat.{ℕ, _+_, _-_, _*_, _^_, _≤_, _<_}
 use native.Mathlib.Nat.{add-zero, pow-succ', pow-le-pow-right}
 use native.Mathlib.Omega.{arith}
 use borrow.Author.Tests.{ltb-true}
@@ -25,44 +25,19 @@ use Rattle.decode.specs.declared.Value.the-variants.{Unknown, Exact}
 use Rattle.decode.specs.declared.Index.{Index}
 use Rattle.decode.specs.declared.Index.the-variants as I
 use Rattle.decode.proofs.Bytes.{bytes-low, length-low}
-use Rattle.stack.specs.View.{slotsOf, sufficient, cells, view, Canon, Fit, Says}
-use Rattle.stack.specs.Parts.{InSlot, countOf, without, Small, counted, Pops}
+use Rattle.slots.specs.View.{sufficient, cells}
+use Rattle.slots.specs.Parts.{InSlot}
+use Rattle.slots.proofs.Laws.{tops-seg}
+use Rattle.slots.proofs.Values.{in-slot}
+use Rattle.stack.specs.View.{slotsOf, view, Fit, Says}
+use Rattle.stack.specs.Parts.{countOf, without, Small, counted, Pops}
 use Rattle.stack.specs.declared.Stacks.{Stacks}
 use Rattle.stack.specs.declared.Refusal.{Refusal}
 use Rattle.stack.specs.declared.Refusal.the-variants.{MainDry, BadIndex}
 use Rattle.stack.specs.declared.Stepped.{Stepped}
 use Rattle.stack.specs.declared.Count.{Count}
 use Rattle.stack.specs.declared.Count.the-variants as C
-use Rattle.stack.proofs.Codes.{either, item-low, item-high, item-none, same-item, same-canon, not-sufficient}
-use Rattle.stack.proofs.Laws.{tops-seg}
 use Rattle.stack.proofs.Mains.{refusing, refuses}
-
--- The value in a slot
-
-module _ (code n : ℕ) (c : Canon code n) where
-  pub slot-unknown : code ≡ 9 → InSlot code n Unknown
-  slot-unknown e = record { held = tt; item = sym (item-none code n e) }
-
-  pub slot-byte : 9 < code → InSlot code n (Exact 1 (code - 10))
-  slot-byte h =
-      let e : (code - 10) % 256 ≡ code - 10 = omega (arith, c .byte) in
-      record { held = (omega arith, omega (arith, c .byte)); item = sym (item-high code n h ∙ rw e) }
-
-  pub slot-exact : (code ≡ 0 → n ≡ 0) → code ≤ 9 → (code ≡ 9 → ⊥) → InSlot code n (Exact code n)
-  slot-exact z h g =
-      let k : code ≤ 8 = omega (arith, g) in
-      record { held = (k, either code 0 (n < 256 ^ code) (λ e. rw (e, z e) (omega arith)) (λ e. c .held (omega (arith, e)) k)); item = sym (item-low code n k) }
-
--- in place of the bytes beside a code that suffices: 0
-module _ (code n : ℕ) (c : Canon code n) where
-  pub code-alone : sufficient code ≡ true → (Canon code 0) × (code ≡ 0 → _≡_ {A = ℕ} 0 0)
-  code-alone e = (same-canon code n 0 e c, λ g. refl)
-
-  pub with-bytes : sufficient code ≡ false → (Canon code n) × (code ≡ 0 → n ≡ 0)
-  with-bytes e = let k : (1 ≤ code) × (code ≤ 8) = not-sufficient code e in (c, λ g. absurd (omega arith))
-
-  pub in-slot : (v : Value) → sufficient code ≡ true → InSlot code 0 v → InSlot code n v
-  in-slot v e k = record { held = k .held; item = k .item ∙ same-item code 0 n e }
 
 -- Popping
 

@@ -11,10 +11,11 @@ use Rattle.definition.specs.Walk.{exact}
 use Rattle.decode.specs.View.{lowBytes, itemOf, Held}
 use Rattle.decode.specs.declared.Value.{Value}
 use Rattle.decode.specs.declared.Value.the-variants.{Unknown, Exact}
-use Rattle.stack.specs.View.{slotItem, sufficient, codeOf, view, Fit, Says}
+use Rattle.slots.specs.View.{slotItem, sufficient, codeOf}
+use Rattle.slots.proofs.Codes.{sufficient-high, item-low, code-item, exact-canon}
+use Rattle.stack.specs.View.{view, Fit, Says}
 use Rattle.stack.specs.declared.Stacks.{Stacks}
 use Rattle.stack.specs.declared.Stepped.{Stepped}
-use Rattle.stack.proofs.Codes.{sufficient-high, item-low, code-item, exact-canon}
 use Rattle.stack.proofs.Mains.{stepped, push-put, push-mark}
 
 pub held-exact : (v : Value) (len n : ℕ) → v ≡ Exact len n → Held v → Held (Exact len n)

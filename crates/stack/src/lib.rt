@@ -1,26 +1,34 @@
 // The two stacks, by value, and what the ordinary opcodes do to them: document 01, section 3.
 ghost use mathlib.Core.Path.{_≡_};
 ghost use mathlib.Core.Bool.{true, false};
-ghost use lib.ListN.{length};
-ghost use Prim.Native.Nat.{_+_, _≤_, _<_};
+ghost use Prim.Native.Nat.{_+_, _≤_};
 ghost use Rattle.definition.specs.Classes.{DEPTH, SIZE, PICK, ZK};
 ghost use Rattle.definition.specs.Stacks.{pushItem, dropItems, copyItems, rotateItems, tuckTop, nipSecond, moveToAlt, moveFromAlt, popIndex, zkDrop};
 ghost use Rattle.definition.specs.Decoding.{indexOf};
 ghost use Rattle.definition.specs.Walk.{exact, bytesKnown, marking, joinStacks};
 ghost use Rattle.decode.specs.View.{lowBytes, itemOf, Held};
-ghost use Rattle.stack.specs.View.{view, slots, packed, plain, slotItem, slotBytes, codeOf, sufficient, Canon, Sound, Fit, Fresh, Says, Steps};
-ghost use Rattle.stack.specs.Parts.{Suffice, Copied, Turned, Joined, Each, JoinedAt, ClearAt, SameAt, InSlot, codeLength, countOf, Pops};
+ghost use Rattle.slots.specs.View.{slotItem, codeOf, sufficient};
+ghost use Rattle.stack.specs.View.{view, packed, plain, Fit, Fresh, Says, Steps};
+ghost use Rattle.stack.specs.Parts.{countOf, Pops};
 use decode::Index;
 use decode::Value;
 use decode::number_value;
 use decode::read_index;
+use slots::all_suffice;
+use slots::clear_slots;
+use slots::code_length;
+use slots::code_of;
+use slots::copy_bytes;
+use slots::copy_codes;
+use slots::join_codes;
+use slots::keep_codes;
+use slots::rotate_bytes;
+use slots::rotate_codes;
+use slots::slot_value;
+use slots::suffices;
 
-pub const MAX_STACK_SIZE: u32 = 244;
-
-// Both stacks lie in the same 244 slots: main from the bottom, alt from the top end. A slot has a code and bytes. A code of
-// 0 to 8 is an exact item of so many bytes, which stand in `bytes` as one number, the first byte the lowest; 9 is an
-// unknown item; 10 + v is the exact item of the one byte v, and such an item, v at most 245, is always written so. The two
-// heights lie between the arrays: each array is then copied by itself, where it is written.
+// Both stacks lie in the same 244 slots: main from the bottom, alt from the top end. A slot has a code and bytes, as the
+// crate slots has them. The two heights lie between the arrays: each array is then copied by itself, where it is written.
 pub struct Stacks {
     pub bytes: [u64; 244],
     pub mains: u32,
@@ -61,221 +69,6 @@ pub enum Count {
     Refused(Refusal),
 }
 
-// Whether a code says its item by itself, whatever the bytes of the slot.
-pub fn suffices(code: u8) -> bool
-    ensures { λ r. ⌜ r ≡ sufficient code ⌝ }
-{
-    if code == 0 {
-        return true;
-    }
-    code >= 9
-}
-
-// The code of an exact item of so many bytes.
-pub fn code_of(len: u8, bytes: u64) -> u8
-    ensures { λ r. ⌜ r ≡ codeOf len bytes ⌝ }
-{
-    if len != 1 {
-        return len;
-    }
-    if bytes <= 245 {
-        return 10 + (bytes as u8);
-    }
-    len
-}
-
-// Whether the count codes from `from` on say their items by themselves: the bytes can then stay as they are.
-fn all_suffice(codes: [u8; 244], from: usize, count: usize) -> bool
-    requires { ⌜ from + count ≤ 244 ⌝ }
-    ensures { λ r. ⌜ (r ≡ true → Suffice codes from count) ⌝ }
-{
-    let mut j: usize = 0;
-    while j < count {
-        let code = codes[from + j];
-        if !suffices(code) {
-            return false;
-        }
-        j += 1;
-    }
-    true
-}
-
-// Copies count codes, the lowest first.
-fn copy_codes(mut codes: [u8; 244], from: usize, to: usize, count: usize) -> [u8; 244]
-    requires { ⌜ length codes ≡ 244 ⌝ }
-    requires { ⌜ (from + count ≤ 244) × (to + count ≤ 244) × (from < to → from + count ≤ to) ⌝ }
-    ensures { λ r. ⌜ Copied codes from to count r ⌝ }
-{
-    let mut j: usize = 0;
-    while j < count {
-        let x = codes[from + j];
-        codes[to + j] = x;
-        j += 1;
-    }
-    codes
-}
-
-// The same of bytes.
-fn copy_bytes(mut bytes: [u64; 244], from: usize, to: usize, count: usize) -> [u64; 244]
-    requires { ⌜ length bytes ≡ 244 ⌝ }
-    requires { ⌜ (from + count ≤ 244) × (to + count ≤ 244) × (from < to → from + count ≤ to) ⌝ }
-    ensures { λ r. ⌜ Copied bytes from to count r ⌝ }
-{
-    let mut j: usize = 0;
-    while j < count {
-        let x = bytes[from + j];
-        bytes[to + j] = x;
-        j += 1;
-    }
-    bytes
-}
-
-// Puts the k codes from b on, one or two, on top of the rest that lies above them.
-fn rotate_codes(mut codes: [u8; 244], b: usize, k: usize, rest: usize) -> [u8; 244]
-    requires { ⌜ length codes ≡ 244 ⌝ }
-    requires { ⌜ (1 ≤ k) × (k ≤ 2) × (b + k + rest ≤ 244) ⌝ }
-    ensures { λ r. ⌜ Turned codes b rest k r ⌝ }
-{
-    let from = b + k;
-    let x0 = codes[b];
-    let x1 = codes[from - 1];
-    let mut j: usize = 0;
-    while j < rest {
-        let x = codes[from + j];
-        codes[b + j] = x;
-        j += 1;
-    }
-    codes[b + rest] = x0;
-    codes[from + rest - 1] = x1;
-    codes
-}
-
-// The same of bytes.
-fn rotate_bytes(mut bytes: [u64; 244], b: usize, k: usize, rest: usize) -> [u64; 244]
-    requires { ⌜ length bytes ≡ 244 ⌝ }
-    requires { ⌜ (1 ≤ k) × (k ≤ 2) × (b + k + rest ≤ 244) ⌝ }
-    ensures { λ r. ⌜ Turned bytes b rest k r ⌝ }
-{
-    let from = b + k;
-    let x0 = bytes[b];
-    let x1 = bytes[from - 1];
-    let mut j: usize = 0;
-    while j < rest {
-        let x = bytes[from + j];
-        bytes[b + j] = x;
-        j += 1;
-    }
-    bytes[b + rest] = x0;
-    bytes[from + rest - 1] = x1;
-    bytes
-}
-
-// The code of a slot that joins another.
-fn joined(code: u8, bytes: u64, code1: u8, bytes1: u64) -> u8
-    requires { ⌜ (Canon code bytes) × (Canon code1 bytes1) ⌝ }
-    ensures { λ r. ⌜ Joined code bytes code1 bytes1 r ⌝ }
-{
-    if code != code1 {
-        return 9;
-    }
-    if suffices(code) {
-        return code;
-    }
-    if bytes != bytes1 {
-        return 9;
-    }
-    code
-}
-
-// The codes of the slots that join others. The bytes stay.
-fn join_codes(
-    mut codes: [u8; 244],
-    bytes: [u64; 244],
-    codes1: [u8; 244],
-    bytes1: [u64; 244],
-    from: usize,
-    to: usize,
-) -> [u8; 244]
-    requires { ⌜ (Sound (slots bytes codes)) × (Sound (slots bytes1 codes1)) × (from ≤ to) × (to ≤ 244) ⌝ }
-    ensures { λ r. ⌜ Each (JoinedAt (slots bytes codes) (slots bytes1 codes1)) codes from to r ⌝ }
-{
-    let mut i = from;
-    while i < to {
-        let code = codes[i];
-        let n = bytes[i];
-        let code1 = codes1[i];
-        let n1 = bytes1[i];
-        codes[i] = joined(code, n, code1, n1);
-        i += 1;
-    }
-    codes
-}
-
-// The bytes of a slot become 0 where its code suffices.
-fn clear_bytes(code: u8, bytes: u64) -> u64
-    requires { ⌜ Canon code bytes ⌝ }
-    ensures { λ r. ⌜ r ≡ slotBytes (slotItem code bytes) ⌝ }
-{
-    if suffices(code) {
-        return 0;
-    }
-    bytes
-}
-
-fn clear_slots(
-    mut cleared: [u64; 244],
-    codes: [u8; 244],
-    bytes: [u64; 244],
-    from: usize,
-    to: usize,
-) -> [u64; 244]
-    requires { ⌜ (length cleared ≡ 244) × (Sound (slots bytes codes)) × (from ≤ to) × (to ≤ 244) ⌝ }
-    ensures { λ r. ⌜ Each (ClearAt (slots bytes codes)) cleared from to r ⌝ }
-{
-    let mut i = from;
-    while i < to {
-        let code = codes[i];
-        let n = bytes[i];
-        cleared[i] = clear_bytes(code, n);
-        i += 1;
-    }
-    cleared
-}
-
-// The codes of the slots from `from` up to `to`, among those given.
-fn keep_codes(mut kept: [u8; 244], codes: [u8; 244], from: usize, to: usize) -> [u8; 244]
-    requires { ⌜ (length kept ≡ 244) × (from ≤ to) × (to ≤ 244) ⌝ }
-    ensures { λ r. ⌜ Each (SameAt codes) kept from to r ⌝ }
-{
-    let mut i = from;
-    while i < to {
-        let code = codes[i];
-        kept[i] = code;
-        i += 1;
-    }
-    kept
-}
-
-// The value in a slot, by its code and, where that does not suffice, its bytes.
-fn slot_value(code: u8, bytes: u64) -> Value
-    requires { ⌜ (Canon code bytes) × (code ≡ 0 → bytes ≡ 0) ⌝ }
-    ensures { λ r. ⌜ InSlot code bytes r ⌝ }
-{
-    if code == 9 {
-        return Value::Unknown;
-    }
-    if code > 9 {
-        return Value::Exact {
-            len: 1,
-            bytes: (code - 10) as u64,
-        };
-    }
-    Value::Exact {
-        len: code,
-        bytes: bytes,
-    }
-}
-
 // The index or the count that a value is.
 fn count_of(v: Value) -> Count
     requires { ⌜ Held v ⌝ }
@@ -288,16 +81,6 @@ fn count_of(v: Value) -> Count
         Index::NoNumber => Count::Refused(Refusal::BadIndex),
         Index::Negative => Count::Refused(Refusal::BadIndex),
     }
-}
-
-// The length of an exact item, by its code.
-fn code_length(code: u8) -> u8
-    ensures { λ r. ⌜ r ≡ codeLength code ⌝ }
-{
-    if code <= 8 {
-        return code;
-    }
-    1
 }
 
 impl Stacks {

@@ -224,8 +224,8 @@ fn plain(code: &[u8], log: &mut [u16], start: Walk) -> Walk
                     t = s.push_code(9, LIMIT);
                     continue;
                 };
-                let code = stack::code_of(len, bytes);
-                if stack::suffices(code) {
+                let code = slots::code_of(len, bytes);
+                if slots::suffices(code) {
                     let s = t.stacks;
                     t = s.push_code(code, LIMIT);
                     continue;

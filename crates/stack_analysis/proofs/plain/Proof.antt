@@ -31,8 +31,8 @@ use Rattle.stack.proofs.Stacks.rotate_left.Reads as rotate-left-reads
 use Rattle.stack.proofs.Stacks.size.Reads as size-reads
 use Rattle.stack.proofs.Stacks.tuck.Reads as tuck-reads
 use Rattle.stack.proofs.Stacks.zk.Reads as zk-reads
-use Rattle.stack.proofs.code_of.Reads as code-of-reads
-use Rattle.stack.proofs.suffices.Reads as suffices-reads
+use Rattle.slots.proofs.code_of.Reads as code-of-reads
+use Rattle.slots.proofs.suffices.Reads as suffices-reads
 use Rattle.stack_analysis.proofs.higher.Reads as higher-reads
 use Rattle.stack_analysis.proofs.log_row.Reads as log-row-reads
 use Rattle.stack_analysis.proofs.logged.Reads as logged-reads

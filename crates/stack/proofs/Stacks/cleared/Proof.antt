@@ -4,8 +4,8 @@ use Rattle.stack.proofs.Stacks.cleared.Statement.{statement}
 use Rattle.stack.proofs.Stacks.cleared.Tie as tie
 use Rattle.stack.proofs.Stacks.cleared.Reads as reads
 use Rattle.stack.proofs.Stacks.cleared.Lts as lts
-use Rattle.stack.proofs.clear_slots.Reads as clear-slots-reads
-use Rattle.stack.proofs.keep_codes.Reads as keep-codes-reads
+use Rattle.slots.proofs.clear_slots.Reads as clear-slots-reads
+use Rattle.slots.proofs.keep_codes.Reads as keep-codes-reads
 
 cast-clear-slots : tie.Need-cast-clear-slots
 cast-clear-slots c = search needs

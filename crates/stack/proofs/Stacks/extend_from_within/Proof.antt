@@ -4,9 +4,9 @@ use Rattle.stack.proofs.Stacks.extend_from_within.Statement.{statement}
 use Rattle.stack.proofs.Stacks.extend_from_within.Tie as tie
 use Rattle.stack.proofs.Stacks.extend_from_within.Reads as reads
 use Rattle.stack.proofs.Stacks.extend_from_within.Lts as lts
-use Rattle.stack.proofs.all_suffice.Reads as all-suffice-reads
-use Rattle.stack.proofs.copy_bytes.Reads as copy-bytes-reads
-use Rattle.stack.proofs.copy_codes.Reads as copy-codes-reads
+use Rattle.slots.proofs.all_suffice.Reads as all-suffice-reads
+use Rattle.slots.proofs.copy_bytes.Reads as copy-bytes-reads
+use Rattle.slots.proofs.copy_codes.Reads as copy-codes-reads
 
 cast-if1 : tie.Need-cast-if1
 cast-if1 c = search needs

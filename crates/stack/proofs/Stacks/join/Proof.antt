@@ -1,10 +1,11 @@
-use Rattle.stack.proofs.Joins.{join-main, join-alt, join-done, joined-sound}
+use Rattle.slots.proofs.Joins.{joined-sound}
+use Rattle.stack.proofs.Joins.{join-main, join-alt, join-done}
 use borrow.Author.Needs.{needs}
 use Rattle.stack.proofs.Stacks.join.Statement.{statement}
 use Rattle.stack.proofs.Stacks.join.Tie as tie
 use Rattle.stack.proofs.Stacks.join.Reads as reads
 use Rattle.stack.proofs.Stacks.join.Lts as lts
-use Rattle.stack.proofs.join_codes.Reads as join-codes-reads
+use Rattle.slots.proofs.join_codes.Reads as join-codes-reads
 
 returns : tie.Need-returns
 returns c = search (join-main)

@@ -7,8 +7,8 @@ use Rattle.stack.proofs.Stacks.push.Reads as reads
 use Rattle.stack.proofs.Stacks.push.Lts as lts
 use Rattle.stack.proofs.Stacks.push_code.Reads as push-code-reads
 use Rattle.stack.proofs.Stacks.push_exact.Reads as push-exact-reads
-use Rattle.stack.proofs.code_of.Reads as code-of-reads
-use Rattle.stack.proofs.suffices.Reads as suffices-reads
+use Rattle.slots.proofs.code_of.Reads as code-of-reads
+use Rattle.slots.proofs.suffices.Reads as suffices-reads
 
 enum-known-v : tie.Need-enum-known-v
 enum-known-v c = search needs

@@ -4,9 +4,9 @@ use Rattle.stack.proofs.Stacks.rotate_left.Statement.{statement}
 use Rattle.stack.proofs.Stacks.rotate_left.Tie as tie
 use Rattle.stack.proofs.Stacks.rotate_left.Reads as reads
 use Rattle.stack.proofs.Stacks.rotate_left.Lts as lts
-use Rattle.stack.proofs.all_suffice.Reads as all-suffice-reads
-use Rattle.stack.proofs.rotate_bytes.Reads as rotate-bytes-reads
-use Rattle.stack.proofs.rotate_codes.Reads as rotate-codes-reads
+use Rattle.slots.proofs.all_suffice.Reads as all-suffice-reads
+use Rattle.slots.proofs.rotate_bytes.Reads as rotate-bytes-reads
+use Rattle.slots.proofs.rotate_codes.Reads as rotate-codes-reads
 
 cast-if1 : tie.Need-cast-if1
 cast-if1 c = search needs

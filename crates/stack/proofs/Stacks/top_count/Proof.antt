@@ -1,13 +1,14 @@
 use mathlib.Core.Path.{sym, _∙_}
-use Rattle.stack.proofs.Pops.{code-alone, with-bytes, pops-dry, pops-code, pops-bytes}
+use Rattle.slots.proofs.Values.{code-alone, with-bytes}
+use Rattle.stack.proofs.Pops.{pops-dry, pops-code, pops-bytes}
 use borrow.Author.Needs.{needs}
 use Rattle.stack.proofs.Stacks.top_count.Statement.{statement}
 use Rattle.stack.proofs.Stacks.top_count.Tie as tie
 use Rattle.stack.proofs.Stacks.top_count.Reads as reads
 use Rattle.stack.proofs.Stacks.top_count.Lts as lts
+use Rattle.slots.proofs.slot_value.Reads as slot-value-reads
+use Rattle.slots.proofs.suffices.Reads as suffices-reads
 use Rattle.stack.proofs.count_of.Reads as count-of-reads
-use Rattle.stack.proofs.slot_value.Reads as slot-value-reads
-use Rattle.stack.proofs.suffices.Reads as suffices-reads
 
 returns : tie.Need-returns
 returns c = search (pops-dry)

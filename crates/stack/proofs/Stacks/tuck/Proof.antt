@@ -4,11 +4,11 @@ use Rattle.stack.proofs.Stacks.tuck.Statement.{statement}
 use Rattle.stack.proofs.Stacks.tuck.Tie as tie
 use Rattle.stack.proofs.Stacks.tuck.Reads as reads
 use Rattle.stack.proofs.Stacks.tuck.Lts as lts
-use Rattle.stack.proofs.all_suffice.Reads as all-suffice-reads
-use Rattle.stack.proofs.copy_bytes.Reads as copy-bytes-reads
-use Rattle.stack.proofs.copy_codes.Reads as copy-codes-reads
-use Rattle.stack.proofs.rotate_bytes.Reads as rotate-bytes-reads
-use Rattle.stack.proofs.rotate_codes.Reads as rotate-codes-reads
+use Rattle.slots.proofs.all_suffice.Reads as all-suffice-reads
+use Rattle.slots.proofs.copy_bytes.Reads as copy-bytes-reads
+use Rattle.slots.proofs.copy_codes.Reads as copy-codes-reads
+use Rattle.slots.proofs.rotate_bytes.Reads as rotate-bytes-reads
+use Rattle.slots.proofs.rotate_codes.Reads as rotate-codes-reads
 
 add-wanted : tie.Need-add-wanted
 add-wanted c = search needs

@@ -1,4 +1,4 @@
-use Rattle.stack.proofs.Codes.{sufficient-high}
+use Rattle.slots.proofs.Codes.{sufficient-high}
 use Rattle.stack.proofs.Indices.{zk-drop-dry, zk-drop-done}
 use native.Mathlib.Omega.{arith}
 use borrow.Author.Needs.{needs}
