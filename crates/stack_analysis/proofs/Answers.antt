@@ -13,11 +13,12 @@ use Rattle.stack.specs.declared.Stacks.{Stacks}
 use Rattle.stack.specs.declared.Refusal.{Refusal}
 use Rattle.stack.specs.declared.Refusal.the-variants as R
 use Rattle.stack_analysis.specs.View.{noStacks, hasEnd, endStacks, packedVerdict}
-use Rattle.stack_analysis.specs.Walkers.{arm, armOf, resume, Ended, concluded, concludedBy}
-use Rattle.stack_analysis.specs.declared.Stop.{Stop}
-use Rattle.stack_analysis.specs.declared.Stop.the-variants.{Running, End, Conditional, Else, Endif, Refused}
+use Rattle.walk.specs.Runs.{arm, resume, resumeBy}
+use Rattle.stack_analysis.specs.Walkers.{Ended, concluded, concludedBy}
+use Rattle.walk.specs.declared.Stop.{Stop}
+use Rattle.walk.specs.declared.Stop.the-variants.{Running, End, Conditional, Else, Endif, Refused}
 use Rattle.stack_analysis.specs.declared.Verdict.{Verdict}
-use Rattle.stack_analysis.specs.declared.Walk.{Walk}
+use Rattle.walk.specs.declared.Walk.{Walk}
 
 -- no stacks, in their one form
 pub no-end : (s e : Stacks) → Fresh 0 0 s → e ≡ packed (view s) → e ≡ packed noStacks
@@ -71,7 +72,7 @@ module _ (w : Walk) where
   pub concluded-is : (R : Rules) (s : Bytes) (log : List ℕ) → Ended (w .stop) → resume R s w [] log ≡ record { verdict = concluded w; log = log }
   concluded-is R s log n = by (w .stop) n
     where
-      by : (x : Stop) → Ended x → Rattle.stack_analysis.specs.Walkers.resumeBy R s x w [] log ≡ record { verdict = concludedBy x w; log = log }
+      by : (x : Stop) → Ended x → resumeBy R s x w [] log ≡ record { verdict = concludedBy x w; log = log }
       by Running h = absurd h
       by Conditional h = absurd h
       by End h = refl

@@ -19,10 +19,11 @@ use Rattle.stack.specs.declared.Refusal.{Refusal}
 use Rattle.stack.specs.declared.Refusal.the-variants.{Nesting, OpenIf, SecondElse}
 use Rattle.stack.specs.declared.Answer.{Answer}
 use Rattle.stack.specs.declared.Answer.the-variants as A
-use Rattle.stack_analysis.specs.Walkers.{arm, armOf, stateOf, from, after, resume, resumeBy, rowsIn, Goes, Any, Open, stopOf, frame, Ended, Closed, Shallow, NotElse, SamePlace, enteredBy, Enters, Joins, Finishes}
-use Rattle.stack_analysis.specs.declared.Stop.{Stop}
-use Rattle.stack_analysis.specs.declared.Stop.the-variants.{Running, End, Conditional, Else, Endif, Refused}
-use Rattle.stack_analysis.specs.declared.Walk.{Walk}
+use Rattle.walk.specs.Runs.{arm, armOf, stateOf, from, after, resume, stopOf}
+use Rattle.stack_analysis.specs.Walkers.{Open, frame, Ended, Closed, Shallow, SamePlace, enteredBy, Enters, Joins, Finishes}
+use Rattle.walk.specs.declared.Stop.{Stop}
+use Rattle.walk.specs.declared.Stop.the-variants.{Running, End, Conditional, Else, Endif, Refused}
+use Rattle.walk.specs.declared.Walk.{Walk}
 
 -- w with another arm and another stop
 abbrev pub turned : Walk → Stacks → Bool → Stop → Walk

@@ -7,7 +7,7 @@ use native.Mathlib.Omega.{arith}
 use lib.ListN.{length}
 use types.Run.{OneOf}
 use denote.Enum.Declared.{tagOf}
-use Rattle.stack_analysis.proofs.Stop.{the-type}
+use Rattle.walk.proofs.Stop.{the-type}
 use Rattle.definition.specs.Basics.{Bytes}
 use Rattle.definition.specs.Decoding.{instructions}
 use Rattle.definition.specs.Stacks.{Rules, builtIn}
@@ -15,11 +15,12 @@ use Rattle.definition.specs.Walk.{Arm, First, notEnded, ended, Frame}
 use Rattle.decode.specs.View.{codeAt}
 use Rattle.stack.specs.View.{Fit}
 use Rattle.stack.specs.declared.Refusal.{Refusal}
-use Rattle.stack_analysis.specs.Walkers.{arm, resume, rowsIn, Goes, Any, Open, frame, Ended, Closed, NotElse, Stopped, SamePlace, enteredBy, Enters, Finishes, Ready, Runs, Walks, Closes}
-use Rattle.stack_analysis.specs.declared.Stop.{Stop}
-use Rattle.stack_analysis.specs.declared.Stop.the-variants.{Running, End, Conditional, Else, Endif, Refused}
-use Rattle.stack_analysis.specs.declared.Walk.{Walk}
-use Rattle.stack_analysis.proofs.Goings.{stays, goes-on, among}
+use Rattle.walk.specs.Runs.{arm, resume, resumeBy, rowsIn, Goes, Stopped, Ready, Runs}
+use Rattle.stack_analysis.specs.Walkers.{Open, frame, Ended, Closed, NotElse, SamePlace, Enters, Finishes, Walks, Closes}
+use Rattle.walk.specs.declared.Stop.{Stop}
+use Rattle.walk.specs.declared.Stop.the-variants.{Running, End, Conditional, Else, Endif, Refused}
+use Rattle.walk.specs.declared.Walk.{Walk}
+use Rattle.walk.proofs.Goings.{stays, goes-on, among}
 
 -- the second arm starts where the first did, and stands behind what the first has walked
 abbrev pub second : Walk → Walk → Walk
@@ -57,7 +58,7 @@ module _ {R : Rules} {s : Bytes} where
 
     module _ (run : v .stop ≡ Running) {a : Walk} {log₁ : List ℕ} (first : Walks R s (depth + 1) v log a log₁) where
       in-first : (fs : List Frame) → Open depth fs → resume R s w fs log ≡ resume R s a (frame (arm v) notEnded ∷ fs) log₁
-      in-first fs o = e .same fs log o ∙ rw run (ap (λ (x : Stop). Rattle.stack_analysis.specs.Walkers.resumeBy R s x v (frame (arm v) notEnded ∷ fs) log) (sym run) ∙ first .goes .same (frame (arm v) notEnded ∷ fs) (omega arith))
+      in-first fs o = e .same fs log o ∙ rw run (ap (λ (x : Stop). resumeBy R s x v (frame (arm v) notEnded ∷ fs) log) (sym run) ∙ first .goes .same (frame (arm v) notEnded ∷ fs) (omega arith))
 
       pub one-arm : NotElse (a .stop) → {f : Walk} → Finishes R s a (arm v) f → Closes R s depth w log f log₁
       one-arm n {f} h = record {

@@ -23,11 +23,12 @@ use Rattle.stack.specs.View.{view, packed, refusalOf, Fit, Fresh}
 use Rattle.stack.specs.declared.Stacks.{Stacks}
 use Rattle.stack_analysis.specs.View.{endOf, verdictOf, noStacks, hasEnd, endStacks, packedVerdict}
 use Rattle.stack_analysis.specs.Entry.{Marks}
-use Rattle.stack_analysis.specs.Walkers.{arm, armOf, resume, Ended, Ready, Walks, concluded, concludedBy}
-use Rattle.stack_analysis.specs.declared.Stop.{Stop}
-use Rattle.stack_analysis.specs.declared.Stop.the-variants.{Running, End, Conditional, Else, Endif, Refused}
+use Rattle.walk.specs.Runs.{armOf, resume, Ready}
+use Rattle.stack_analysis.specs.Walkers.{Walks, concluded, concludedBy}
+use Rattle.walk.specs.declared.Stop.{Stop}
+use Rattle.walk.specs.declared.Stop.the-variants.{Running, End, Conditional, Else, Endif, Refused}
 use Rattle.stack_analysis.specs.declared.Verdict.{Verdict}
-use Rattle.stack_analysis.specs.declared.Walk.{Walk}
+use Rattle.walk.specs.declared.Walk.{Walk}
 use Rattle.stack_analysis.proofs.Answers.{concluded-is}
 
 -- a walk from main and alt unknown items

@@ -14,7 +14,7 @@ use Rattle.stack_analysis.proofs.conditional.Kinds as conditional-kinds
 use Rattle.stack_analysis.proofs.+arm+conditional.Lts-conditional as conditional-lts
 use Rattle.stack_analysis.proofs.enter.Reads as enter-reads
 use Rattle.stack_analysis.proofs.finish.Reads as finish-reads
-use Rattle.stack_analysis.proofs.plain.Reads as plain-reads
+use Rattle.walk.proofs.plain.Reads as plain-reads
 use Rattle.stack_analysis.proofs.+arm+conditional.{statement}
 use Rattle.stack_analysis.proofs.+arm+conditional.Tie.{close}
 

@@ -17,7 +17,7 @@ refusal-requires c κs = search needs
 -- src/lib.rt:500:9
 returns : tie.Need-returns
 returns c =
-    let a = too-long (c .before .before .before .before .args .fragment .now) (c .before .before .before .before .args .main) (c .before .before .before .before .args .alt) (c .before .before .before .before .args .log .now) (c .before .if1 .taken) _ (c .refusal .ensures) in
+    let a = too-long (c .before .before .before .before .args .fragment .now) (c .before .before .before .before .args .main) (c .before .before .before .before .args .alt) (c .before .before .before .before .args .log .now) (omega arith) _ (c .refusal .ensures) in
     (a .same, (a .logged, a .replayed))
 
 -- src/lib.rt:502:15
@@ -31,7 +31,7 @@ refusal-requires-2 c κs = search needs
 -- src/lib.rt:504:9
 returns-2 : tie.Need-returns-2
 returns-2 c =
-    let a = too-high (c .before .before .before .before .before .args .fragment .now) (c .before .before .before .before .before .args .main) (c .before .before .before .before .before .args .alt) (c .before .before .before .before .before .args .log .now) (c .before .before .if1 .left) (c .before .if2 .taken) _ (c .refusal2 .ensures) in
+    let a = too-high (c .before .before .before .before .before .args .fragment .now) (c .before .before .before .before .before .args .main) (c .before .before .before .before .before .args .alt) (c .before .before .before .before .before .args .log .now) (omega arith) (omega arith) _ (c .refusal2 .ensures) in
     (a .same, (a .logged, a .replayed))
 
 -- src/lib.rt:506:9
@@ -52,11 +52,11 @@ enum-known-counted-2 c = search needs
 
 -- src/lib.rt:510:28
 mul-if3 : tie.Need-mul-if3
-mul-if3 c = omega (arith, few (c .before .before .before .before .before .before .before .before .args .fragment .now) _ (sym (c .before .counted2 .given .1) ∙ c .before .before .before .count-instructions .ensures) (c .before .before .before .before .before .if1 .left))
+mul-if3 c = omega (arith, few (c .before .before .before .before .before .before .before .before .args .fragment .now) _ (sym (c .before .counted2 .given .1) ∙ c .before .before .before .count-instructions .ensures) (omega arith))
 
 -- src/lib.rt:511:39
 mul-refusal : tie.Need-mul-refusal
-mul-refusal c = omega (arith, few (c .before .before .before .before .before .before .before .before .before .args .fragment .now) _ (sym (c .before .before .counted2 .given .1) ∙ c .before .before .before .before .count-instructions .ensures) (c .before .before .before .before .before .before .if1 .left))
+mul-refusal c = omega (arith, few (c .before .before .before .before .before .before .before .before .before .args .fragment .now) _ (sym (c .before .before .counted2 .given .1) ∙ c .before .before .before .before .count-instructions .ensures) (omega arith))
 
 -- src/lib.rt:511:17
 refusal-requires-4 : tie.Need-refusal-requires-4
@@ -65,17 +65,17 @@ refusal-requires-4 c κs = search needs
 -- src/lib.rt:511:17
 returns-3 : tie.Need-returns-3
 returns-3 c =
-    let a = short-log (c .before .before .before .before .before .before .before .before .before .before .args .fragment .now) (c .before .before .before .before .before .before .before .before .before .before .args .main) (c .before .before .before .before .before .before .before .before .before .before .args .alt) (c .before .before .before .before .before .before .before .before .before .before .args .log .now) (c .before .before .before .before .before .before .before .if1 .left) (c .before .before .before .before .before .before .if2 .left) _ (sym (c .before .before .before .counted2 .given .1) ∙ c .before .before .before .before .before .count-instructions .ensures) (c .before .if3 .taken) _ (c .refusal4 .ensures) in
+    let a = short-log (c .before .before .before .before .before .before .before .before .before .before .args .fragment .now) (c .before .before .before .before .before .before .before .before .before .before .args .main) (c .before .before .before .before .before .before .before .before .before .before .args .alt) (c .before .before .before .before .before .before .before .before .before .before .args .log .now) (omega arith) (omega arith) _ (sym (c .before .before .before .counted2 .given .1) ∙ c .before .before .before .before .before .count-instructions .ensures) (omega arith) _ (c .refusal4 .ensures) in
     (a .same, (a .logged, a .replayed))
 
 -- src/lib.rt:513:13
 walk-all-requires : tie.Need-walk-all-requires
-walk-all-requires c κs = ((c .before .before .before .before .before .before .before .if1 .left, c .before .before .before .before .before .before .if2 .left), rows-enough (c .before .before .before .before .before .before .before .before .before .before .args .fragment .now) (c .before .before .before .before .before .before .before .before .before .before .args .main) (c .before .before .before .before .before .before .before .before .before .before .args .alt) (c .before .before .before .before .before .before .before .before .before .before .args .log .now) (c .before .before .before .before .before .before .before .if1 .left) (c .before .before .before .before .before .before .if2 .left) _ (sym (c .before .before .before .counted2 .given .1) ∙ c .before .before .before .before .before .count-instructions .ensures) (c .before .if3 .left))
+walk-all-requires c κs = ((omega arith, omega arith), rows-enough (c .before .before .before .before .before .before .before .before .before .before .args .fragment .now) (c .before .before .before .before .before .before .before .before .before .before .args .main) (c .before .before .before .before .before .before .before .before .before .before .args .alt) (c .before .before .before .before .before .before .before .before .before .before .args .log .now) (omega arith) (omega arith) _ (sym (c .before .before .before .counted2 .given .1) ∙ c .before .before .before .before .before .count-instructions .ensures) (omega arith))
 
 -- src/lib.rt:471:1
 returns-4 : tie.Need-returns-4
 returns-4 c =
-    let a = not-whole (c .before .before .before .before .before .before .before .before .before .args .fragment .now) (c .before .before .before .before .before .before .before .before .before .args .main) (c .before .before .before .before .before .before .before .before .before .args .alt) (c .before .before .before .before .before .before .before .before .before .args .log .now) (c .before .before .before .before .before .before .if1 .left) (c .before .before .before .before .before .if2 .left) _ (sym (c .before .before .counted .given .1) ∙ c .before .before .before .before .count-instructions .ensures) _ (c .refusal3 .ensures) in
+    let a = not-whole (c .before .before .before .before .before .before .before .before .before .args .fragment .now) (c .before .before .before .before .before .before .before .before .before .args .main) (c .before .before .before .before .before .before .before .before .before .args .alt) (c .before .before .before .before .before .before .before .before .before .args .log .now) (omega arith) (omega arith) _ (sym (c .before .before .counted .given .1) ∙ c .before .before .before .before .count-instructions .ensures) _ (c .refusal3 .ensures) in
     (a .same, (a .logged, a .replayed))
 
 -- src/lib.rt:471:1
@@ -85,7 +85,7 @@ same-length c = search needs
 -- src/lib.rt:471:1
 returns-5 : tie.Need-returns-5
 returns-5 c =
-    let a = all-walked (c .before .before .before .before .before .before .before .before .before .before .before .before .before .args .fragment .now) (c .before .before .before .before .before .before .before .before .before .before .before .before .before .args .main) (c .before .before .before .before .before .before .before .before .before .before .before .before .before .args .alt) (c .before .before .before .before .before .before .before .before .before .before .before .before .before .args .log .now) (c .before .before .before .before .before .before .before .before .before .before .if1 .left) (c .before .before .before .before .before .before .before .before .before .if2 .left) _ (sym (c .before .before .before .before .before .before .counted2 .given .1) ∙ c .before .before .before .before .before .before .before .before .count-instructions .ensures) (c .before .before .before .before .if3 .left) _ _ (c .before .before .walk-all .ensures) in
+    let a = all-walked (c .before .before .before .before .before .before .before .before .before .before .before .before .before .args .fragment .now) (c .before .before .before .before .before .before .before .before .before .before .before .before .before .args .main) (c .before .before .before .before .before .before .before .before .before .before .before .before .before .args .alt) (c .before .before .before .before .before .before .before .before .before .before .before .before .before .args .log .now) (omega arith) (omega arith) _ (sym (c .before .before .before .before .before .before .counted2 .given .1) ∙ c .before .before .before .before .before .before .before .before .count-instructions .ensures) (omega arith) _ _ (c .before .before .walk-all .ensures) in
     (a .same, (a .logged, a .replayed))
 
 pub analyze-spec : {M : Type 1} → statement M

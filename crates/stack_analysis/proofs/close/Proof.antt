@@ -1,5 +1,5 @@
 use Rattle.definition.specs.Stacks.{builtIn}
-use Rattle.stack_analysis.proofs.Rows.{not-live, is-live}
+use Rattle.walk.proofs.Rows.{not-live, is-live}
 use Rattle.stack_analysis.proofs.Conditionals.{closes-other-dead, closes-dead, closes-both}
 use borrow.Author.Needs.{needs}
 use native.Mathlib.Omega.{arith}

@@ -1,4 +1,4 @@
-use Rattle.stack_analysis.proofs.Rows.{not-live, is-live}
+use Rattle.walk.proofs.Rows.{not-live, is-live}
 use Rattle.definition.specs.Stacks.{builtIn}
 use Rattle.stack_analysis.proofs.Conditionals.{too-deep, enters-dead, enters-popped}
 use borrow.Author.Needs.{needs}

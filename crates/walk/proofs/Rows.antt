@@ -10,7 +10,7 @@ use Rattle.definition.specs.Walk.{mainHeight, altHeight, totalOf, logRow}
 use Rattle.stack.specs.View.{view}
 use Rattle.stack.specs.declared.Stacks.{Stacks}
 use Rattle.slots.proofs.Laws.{length-tops}
-use Rattle.stack_analysis.specs.Walkers.{armOf}
+use Rattle.walk.specs.Runs.{armOf}
 
 pub higher-now : (peak total : ℕ) (alive : Bool) → alive ≡ true → peak < total → total ≡ max peak (pick alive total 0)
 higher-now peak total alive e h = rw e (omega arith)

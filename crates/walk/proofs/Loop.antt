@@ -30,12 +30,12 @@ use Rattle.stack.specs.declared.Stepped.{Stepped}
 use Rattle.stack.specs.declared.Answer.the-variants as A
 use Rattle.stack.specs.declared.Refusal.{Refusal}
 use Rattle.stack.specs.declared.Refusal.the-variants as F
-use Rattle.stack_analysis.specs.Walkers.{arm, Goes, Any, stopOf, Stopped, Ready, Runs}
-use Rattle.stack_analysis.specs.declared.Stop.{Stop}
-use Rattle.stack_analysis.specs.declared.Stop.the-variants.{Running, End, Conditional, Else, Endif, Refused}
-use Rattle.stack_analysis.specs.declared.Walk.{Walk}
-use Rattle.stack_analysis.proofs.Goings.{stays, goes-on}
-use Rattle.stack_analysis.proofs.Steps.{past, at-if, at-notif, at-else, at-endif, at-return, skipped, stepped, at-end}
+use Rattle.walk.specs.Runs.{arm, Goes, Any, stopOf, Stopped, Ready, Runs}
+use Rattle.walk.specs.declared.Stop.{Stop}
+use Rattle.walk.specs.declared.Stop.the-variants.{Running, End, Conditional, Else, Endif, Refused}
+use Rattle.walk.specs.declared.Walk.{Walk}
+use Rattle.walk.proofs.Goings.{stays, goes-on}
+use Rattle.walk.proofs.Steps.{past, at-if, at-notif, at-else, at-endif, at-return, skipped, stepped, at-end}
 
 -- the walk that the loop's variables stand for
 abbrev pub walkOf : Stepped → Bool → ℕ → ℕ → ℕ → ℕ → Walk

@@ -1,10 +1,10 @@
-use Rattle.stack_analysis.proofs.Rows.{higher-now, high-already, high-dead}
+use Rattle.walk.proofs.Rows.{higher-now, high-already, high-dead}
 use borrow.Author.Needs.{needs}
 use native.Mathlib.Omega.{arith}
-use Rattle.stack_analysis.proofs.higher.Statement.{statement}
-use Rattle.stack_analysis.proofs.higher.Tie as tie
-use Rattle.stack_analysis.proofs.higher.Reads as reads
-use Rattle.stack_analysis.proofs.higher.Lts as lts
+use Rattle.walk.proofs.higher.Statement.{statement}
+use Rattle.walk.proofs.higher.Tie as tie
+use Rattle.walk.proofs.higher.Reads as reads
+use Rattle.walk.proofs.higher.Lts as lts
 
 -- src/lib.rt:42:13
 returns : tie.Need-returns

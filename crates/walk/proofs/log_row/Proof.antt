@@ -1,10 +1,10 @@
 use lib.ListN.{length-set}
 use borrow.Author.Needs.{needs}
 use native.Mathlib.Omega.{arith}
-use Rattle.stack_analysis.proofs.log_row.Statement.{statement}
-use Rattle.stack_analysis.proofs.log_row.Tie as tie
-use Rattle.stack_analysis.proofs.log_row.Reads as reads
-use Rattle.stack_analysis.proofs.log_row.Lts as lts
+use Rattle.walk.proofs.log_row.Statement.{statement}
+use Rattle.walk.proofs.log_row.Tie as tie
+use Rattle.walk.proofs.log_row.Reads as reads
+use Rattle.walk.proofs.log_row.Lts as lts
 
 -- src/lib.rt:70:9
 mul-log : tie.Need-mul-log

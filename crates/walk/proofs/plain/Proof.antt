@@ -7,14 +7,13 @@ use lib.ListN.{length}
 use Rattle.decode.proofs.Bytes.{slice-bytes}
 use Rattle.decode.proofs.Codes.{code-instruction, code-ends, code-malformed}
 use Rattle.stack.proofs.Values.{unknown-suffices, held-exact, code-wants, push-is-unknown, push-is-code, push-is-exact}
-use Rattle.stack_analysis.specs.Walkers.{stopOf}
-use Rattle.stack_analysis.specs.declared.Stop.the-variants.{Running}
-use Rattle.stack_analysis.proofs.Rows.{row-written, high-of, not-live, is-live}
-use Rattle.stack_analysis.proofs.Loop.{walkOf, Walking, walking-none, runs-from, Met, was-refused, none-left, row-room, no-instruction, ready-running, nearer, class-left, met-copies, met-dead, met-else, met-endif, met-from-alt, met-if, met-live, met-nip, met-nothing, met-notif, met-push, met-return, met-roll, met-rotates, met-skipped, met-steps, met-to-alt, met-tuck, met-unmodelled}
-use Rattle.stack_analysis.proofs.plain.Statement.{statement}
-use Rattle.stack_analysis.proofs.plain.Tie as tie
-use Rattle.stack_analysis.proofs.plain.Reads as reads
-use Rattle.stack_analysis.proofs.plain.Lts as lts
+use Rattle.walk.specs.declared.Stop.the-variants.{Running}
+use Rattle.walk.proofs.Rows.{row-written, high-of, not-live, is-live}
+use Rattle.walk.proofs.Loop.{walkOf, Walking, walking-none, runs-from, Met, was-refused, none-left, row-room, no-instruction, ready-running, nearer, class-left, met-copies, met-else, met-endif, met-from-alt, met-if, met-nip, met-nothing, met-notif, met-push, met-return, met-roll, met-rotates, met-skipped, met-steps, met-to-alt, met-tuck, met-unmodelled}
+use Rattle.walk.proofs.plain.Statement.{statement}
+use Rattle.walk.proofs.plain.Tie as tie
+use Rattle.walk.proofs.plain.Reads as reads
+use Rattle.walk.proofs.plain.Lts as lts
 use Rattle.decode.proofs.decode_at.Reads as decode-at-reads
 use Rattle.opcodes.proofs.class_of.Reads as class-of-reads
 use Rattle.stack.proofs.Stacks.apply_effect.Reads as apply-effect-reads
@@ -33,9 +32,9 @@ use Rattle.stack.proofs.Stacks.tuck.Reads as tuck-reads
 use Rattle.stack.proofs.Stacks.zk.Reads as zk-reads
 use Rattle.slots.proofs.code_of.Reads as code-of-reads
 use Rattle.slots.proofs.suffices.Reads as suffices-reads
-use Rattle.stack_analysis.proofs.higher.Reads as higher-reads
-use Rattle.stack_analysis.proofs.log_row.Reads as log-row-reads
-use Rattle.stack_analysis.proofs.logged.Reads as logged-reads
+use Rattle.walk.proofs.higher.Reads as higher-reads
+use Rattle.walk.proofs.log_row.Reads as log-row-reads
+use Rattle.walk.proofs.logged.Reads as logged-reads
 
 abbrev Inv-loop : tie.InvT-loop
 Inv-loop code log₀ t₀ live₀ at₀ last₀ rows₀ peak₀ log t live at last rows peak =

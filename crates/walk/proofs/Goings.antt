@@ -8,8 +8,8 @@ use Rattle.definition.specs.Basics.{Bytes}
 use Rattle.definition.specs.Stacks.{Rules}
 use Rattle.definition.specs.Walk.{Frame}
 use Rattle.stack.specs.View.{Fit}
-use Rattle.stack_analysis.specs.Walkers.{Goes, resume, rowsIn}
-use Rattle.stack_analysis.specs.declared.Walk.{Walk}
+use Rattle.walk.specs.Runs.{Goes}
+use Rattle.walk.specs.declared.Walk.{Walk}
 
 module _ {R : Rules} {s : Bytes} {P : List Frame → Type 0} where
   pub stays : {w : Walk} {log : List ℕ} → Fit (w .stacks) → w .at ≤ length s → Goes R s P w log w log

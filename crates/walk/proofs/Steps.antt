@@ -19,10 +19,10 @@ use Rattle.stack.specs.declared.Stacks.{Stacks}
 use Rattle.stack.specs.declared.Stepped.{Stepped}
 use Rattle.stack.specs.declared.Answer.{Answer}
 use Rattle.stack.specs.declared.Answer.the-variants as A
-use Rattle.stack_analysis.specs.Walkers.{arm, armOf, stateOf, elseMove, endifMove, from, resume, resumeBy, rowsIn, Goes, Any, stopOf}
-use Rattle.stack_analysis.specs.declared.Stop.{Stop}
-use Rattle.stack_analysis.specs.declared.Stop.the-variants.{Running, End, Conditional, Else, Endif, Refused}
-use Rattle.stack_analysis.specs.declared.Walk.{Walk}
+use Rattle.walk.specs.Runs.{arm, stateOf, from, resume, resumeBy, Goes, Any, stopOf}
+use Rattle.walk.specs.declared.Stop.{Stop}
+use Rattle.walk.specs.declared.Stop.the-variants.{Running, End, Conditional, Else, Endif, Refused}
+use Rattle.walk.specs.declared.Walk.{Walk}
 
 -- w past the instruction i
 abbrev pub past : Walk → Instruction → ℕ → Stacks → Bool → Stop → Walk
