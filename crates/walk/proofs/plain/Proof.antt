@@ -124,7 +124,7 @@ logged-requires-2 c κs = search needs
 
 -- src/lib.rt:154:9
 log-row-requires : tie.Need-log-row-requires Inv-loop μ-loop
-log-row-requires c κs = row-room (c .before .before .before .before .before .before .before .before .before .before .loop .inv) (code-instruction _ _ (c .before .before .before .before .before .before .before .before .before .before .loop .inv .bytes) _ (sym (c .before .before .before .before .before .before .decode-at .ensures) ∙ c .before .before .before .before .d .given .1))
+log-row-requires c κs = omega (arith, row-room (c .before .before .before .before .before .before .before .before .before .before .loop .inv) (code-instruction _ _ (c .before .before .before .before .before .before .before .before .before .before .loop .inv .bytes) _ (sym (c .before .before .before .before .before .before .decode-at .ensures) ∙ c .before .before .before .before .d .given .1)))
 
 -- src/lib.rt:155:9
 add-rows : tie.Need-add-rows Inv-loop μ-loop
