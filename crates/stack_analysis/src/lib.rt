@@ -463,10 +463,10 @@ pub fn analyze(fragment: &[u8], main: u32, alt: u32, log: &mut [u16]) -> Verdict
         (record { verdict = verdictOf r; log = now (log .exit) }))
         ⌝ }
 {
+    let sum = (main as u64) + (alt as u64);
     if fragment.len() > 10000 {
         return refusal(1, 0, fragment.len() as u64, 10000, 0);
     }
-    let sum = (main as u64) + (alt as u64);
     if sum > 244 {
         return refusal(2, 0, sum, 244, 0);
     }
