@@ -14,35 +14,27 @@ Inv-loop paper at from count next₀ left₀ next left = Comparing paper (partAt
 abbrev μ-loop : tie.MeasureT-loop
 μ-loop paper at from count next₀ left₀ next left = left
 
--- src/lib.rt:79:5
 loop-holds : tie.Need-loop-holds Inv-loop μ-loop
 loop-holds c = comparing-all _ _ _ _
 
--- src/lib.rt:80:12
 share-requires : tie.Need-share-requires Inv-loop μ-loop
 share-requires c κs = search needs
 
--- src/lib.rt:81:13
 returns : tie.Need-returns Inv-loop μ-loop
 returns c = search (comparing-shared, needs)
 
--- src/lib.rt:83:9
 add-next : tie.Need-add-next Inv-loop μ-loop
 add-next c = search needs
 
--- src/lib.rt:84:9
 sub-left : tie.Need-sub-left Inv-loop μ-loop
 sub-left c = search needs
 
--- src/lib.rt:79:5
 loop-less : tie.Need-loop-less Inv-loop μ-loop
 loop-less c = search needs
 
--- src/lib.rt:79:5
 loop-again : tie.Need-loop-again Inv-loop μ-loop
 loop-again c = search (comparing-more, needs)
 
--- src/lib.rt:73:1
 returns-2 : tie.Need-returns-2 Inv-loop μ-loop
 returns-2 c = search (comparing-none, needs)
 

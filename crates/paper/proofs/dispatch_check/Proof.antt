@@ -14,65 +14,51 @@ Inv-loop paper count fields k₀ k = Dispatching paper count k
 abbrev μ-loop : tie.MeasureT-loop
 μ-loop paper count fields k₀ k = count - k
 
--- src/lib.rt:152:17
 field-requires : tie.Need-field-requires Inv-loop μ-loop
 field-requires c κs = search needs
 
--- src/lib.rt:152:17
 cast-count : tie.Need-cast-count Inv-loop μ-loop
 cast-count c = search needs
 
--- src/lib.rt:153:9
 field-requires-2 : tie.Need-field-requires-2 Inv-loop μ-loop
 field-requires-2 c κs = search needs
 
--- src/lib.rt:155:5
 loop-holds : tie.Need-loop-holds Inv-loop μ-loop
 loop-holds c = dispatching-all _ _ (c .before .field .ensures .0)
 
--- src/lib.rt:156:36
 mul-field : tie.Need-mul-field Inv-loop μ-loop
 mul-field c = search needs
 
--- src/lib.rt:156:32
 add-field : tie.Need-add-field Inv-loop μ-loop
 add-field c = search needs
 
--- src/lib.rt:156:19
 field-requires-3 : tie.Need-field-requires-3 Inv-loop μ-loop
 field-requires-3 c κs = search needs
 
--- src/lib.rt:156:19
 add-sum : tie.Need-add-sum Inv-loop μ-loop
 add-sum c = search needs
 
--- src/lib.rt:156:19
 add-sum-2 : tie.Need-add-sum-2 Inv-loop μ-loop
 add-sum-2 c = search needs
 
--- src/lib.rt:158:13
 returns : tie.Need-returns Inv-loop μ-loop
 returns c =
     let l = c .before .before .before in
     let a = l .before .before in
     dispatching-over (a .before .before .args .paper .now) (a .field .result) (a .field .ensures .0) (l .loop .k) (l .loop .inv) (c .before .before .loop-test .taken) (c .before .field3 .result) (l .before .field2 .result) (c .before .field3 .ensures .0) (l .before .field2 .ensures .0) (c .if1 .taken)
 
--- src/lib.rt:160:9
 add-k : tie.Need-add-k Inv-loop μ-loop
 add-k c = search needs
 
--- src/lib.rt:155:5
 loop-less : tie.Need-loop-less Inv-loop μ-loop
 loop-less c = search needs
 
--- src/lib.rt:155:5
 loop-again : tie.Need-loop-again Inv-loop μ-loop
 loop-again c =
     let l = c .before .before .before in
     let a = l .before .before in
     dispatching-more (a .before .before .args .paper .now) (a .field .result) (a .field .ensures .0) (l .loop .k) (l .loop .inv) (c .before .before .loop-test .taken) (c .before .field3 .result) (l .before .field2 .result) (c .before .field3 .ensures .0) (l .before .field2 .ensures .0) (c .if1 .left)
 
--- src/lib.rt:144:1
 returns-2 : tie.Need-returns-2 Inv-loop μ-loop
 returns-2 c =
     let l = c .before in

@@ -7,47 +7,36 @@ use Rattle.paper.proofs.field.Reads as reads
 use Rattle.paper.proofs.field.Lts as lts
 use Rattle.paper.proofs.wide.Reads as wide-reads
 
--- src/lib.rt:20:9
 returns : tie.Need-returns
 returns c = (search (field-past, needs), omega arith)
 
--- src/lib.rt:22:22
 shared-slice-read-wide : tie.Need-shared-slice-read-wide
 shared-slice-read-wide c = search needs
 
--- src/lib.rt:22:9
 wide-requires : tie.Need-wide-requires
 wide-requires c κs = search needs
 
--- src/lib.rt:23:8
 sub-if2 : tie.Need-sub-if2
 sub-if2 c = search needs
 
--- src/lib.rt:24:9
 returns-2 : tie.Need-returns-2
 returns-2 c = (search (field-last, needs), search needs)
 
--- src/lib.rt:26:30
 add-wide : tie.Need-add-wide
 add-wide c = search needs
 
--- src/lib.rt:26:24
 shared-slice-read-wide-2 : tie.Need-shared-slice-read-wide-2
 shared-slice-read-wide-2 c = search needs
 
--- src/lib.rt:26:19
 wide-requires-2 : tie.Need-wide-requires-2
 wide-requires-2 c κs = search needs
 
--- src/lib.rt:26:13
 mul-result : tie.Need-mul-result
 mul-result c = search needs
 
--- src/lib.rt:26:5
 add-result : tie.Need-add-result
 add-result c = search needs
 
--- src/lib.rt:15:1
 returns-3 : tie.Need-returns-3
 returns-3 c = (search (field-whole, needs), search needs)
 

@@ -7,27 +7,21 @@ use Rattle.paper.proofs.fragment_alt.Lts as lts
 use Rattle.paper.proofs.field.Reads as field-reads
 use Rattle.paper.proofs.fragment_count.Reads as fragment-count-reads
 
--- src/lib.rt:389:17
 field-requires : tie.Need-field-requires
 field-requires c κs = search needs
 
--- src/lib.rt:389:17
 cast-count : tie.Need-cast-count
 cast-count c = search needs
 
--- src/lib.rt:391:9
 returns : tie.Need-returns
 returns c = search (body-alt, needs)
 
--- src/lib.rt:393:12
 fragment-count-requires : tie.Need-fragment-count-requires
 fragment-count-requires c κs = search needs
 
--- src/lib.rt:394:9
 returns-2 : tie.Need-returns-2
 returns-2 c = search (state-alt, needs)
 
--- src/lib.rt:386:1
 returns-3 : tie.Need-returns-3
 returns-3 c = search (no-alt, needs)
 

@@ -8,59 +8,45 @@ use Rattle.paper.proofs.field.Reads as field-reads
 use Rattle.paper.proofs.fragment_count.Reads as fragment-count-reads
 use Rattle.paper.proofs.part.Reads as part-reads
 
--- src/lib.rt:361:17
 field-requires : tie.Need-field-requires
 field-requires c κs = search needs
 
--- src/lib.rt:361:17
 cast-count : tie.Need-cast-count
 cast-count c = search needs
 
--- src/lib.rt:363:32
 mul-part : tie.Need-mul-part
 mul-part c = search needs
 
--- src/lib.rt:363:28
 add-part : tie.Need-add-part
 add-part c = search needs
 
--- src/lib.rt:363:28
 add-part-2 : tie.Need-add-part-2
 add-part-2 c = search needs
 
--- src/lib.rt:363:9
 part-requires : tie.Need-part-requires
 part-requires c κs = search needs
 
--- src/lib.rt:363:9
 returns : tie.Need-returns
 returns c = search (body-bytes, needs)
 
--- src/lib.rt:365:12
 fragment-count-requires : tie.Need-fragment-count-requires
 fragment-count-requires c κs = search needs
 
--- src/lib.rt:366:9
 part-requires-2 : tie.Need-part-requires-2
 part-requires-2 c κs = search needs
 
--- src/lib.rt:366:9
 returns-2 : tie.Need-returns-2
 returns-2 c = search (state-bytes, needs)
 
--- src/lib.rt:368:5
 sub-result : tie.Need-sub-result
 sub-result c = search needs
 
--- src/lib.rt:368:5
 part-result-start : tie.Need-part-result-start
 part-result-start c = search needs
 
--- src/lib.rt:368:5
 part-result-end : tie.Need-part-result-end
 part-result-end c = search needs
 
--- src/lib.rt:358:1
 returns-3 : tie.Need-returns-3
 returns-3 c = search (no-bytes, needs)
 

@@ -7,27 +7,21 @@ use Rattle.paper.proofs.fragment_count.Reads as reads
 use Rattle.paper.proofs.fragment_count.Lts as lts
 use Rattle.paper.proofs.field.Reads as field-reads
 
--- src/lib.rt:212:17
 field-requires : tie.Need-field-requires
 field-requires c κs = search needs
 
--- src/lib.rt:212:17
 cast-count : tie.Need-cast-count
 cast-count c = search needs
 
--- src/lib.rt:213:8
 field-requires-2 : tie.Need-field-requires-2
 field-requires-2 c κs = search needs
 
--- src/lib.rt:214:9
 returns : tie.Need-returns
 returns c = count-without (c .before .before .before .before .args .paper .now) (c .before .before .field .result) (c .before .field2 .result) (c .before .before .field .ensures .0) (c .before .field2 .ensures .0) (c .if1 .taken)
 
--- src/lib.rt:216:5
 add-result : tie.Need-add-result
 add-result c = search needs
 
--- src/lib.rt:209:1
 returns-2 : tie.Need-returns-2
 returns-2 c = count-with (c .before .before .before .before .args .paper .now) (c .before .before .field .result) (c .before .field2 .result) (c .before .before .field .ensures .0) (c .before .field2 .ensures .0) (c .if1 .left)
 

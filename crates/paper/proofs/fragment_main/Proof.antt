@@ -8,51 +8,39 @@ use Rattle.paper.proofs.field.Reads as field-reads
 use Rattle.paper.proofs.fragment_count.Reads as fragment-count-reads
 use Rattle.paper.proofs.most_parameters.Reads as most-parameters-reads
 
--- src/lib.rt:375:17
 field-requires : tie.Need-field-requires
 field-requires c κs = search needs
 
--- src/lib.rt:375:17
 cast-count : tie.Need-cast-count
 cast-count c = search needs
 
--- src/lib.rt:377:33
 mul-field : tie.Need-mul-field
 mul-field c = search needs
 
--- src/lib.rt:377:29
 add-field : tie.Need-add-field
 add-field c = search needs
 
--- src/lib.rt:377:16
 field-requires-2 : tie.Need-field-requires-2
 field-requires-2 c κs = search needs
 
--- src/lib.rt:377:42
 field-requires-3 : tie.Need-field-requires-3
 field-requires-3 c κs = search needs
 
--- src/lib.rt:377:16
 add-result : tie.Need-add-result
 add-result c = search needs
 
--- src/lib.rt:377:9
 returns : tie.Need-returns
 returns c = search (body-main, needs)
 
--- src/lib.rt:379:12
 fragment-count-requires : tie.Need-fragment-count-requires
 fragment-count-requires c κs = search needs
 
--- src/lib.rt:380:9
 most-parameters-requires : tie.Need-most-parameters-requires
 most-parameters-requires c κs = search needs
 
--- src/lib.rt:380:9
 returns-2 : tie.Need-returns-2
 returns-2 c = search (state-main, needs)
 
--- src/lib.rt:372:1
 returns-3 : tie.Need-returns-3
 returns-3 c = search (no-main, needs)
 

@@ -9,55 +9,42 @@ use Rattle.paper.proofs.field.Reads as field-reads
 use Rattle.paper.proofs.mark_part.Reads as mark-part-reads
 use Rattle.paper.proofs.most_parameters.Reads as most-parameters-reads
 
--- src/lib.rt:256:17
 field-requires : tie.Need-field-requires
 field-requires c κs = search needs
 
--- src/lib.rt:256:17
 cast-count : tie.Need-cast-count
 cast-count c = search needs
 
--- src/lib.rt:258:37
 mul-field : tie.Need-mul-field
 mul-field c = search needs
 
--- src/lib.rt:258:33
 add-field : tie.Need-add-field
 add-field c = search needs
 
--- src/lib.rt:258:20
 field-requires-2 : tie.Need-field-requires-2
 field-requires-2 c κs = search needs
 
--- src/lib.rt:258:46
 field-requires-3 : tie.Need-field-requires-3
 field-requires-3 c κs = search needs
 
--- src/lib.rt:258:20
 add-main : tie.Need-add-main
 add-main c = search needs
 
--- src/lib.rt:259:37
 mul-mark-part : tie.Need-mul-mark-part
 mul-mark-part c = search needs
 
--- src/lib.rt:259:33
 add-mark-part : tie.Need-add-mark-part
 add-mark-part c = search needs
 
--- src/lib.rt:259:33
 add-mark-part-2 : tie.Need-add-mark-part-2
 add-mark-part-2 c = search needs
 
--- src/lib.rt:259:9
 mark-part-requires : tie.Need-mark-part-requires
 mark-part-requires c κs = search needs
 
--- src/lib.rt:259:9
 same-length : tie.Need-same-length
 same-length c = search needs
 
--- src/lib.rt:259:9
 returns : tie.Need-returns
 returns c =
     let b = c .before .before in
@@ -67,19 +54,15 @@ returns c =
     let m = marks-body (a .args .paper .now) (a .args .k) (a .args .rows) (a .args .log .now) (b .mark-part .result) _ (n .field .result) (f .before .field2 .result) (f .field3 .result) (n .field .ensures .0) (f .before .before .if1 .taken) (f .before .field2 .ensures .0) (f .field3 .ensures .0) (b .mark-part .ensures) in
     (m .same, (m .logged, m .room))
 
--- src/lib.rt:261:25
 most-parameters-requires : tie.Need-most-parameters-requires
 most-parameters-requires c κs = search needs
 
--- src/lib.rt:261:5
 mark-part-requires-2 : tie.Need-mark-part-requires-2
 mark-part-requires-2 c κs = search needs
 
--- src/lib.rt:242:1
 same-length-2 : tie.Need-same-length-2
 same-length-2 c = search needs
 
--- src/lib.rt:242:1
 returns-2 : tie.Need-returns-2
 returns-2 c =
     let b = c .before .before in

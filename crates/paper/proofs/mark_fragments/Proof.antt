@@ -31,29 +31,23 @@ more c =
     let l = c .before .before .before in
     omega (arith, c .before .before .loop-test .taken, l .before .fragment-count .ensures)
 
--- src/lib.rt:277:9
 fragment-count-requires : tie.Need-fragment-count-requires Inv-loop μ-loop
 fragment-count-requires c κs = search needs
 
--- src/lib.rt:281:5
 loop-holds : tie.Need-loop-holds Inv-loop μ-loop
 loop-holds c = marking-none _ _
 
--- src/lib.rt:282:13
 mark-fragment-requires : tie.Need-mark-fragment-requires Inv-loop μ-loop
 mark-fragment-requires c κs = search needs
 
--- src/lib.rt:283:9
 add-rows : tie.Need-add-rows Inv-loop μ-loop
 add-rows c = search needs
 
--- src/lib.rt:285:13
 same-length : tie.Need-same-length Inv-loop μ-loop
 same-length c =
     let b = c .before .before .before .before .before in
     b .mark-fragment .kept .1 .1 .1 .0 ∙ b .before .before .before .loop .inv .kept
 
--- src/lib.rt:285:13
 returns : tie.Need-returns Inv-loop μ-loop
 returns c =
     let b = c .before .before .before .before .before in
@@ -62,19 +56,15 @@ returns c =
     let m = marking-stops (a .paper .now) (a .log .now) (l .loop .k) (l .loop .rows) (l .loop .peak) (l .loop .log) (l .loop .inv) (more b) (b .mark-fragment .result) _ (marked b) (c .if1 .taken) in
     (m .same, m .logged)
 
--- src/lib.rt:295:9
 larger-requires : tie.Need-larger-requires Inv-loop μ-loop
 larger-requires c κs = search needs
 
--- src/lib.rt:296:9
 add-k : tie.Need-add-k Inv-loop μ-loop
 add-k c = search needs
 
--- src/lib.rt:281:5
 loop-less : tie.Need-loop-less Inv-loop μ-loop
 loop-less c = search needs
 
--- src/lib.rt:281:5
 loop-again : tie.Need-loop-again Inv-loop μ-loop
 loop-again c =
     let b = c .before .before .before .before .before .before in
@@ -82,11 +72,9 @@ loop-again c =
     let a = l .before .before .before .before .args in
     marking-more (a .paper .now) (a .log .now) (l .loop .k) (l .loop .rows) (l .loop .peak) (l .loop .log) (l .loop .inv) (more b) (b .mark-fragment .result) _ (marked b) (b .mark-fragment .kept .1 .1 .1 .0) (c .before .if1 .left) (c .larger .result) (c .larger .ensures)
 
--- src/lib.rt:265:1
 same-length-2 : tie.Need-same-length-2 Inv-loop μ-loop
 same-length-2 c = c .before .loop .inv .kept
 
--- src/lib.rt:265:1
 returns-2 : tie.Need-returns-2 Inv-loop μ-loop
 returns-2 c =
     let l = c .before in

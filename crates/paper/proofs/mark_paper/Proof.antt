@@ -10,26 +10,21 @@ use Rattle.paper.proofs.header_ok.Reads as header-ok-reads
 use Rattle.paper.proofs.mark_fragments.Reads as mark-fragments-reads
 use Rattle.paper.proofs.refused.Reads as refused-reads
 
--- src/lib.rt:350:9
 refused-requires : tie.Need-refused-requires
 refused-requires c κs = search needs
 
--- src/lib.rt:350:9
 returns : tie.Need-returns
 returns c =
     let a = c .before .before .before .before .args in
     let m = paper-long (a .paper .now) (a .log .now) (c .before .if1 .taken) _ (c .refused .ensures) in
     (m .same, (m .logged, λ z. paper-replays (a .paper .now) (a .log .now) _ _ m z))
 
--- src/lib.rt:352:9
 header-ok-requires : tie.Need-header-ok-requires
 header-ok-requires c κs = search needs
 
--- src/lib.rt:353:9
 refused-requires-2 : tie.Need-refused-requires-2
 refused-requires-2 c κs = search needs
 
--- src/lib.rt:353:9
 returns-2 : tie.Need-returns-2
 returns-2 c =
     let h = c .before .before in
@@ -37,31 +32,24 @@ returns-2 c =
     let m = paper-bad (a .paper .now) (a .log .now) (h .before .if1 .left) (h .header-ok .result) (h .header-ok .ensures) (c .before .if2 .taken) _ (c .refused2 .ensures) in
     (m .same, (m .logged, λ z. paper-replays (a .paper .now) (a .log .now) _ _ m z))
 
--- src/lib.rt:355:9
 dispatch-check-requires : tie.Need-dispatch-check-requires
 dispatch-check-requires c κs = search needs
 
--- src/lib.rt:357:26
 enum-known-d : tie.Need-enum-known-d
 enum-known-d c = search needs
 
--- src/lib.rt:357:61
 cast-refused : tie.Need-cast-refused
 cast-refused c = search needs
 
--- src/lib.rt:357:42
 refused-requires-3 : tie.Need-refused-requires-3
 refused-requires-3 c κs = search needs
 
--- src/lib.rt:358:49
 enum-told : tie.Need-enum-told
 enum-told c = search needs
 
--- src/lib.rt:358:27
 mark-fragments-requires : tie.Need-mark-fragments-requires
 mark-fragments-requires c κs = search needs
 
--- src/lib.rt:333:1
 returns-3 : tie.Need-returns-3
 returns-3 c =
     let e = c .before .before .d in
@@ -71,11 +59,9 @@ returns-3 c =
     let m = paper-over (a .paper .now) (a .log .now) (h .before .if1 .left) (h .header-ok .result) (h .header-ok .ensures) (d .before .if2 .left) (d .dispatch-check .result) (d .dispatch-check .ensures) _ _ (e .given .1) _ (c .refused3 .ensures) in
     (m .same, (m .logged, λ z. paper-replays (a .paper .now) (a .log .now) _ _ m z))
 
--- src/lib.rt:333:1
 same-length : tie.Need-same-length
 same-length c = search needs
 
--- src/lib.rt:333:1
 returns-4 : tie.Need-returns-4
 returns-4 c =
     let r = c .before .before in

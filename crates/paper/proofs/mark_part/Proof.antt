@@ -8,39 +8,30 @@ use Rattle.paper.proofs.mark_part.Lts as lts
 use Rattle.paper.proofs.part.Reads as part-reads
 use Rattle.stack_analysis.proofs.analyze.Reads as analyze-reads
 
--- src/lib.rt:238:29
 part-requires : tie.Need-part-requires
 part-requires c κs = search needs
 
--- src/lib.rt:238:66
 mul-analyze : tie.Need-mul-analyze
 mul-analyze c = search needs
 
--- src/lib.rt:238:57
 mul-analyze-2 : tie.Need-mul-analyze-2
 mul-analyze-2 c = search needs
 
--- src/lib.rt:238:57
 sub-analyze : tie.Need-sub-analyze
 sub-analyze c = search needs
 
--- src/lib.rt:238:57
 part-analyze-start : tie.Need-part-analyze-start
 part-analyze-start c = search needs
 
--- src/lib.rt:238:57
 part-analyze-end : tie.Need-part-analyze-end
 part-analyze-end c = search needs
 
--- src/lib.rt:238:5
 analyze-requires : tie.Need-analyze-requires
 analyze-requires c κs = search needs
 
--- src/lib.rt:221:1
 same-length : tie.Need-same-length
 same-length c = search needs
 
--- src/lib.rt:221:1
 returns : tie.Need-returns
 returns c =
     let z = c .before .before .analyze in

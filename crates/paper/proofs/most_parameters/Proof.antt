@@ -15,47 +15,36 @@ Inv-loop paper count most₀ k₀ most k = Greatest paper count k most
 abbrev μ-loop : tie.MeasureT-loop
 μ-loop paper count most₀ k₀ most k = count - k
 
--- src/lib.rt:169:17
 field-requires : tie.Need-field-requires Inv-loop μ-loop
 field-requires c κs = search needs
 
--- src/lib.rt:169:17
 cast-count : tie.Need-cast-count Inv-loop μ-loop
 cast-count c = search needs
 
--- src/lib.rt:172:5
 loop-holds : tie.Need-loop-holds Inv-loop μ-loop
 loop-holds c = greatest-all _ _ (c .field .ensures .0)
 
--- src/lib.rt:173:46
 mul-field : tie.Need-mul-field Inv-loop μ-loop
 mul-field c = search needs
 
--- src/lib.rt:173:42
 add-field : tie.Need-add-field Inv-loop μ-loop
 add-field c = search needs
 
--- src/lib.rt:173:29
 field-requires-2 : tie.Need-field-requires-2 Inv-loop μ-loop
 field-requires-2 c κs = search needs
 
--- src/lib.rt:173:9
 larger-requires : tie.Need-larger-requires Inv-loop μ-loop
 larger-requires c κs = search needs
 
--- src/lib.rt:174:9
 add-k : tie.Need-add-k Inv-loop μ-loop
 add-k c = search needs
 
--- src/lib.rt:172:5
 loop-less : tie.Need-loop-less Inv-loop μ-loop
 loop-less c = search needs
 
--- src/lib.rt:172:5
 loop-again : tie.Need-loop-again Inv-loop μ-loop
 loop-again c = search (greatest-more, needs)
 
--- src/lib.rt:166:1
 returns : tie.Need-returns Inv-loop μ-loop
 returns c = search (greatest-none, needs)
 

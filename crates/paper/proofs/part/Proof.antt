@@ -7,79 +7,60 @@ use Rattle.paper.proofs.part.Reads as reads
 use Rattle.paper.proofs.part.Lts as lts
 use Rattle.paper.proofs.field.Reads as field-reads
 
--- src/lib.rt:184:18
 field-requires : tie.Need-field-requires
 field-requires c κs = search needs
 
--- src/lib.rt:184:18
 cast-offset : tie.Need-cast-offset
 cast-offset c = search needs
 
--- src/lib.rt:185:29
 add-field : tie.Need-add-field
 add-field c = search needs
 
--- src/lib.rt:185:16
 field-requires-2 : tie.Need-field-requires-2
 field-requires-2 c κs = search needs
 
--- src/lib.rt:185:16
 cast-size : tie.Need-cast-size
 cast-size c = search needs
 
--- src/lib.rt:187:16
 sub-result : tie.Need-sub-result
 sub-result c = search needs
 
--- src/lib.rt:187:16
 part-result-start : tie.Need-part-result-start
 part-result-start c = search needs
 
--- src/lib.rt:187:16
 part-result-end : tie.Need-part-result-end
 part-result-end c = search needs
 
--- src/lib.rt:187:9
 returns : tie.Need-returns
 returns c = search (part-past, needs)
 
--- src/lib.rt:189:22
 add-if2 : tie.Need-add-if2
 add-if2 c = search needs
 
--- src/lib.rt:190:16
 sub-result-2 : tie.Need-sub-result-2
 sub-result-2 c = search needs
 
--- src/lib.rt:190:16
 part-result-start-2 : tie.Need-part-result-start-2
 part-result-start-2 c = search needs
 
--- src/lib.rt:190:16
 part-result-end-2 : tie.Need-part-result-end-2
 part-result-end-2 c = search needs
 
--- src/lib.rt:190:9
 returns-2 : tie.Need-returns-2
 returns-2 c = search (part-cut, needs)
 
--- src/lib.rt:192:20
 add-result : tie.Need-add-result
 add-result c = search needs
 
--- src/lib.rt:192:5
 sub-result-3 : tie.Need-sub-result-3
 sub-result-3 c = search needs
 
--- src/lib.rt:192:5
 part-result-start-3 : tie.Need-part-result-start-3
 part-result-start-3 c = search needs
 
--- src/lib.rt:192:5
 part-result-end-3 : tie.Need-part-result-end-3
 part-result-end-3 c = search needs
 
--- src/lib.rt:180:1
 returns-3 : tie.Need-returns-3
 returns-3 c = search (part-whole, needs)
 

@@ -14,50 +14,39 @@ Inv-loop paper header from count at₀ left₀ at left = Testing paper header fr
 abbrev μ-loop : tie.MeasureT-loop
 μ-loop paper header from count at₀ left₀ at left = left
 
--- src/lib.rt:97:5
 loop-holds : tie.Need-loop-holds Inv-loop μ-loop
 loop-holds c = testing-all _ _ _ _
 
--- src/lib.rt:98:13
 within-requires : tie.Need-within-requires Inv-loop μ-loop
 within-requires c κs = search needs
 
--- src/lib.rt:99:13
 returns : tie.Need-returns Inv-loop μ-loop
 returns c = search (testing-outside, needs)
 
--- src/lib.rt:101:9
 sub-left : tie.Need-sub-left Inv-loop μ-loop
 sub-left c = search needs
 
--- src/lib.rt:102:35
 add-apart-from : tie.Need-add-apart-from Inv-loop μ-loop
 add-apart-from c = search needs
 
--- src/lib.rt:102:13
 apart-from-requires : tie.Need-apart-from-requires Inv-loop μ-loop
 apart-from-requires c κs = search needs
 
--- src/lib.rt:103:13
 returns-2 : tie.Need-returns-2 Inv-loop μ-loop
 returns-2 c = search (testing-shared, needs)
 
--- src/lib.rt:105:9
 add-at : tie.Need-add-at Inv-loop μ-loop
 add-at c = search needs
 
--- src/lib.rt:97:5
 loop-less : tie.Need-loop-less Inv-loop μ-loop
 loop-less c = search needs
 
--- src/lib.rt:97:5
 loop-again : tie.Need-loop-again Inv-loop μ-loop
 loop-again c =
     let w = c .before .before .before in
     let l = w .before .before in
     testing-more _ _ _ _ (l .loop .at) (l .loop .left) (l .loop .inv) (w .before .loop-test .taken) (w .within .result) (w .within .ensures) (c .before .before .if1 .left) (c .before .apart-from .result) (c .before .apart-from .ensures) (c .if2 .left)
 
--- src/lib.rt:90:1
 returns-3 : tie.Need-returns-3 Inv-loop μ-loop
 returns-3 c = search (testing-none, needs)
 

@@ -7,7 +7,6 @@ use Rattle.paper.proofs.refused.Tie as tie
 use Rattle.paper.proofs.refused.Reads as reads
 use Rattle.paper.proofs.refused.Lts as lts
 
--- src/lib.rt:310:1
 returns : tie.Need-returns
 unfolding paperOf
 returns c = refl

@@ -9,47 +9,36 @@ use Rattle.paper.proofs.field.Reads as field-reads
 use Rattle.paper.proofs.larger.Reads as larger-reads
 use Rattle.paper.proofs.smaller.Reads as smaller-reads
 
--- src/lib.rt:65:9
 field-requires : tie.Need-field-requires
 field-requires c κs = search needs
 
--- src/lib.rt:66:9
 field-requires-2 : tie.Need-field-requires-2
 field-requires-2 c κs = search needs
 
--- src/lib.rt:67:9
 larger-requires : tie.Need-larger-requires
 larger-requires c κs = search needs
 
--- src/lib.rt:68:44
 add-field : tie.Need-add-field
 add-field c = search needs
 
--- src/lib.rt:68:31
 field-requires-3 : tie.Need-field-requires-3
 field-requires-3 c κs = search needs
 
--- src/lib.rt:68:23
 add-smaller : tie.Need-add-smaller
 add-smaller c = search needs
 
--- src/lib.rt:68:74
 add-field-2 : tie.Need-add-field-2
 add-field-2 c = search needs
 
--- src/lib.rt:68:61
 field-requires-4 : tie.Need-field-requires-4
 field-requires-4 c κs = search needs
 
--- src/lib.rt:68:52
 add-smaller-2 : tie.Need-add-smaller-2
 add-smaller-2 c = search needs
 
--- src/lib.rt:68:9
 smaller-requires : tie.Need-smaller-requires
 smaller-requires c κs = search needs
 
--- src/lib.rt:61:1
 returns : tie.Need-returns
 returns c = search (share-so, needs)
 

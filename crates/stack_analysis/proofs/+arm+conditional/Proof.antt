@@ -44,7 +44,6 @@ arm-Inv-loop code log₀ depth w₀ log w = Arming code depth w₀ log₀ w log
 abbrev arm-μ-loop : arm-lts.MeasureT-loop
 arm-μ-loop code log₀ depth w₀ log w = 2 * (length code - w .at) + ifMore (w .stop)
 
--- src/lib.rt:268:9
 arm-plain-requires : (t : ℕ) → arm-lts.Need-plain-requires (
   plain-reads.Asked,
   plain-reads.Learnt,
@@ -53,7 +52,6 @@ arm-plain-requires : (t : ℕ) → arm-lts.Need-plain-requires (
 ) (arm-at t) arm.Post arm-Inv-loop arm-μ-loop
 arm-plain-requires t c κs = c .before .before .before .pre .1 .0
 
--- src/lib.rt:269:5
 arm-loop-holds : (t : ℕ) → arm-lts.Need-loop-holds (
   plain-reads.Asked,
   plain-reads.Learnt,
@@ -70,7 +68,6 @@ arm-enum-told : (t : ℕ) → arm-lts.Need-enum-told (
 ) (arm-at t) arm.Post arm-Inv-loop arm-μ-loop
 arm-enum-told t c = search needs
 
--- src/lib.rt:272:13
 arm-same-length : (t : ℕ) → arm-lts.Need-same-length (
   plain-reads.Asked,
   plain-reads.Learnt,
@@ -79,7 +76,6 @@ arm-same-length : (t : ℕ) → arm-lts.Need-same-length (
 ) (arm-at t) arm.Post arm-Inv-loop arm-μ-loop
 arm-same-length t c = search needs
 
--- src/lib.rt:272:13
 arm-returns : (t : ℕ) → arm-lts.Need-returns (
   plain-reads.Asked,
   plain-reads.Learnt,
@@ -88,7 +84,6 @@ arm-returns : (t : ℕ) → arm-lts.Need-returns (
 ) (arm-at t) arm.Post arm-Inv-loop arm-μ-loop
 arm-returns t c = arm-ended (c .before .before .before .before .plain .ensures) (c .before .loop .inv) (c .match .keys2)
 
--- src/lib.rt:274:13
 arm-conditional-requires : (t : ℕ) → arm-lts.Need-conditional-requires (
   plain-reads.Asked,
   plain-reads.Learnt,
@@ -102,7 +97,6 @@ arm-conditional-requires t c κs =
     let e = c .before .enum-told .given .1 in
     (omega (arith, falls-in (q .ensures) (l .inv) e, s .pre .0), ((ready-in (q .ensures) (l .inv) (s .pre .1 .0 .0) (q .kept .1 .0), e), s .pre .1 .1))
 
--- src/lib.rt:277:13
 arm-enum-told-2 : (t : ℕ) → arm-lts.Need-enum-told-2 (
   plain-reads.Asked,
   plain-reads.Learnt,
@@ -111,7 +105,6 @@ arm-enum-told-2 : (t : ℕ) → arm-lts.Need-enum-told-2 (
 ) (arm-at t) arm.Post arm-Inv-loop arm-μ-loop
 arm-enum-told-2 t c = search needs
 
--- src/lib.rt:277:13
 arm-same-length-2 : (t : ℕ) → arm-lts.Need-same-length-2 (
   plain-reads.Asked,
   plain-reads.Learnt,
@@ -120,7 +113,6 @@ arm-same-length-2 : (t : ℕ) → arm-lts.Need-same-length-2 (
 ) (arm-at t) arm.Post arm-Inv-loop arm-μ-loop
 arm-same-length-2 t c = search needs
 
--- src/lib.rt:277:13
 arm-returns-2 : (t : ℕ) → arm-lts.Need-returns-2 (
   plain-reads.Asked,
   plain-reads.Learnt,
@@ -129,7 +121,6 @@ arm-returns-2 : (t : ℕ) → arm-lts.Need-returns-2 (
 ) (arm-at t) arm.Post arm-Inv-loop arm-μ-loop
 arm-returns-2 t c = arm-refused (c .before .before .before .before .before .before .before .before .before .before .before .plain .ensures) (c .before .before .before .before .before .before .before .before .loop .inv) (c .before .before .before .before .conditional .ensures) _ (c .enum-told2 .given .1)
 
--- src/lib.rt:279:9
 arm-plain-requires-2 : (t : ℕ) → arm-lts.Need-plain-requires-2 (
   plain-reads.Asked,
   plain-reads.Learnt,
@@ -143,7 +134,6 @@ arm-plain-requires-2 t c κs =
     let s = c .before .before .before .before .before .before .before .before .before .before .before .before .before .before .before in
     (ready-after (q .ensures) (l .inv) (d .ensures) (s .pre .1 .0 .0) (q .kept .1 .0) (d .kept .1 .0), runs-on (q .ensures) (l .inv) (d .ensures) (c .before .match2 .keys2))
 
--- src/lib.rt:269:5
 arm-loop-less : (t : ℕ) → arm-lts.Need-loop-less (
   plain-reads.Asked,
   plain-reads.Learnt,
@@ -152,7 +142,6 @@ arm-loop-less : (t : ℕ) → arm-lts.Need-loop-less (
 ) (arm-at t) arm.Post arm-Inv-loop arm-μ-loop
 arm-loop-less t c = arm-nearer (c .before .before .before .before .before .before .before .before .before .before .before .before .before .before .plain .ensures) (c .before .before .before .before .before .before .before .before .before .before .before .loop .inv) (c .before .before .before .before .before .before .before .conditional .ensures) (c .before .before .plain2 .ensures) (c .before .before .before .before .before .before .before .before .before .enum-told .given .1)
 
--- src/lib.rt:269:5
 arm-loop-again : (t : ℕ) → arm-lts.Need-loop-again (
   plain-reads.Asked,
   plain-reads.Learnt,
@@ -161,7 +150,6 @@ arm-loop-again : (t : ℕ) → arm-lts.Need-loop-again (
 ) (arm-at t) arm.Post arm-Inv-loop arm-μ-loop
 arm-loop-again t c = arm-again (c .before .before .before .before .before .before .before .before .before .before .before .before .before .before .plain .ensures) (c .before .before .before .before .before .before .before .before .before .before .before .loop .inv) (c .before .before .before .before .before .before .before .conditional .ensures) (c .before .before .plain2 .ensures) (c .before .before .before .before .before .before .before .before .before .enum-told .given .1) (c .before .before .before .before .before .before .before .conditional .kept .1 .0) (c .before .before .plain2 .kept .1 .0)
 
--- src/lib.rt:291:9
 conditional-enter-requires : (t : ℕ) → conditional-lts.Need-enter-requires (
   enter-reads.Asked,
   enter-reads.Learnt,
@@ -174,7 +162,6 @@ conditional-enter-requires t c κs =
     let s = c .before .before in
     ((s .pre .1 .0 .0 .fit, s .pre .1 .0 .1), s .pre .1 .1)
 
--- src/lib.rt:294:9
 conditional-enum-told : (t : ℕ) → conditional-lts.Need-enum-told (
   enter-reads.Asked,
   enter-reads.Learnt,
@@ -185,7 +172,6 @@ conditional-enum-told : (t : ℕ) → conditional-lts.Need-enum-told (
 ) (conditional-at t) conditional.Post
 conditional-enum-told t c = search needs
 
--- src/lib.rt:294:9
 conditional-returns : (t : ℕ) → conditional-lts.Need-returns (
   enter-reads.Asked,
   enter-reads.Learnt,
@@ -198,7 +184,6 @@ conditional-returns t c =
     let s = c .before .before .before .before .before in
     not-entered (s .pre .1 .0 .0) (c .before .before .enter .ensures (s .args .code .now)) _ (c .enum-told .given .1)
 
--- src/lib.rt:298:35
 conditional-add-arm : (t : ℕ) → conditional-lts.Need-add-arm (
   enter-reads.Asked,
   enter-reads.Learnt,
@@ -209,7 +194,6 @@ conditional-add-arm : (t : ℕ) → conditional-lts.Need-add-arm (
 ) (conditional-at t) conditional.Post
 conditional-add-arm t c = search needs
 
--- src/lib.rt:298:9
 conditional-arm-requires : (t : ℕ) → conditional-lts.Need-arm-requires (
   enter-reads.Asked,
   enter-reads.Learnt,
@@ -224,7 +208,6 @@ conditional-arm-requires t c κs =
     let run = closed-running _ (e .closed) (c .before .before .match .keys2) in
     (omega (arith, s .pre .0, e .place .at), ((ready-there (s .pre .1 .0 .0) (e .fit) (e .place), run), one-deeper (s .pre .1 .0 .0) e run))
 
--- src/lib.rt:301:13
 conditional-enum-told-2 : (t : ℕ) → conditional-lts.Need-enum-told-2 (
   enter-reads.Asked,
   enter-reads.Learnt,
@@ -235,7 +218,6 @@ conditional-enum-told-2 : (t : ℕ) → conditional-lts.Need-enum-told-2 (
 ) (conditional-at t) conditional.Post
 conditional-enum-told-2 t c = search needs
 
--- src/lib.rt:311:44
 conditional-add-arm-2 : (t : ℕ) → conditional-lts.Need-add-arm-2 (
   enter-reads.Asked,
   enter-reads.Learnt,
@@ -246,7 +228,6 @@ conditional-add-arm-2 : (t : ℕ) → conditional-lts.Need-add-arm-2 (
 ) (conditional-at t) conditional.Post
 conditional-add-arm-2 t c = search needs
 
--- src/lib.rt:311:13
 conditional-arm-requires-2 : (t : ℕ) → conditional-lts.Need-arm-requires-2 (
   enter-reads.Asked,
   enter-reads.Learnt,
@@ -263,7 +244,6 @@ conditional-arm-requires-2 t c κs =
     let r = ready-on (ready-there (s .pre .1 .0 .0) (e .fit) (e .place)) (a .ensures .goes) (a .kept .1 .0) in
     (omega (arith, s .pre .0, e .place .at, a .ensures .goes .low), ((record { fit = search (e .fit, a .ensures .goes .fit); high = r .high; short = r .short; room = r .room }, refl), one-deeper (s .pre .1 .0 .0) e run))
 
--- src/lib.rt:312:9
 conditional-finish-requires : (t : ℕ) → conditional-lts.Need-finish-requires (
   enter-reads.Asked,
   enter-reads.Learnt,
@@ -274,7 +254,6 @@ conditional-finish-requires : (t : ℕ) → conditional-lts.Need-finish-requires
 ) (conditional-at t) conditional.Post
 conditional-finish-requires t c κs = ((c .before .before .arm2 .ensures .goes .fit, c .before .before .before .before .before .before .before .before .before .arm .ensures .goes .fit), c .before .before .arm2 .ensures .ended)
 
--- src/lib.rt:312:9
 conditional-same-length : (t : ℕ) → conditional-lts.Need-same-length (
   enter-reads.Asked,
   enter-reads.Learnt,
@@ -285,7 +264,6 @@ conditional-same-length : (t : ℕ) → conditional-lts.Need-same-length (
 ) (conditional-at t) conditional.Post
 conditional-same-length t c = search needs
 
--- src/lib.rt:312:9
 conditional-returns-2 : (t : ℕ) → conditional-lts.Need-returns-2 (
   enter-reads.Asked,
   enter-reads.Learnt,
@@ -299,7 +277,6 @@ conditional-returns-2 t c =
     let e = c .before .before .before .before .before .before .before .before .before .before .before .before .before .before .enter .ensures (s .args .code .now) in
     two-arms (s .pre .1 .0 .0) e (closed-running _ (e .closed) (c .before .before .before .before .before .before .before .before .before .before .before .before .before .match .keys2)) (c .before .before .before .before .before .before .before .before .before .before .arm .ensures) (c .before .before .before .before .before .before .enum-told2 .given .1) (c .before .before .before .arm2 .ensures) (c .finish .ensures (s .args .code .now))
 
--- src/lib.rt:314:5
 conditional-finish-requires-2 : (t : ℕ) → conditional-lts.Need-finish-requires-2 (
   enter-reads.Asked,
   enter-reads.Learnt,
@@ -310,7 +287,6 @@ conditional-finish-requires-2 : (t : ℕ) → conditional-lts.Need-finish-requir
 ) (conditional-at t) conditional.Post
 conditional-finish-requires-2 t c κs = ((c .before .before .before .arm .ensures .goes .fit, c .before .before .before .before .before .before .before .enter .ensures (c .before .before .before .before .before .before .before .before .before .before .args .code .now) .fit), c .before .before .before .arm .ensures .ended)
 
--- src/lib.rt:284:1
 conditional-same-length-2 : (t : ℕ) → conditional-lts.Need-same-length-2 (
   enter-reads.Asked,
   enter-reads.Learnt,
@@ -321,7 +297,6 @@ conditional-same-length-2 : (t : ℕ) → conditional-lts.Need-same-length-2 (
 ) (conditional-at t) conditional.Post
 conditional-same-length-2 t c = search needs
 
--- src/lib.rt:284:1
 conditional-returns-3 : (t : ℕ) → conditional-lts.Need-returns-3 (
   enter-reads.Asked,
   enter-reads.Learnt,

@@ -8,23 +8,18 @@ use Rattle.stack_analysis.proofs.accepted.Lts as lts
 use Rattle.stack.proofs.Stacks.cleared.Reads as cleared-reads
 use Rattle.stack.proofs.Stacks.new.Reads as new-reads
 
--- src/lib.rt:411:13
 cleared-requires : tie.Need-cleared-requires
 cleared-requires c κs = search needs
 
--- src/lib.rt:412:9
 returns : tie.Need-returns
 returns c = search (accepts-live, needs)
 
--- src/lib.rt:414:9
 new-requires : tie.Need-new-requires
 new-requires c κs = search needs
 
--- src/lib.rt:415:9
 cleared-requires-2 : tie.Need-cleared-requires-2
 cleared-requires-2 c κs = search needs
 
--- src/lib.rt:395:1
 returns-2 : tie.Need-returns-2
 returns-2 c = search (accepts-dead, no-end, needs)
 

@@ -10,24 +10,19 @@ use Rattle.stack_analysis.proofs.close.Lts as lts
 use Rattle.stack.proofs.Stacks.join.Reads as join-reads
 use Rattle.stack_analysis.proofs.stop_of.Reads as stop-of-reads
 
--- src/lib.rt:208:9
 returns : tie.Need-returns
 returns c = λ s. closes-other-dead builtIn s _ (c .before .before .args .other) (c .before .before .args .alive) (not-live _ (c .if1 .taken)) (c .before .before .pre .0)
 
--- src/lib.rt:211:9
 returns-2 : tie.Need-returns-2
 returns-2 c =
     λ s. closes-dead builtIn s _ _ (c .before .before .before .args .alive) (is-live _ (c .before .if1 .left)) (not-live _ (c .if2 .taken)) (c .before .before .before .pre .1)
 
--- src/lib.rt:213:9
 join-requires : tie.Need-join-requires
 join-requires c κs = search needs
 
--- src/lib.rt:216:9
 stop-of-requires : tie.Need-stop-of-requires
 stop-of-requires c κs = search needs
 
--- src/lib.rt:197:1
 returns-3 : tie.Need-returns-3
 returns-3 c =
     let e = c .before .before .before in

@@ -8,75 +8,57 @@ use Rattle.stack_analysis.proofs.conclude.Lts as lts
 use Rattle.stack_analysis.proofs.accepted.Reads as accepted-reads
 use Rattle.stack_analysis.proofs.refused_walk.Reads as refused-walk-reads
 
--- src/lib.rt:426:22
 enum-told : tie.Need-enum-told
 enum-told c = search needs
 
--- src/lib.rt:426:22
 accepted-requires : tie.Need-accepted-requires
 accepted-requires c κs = search needs
 
--- src/lib.rt:427:39
 enum-told-2 : tie.Need-enum-told-2
 enum-told-2 c = search needs
 
--- src/lib.rt:427:23
 refused-walk-requires : tie.Need-refused-walk-requires
 refused-walk-requires c κs = search needs
 
--- src/lib.rt:428:40
 enum-told-3 : tie.Need-enum-told-3
 enum-told-3 c = search needs
 
--- src/lib.rt:428:24
 refused-walk-requires-2 : tie.Need-refused-walk-requires-2
 refused-walk-requires-2 c κs = search needs
 
--- src/lib.rt:429:23
 enum-known-stop : tie.Need-enum-known-stop
 enum-known-stop c = search needs
 
--- src/lib.rt:429:29
 refused-walk-requires-3 : tie.Need-refused-walk-requires-3
 refused-walk-requires-3 c κs = search needs
 
--- src/lib.rt:430:26
 enum-told-4 : tie.Need-enum-told-4
 enum-told-4 c = search needs
 
--- src/lib.rt:430:26
 accepted-requires-2 : tie.Need-accepted-requires-2
 accepted-requires-2 c κs = search needs
 
--- src/lib.rt:431:30
 enum-told-5 : tie.Need-enum-told-5
 enum-told-5 c = search needs
 
--- src/lib.rt:431:30
 accepted-requires-3 : tie.Need-accepted-requires-3
 accepted-requires-3 c κs = search needs
 
--- src/lib.rt:420:1
 returns : tie.Need-returns
 returns c = search (concludes-end, needs)
 
--- src/lib.rt:420:1
 returns-2 : tie.Need-returns-2
 returns-2 c = search (concludes-else, needs)
 
--- src/lib.rt:420:1
 returns-3 : tie.Need-returns-3
 returns-3 c = search (concludes-endif, needs)
 
--- src/lib.rt:420:1
 returns-4 : tie.Need-returns-4
 returns-4 c = search (concludes-refused, needs)
 
--- src/lib.rt:420:1
 returns-5 : tie.Need-returns-5
 returns-5 c = search (never-running, needs)
 
--- src/lib.rt:420:1
 returns-6 : tie.Need-returns-6
 returns-6 c = search (never-conditional, needs)
 

@@ -10,23 +10,18 @@ use Rattle.stack_analysis.proofs.enter.Lts as lts
 use Rattle.stack.proofs.Stacks.drop_items.Reads as drop-items-reads
 use Rattle.stack_analysis.proofs.stop_of.Reads as stop-of-reads
 
--- src/lib.rt:184:9
 returns : tie.Need-returns
 returns c = λ s. search (too-deep builtIn s, needs)
 
--- src/lib.rt:187:9
 returns-2 : tie.Need-returns-2
 returns-2 c = λ s. enters-dead builtIn s _ (c .before .before .before .pre .0 .1) _ (omega arith) (not-live _ (c .if2 .taken)) (c .before .before .before .pre .0 .0)
 
--- src/lib.rt:189:9
 drop-items-requires : tie.Need-drop-items-requires
 drop-items-requires c κs = search needs
 
--- src/lib.rt:192:9
 stop-of-requires : tie.Need-stop-of-requires
 stop-of-requires c κs = search needs
 
--- src/lib.rt:172:1
 returns-3 : tie.Need-returns-3
 returns-3 c =
     let b = c .before .before .before .before in

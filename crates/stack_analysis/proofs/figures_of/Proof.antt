@@ -8,115 +8,87 @@ use Rattle.stack_analysis.proofs.figures_of.Tie as tie
 use Rattle.stack_analysis.proofs.figures_of.Reads as reads
 use Rattle.stack_analysis.proofs.figures_of.Lts as lts
 
--- src/lib.rt:350:29
 enum-told : tie.Need-enum-told
 enum-told c = search needs
 
--- src/lib.rt:351:31
 enum-known-r : tie.Need-enum-known-r
 enum-known-r c = search needs
 
--- src/lib.rt:351:78
 cast-t8 : tie.Need-cast-t8
 cast-t8 c = search needs
 
--- src/lib.rt:351:101
 cast-t9 : tie.Need-cast-t9
 cast-t9 c = search needs
 
--- src/lib.rt:352:28
 enum-known-r-2 : tie.Need-enum-known-r-2
 enum-known-r-2 c = search needs
 
--- src/lib.rt:352:89
 cast-t10 : tie.Need-cast-t10
 cast-t10 c = search needs
 
--- src/lib.rt:353:28
 enum-told-2 : tie.Need-enum-told-2
 enum-told-2 c = search needs
 
--- src/lib.rt:354:30
 enum-told-3 : tie.Need-enum-told-3
 enum-told-3 c = search needs
 
--- src/lib.rt:355:28
 enum-told-4 : tie.Need-enum-told-4
 enum-told-4 c = search needs
 
--- src/lib.rt:356:31
 enum-known-r-3 : tie.Need-enum-known-r-3
 enum-known-r-3 c = search needs
 
--- src/lib.rt:356:72
 cast-t11 : tie.Need-cast-t11
 cast-t11 c = search needs
 
--- src/lib.rt:357:32
 enum-told-5 : tie.Need-enum-told-5
 enum-told-5 c = search needs
 
--- src/lib.rt:358:31
 enum-told-6 : tie.Need-enum-told-6
 enum-told-6 c = search needs
 
--- src/lib.rt:359:32
 enum-told-7 : tie.Need-enum-told-7
 enum-told-7 c = search needs
 
--- src/lib.rt:360:32
 enum-told-8 : tie.Need-enum-told-8
 enum-told-8 c = search needs
 
--- src/lib.rt:361:28
 enum-told-9 : tie.Need-enum-told-9
 enum-told-9 c = search needs
 
--- src/lib.rt:343:1
 returns : tie.Need-returns
 returns c = λ at. ap (λ x. refusedAt at (refusalOf x)) (c .enum-told .given .1)
 
--- src/lib.rt:343:1
 returns-2 : tie.Need-returns-2
 returns-2 c = λ at. ap (λ x. refusedAt at (refusalOf x)) (c .before .r .given .1)
 
--- src/lib.rt:343:1
 returns-3 : tie.Need-returns-3
 returns-3 c = λ at. ap (λ x. refusedAt at (refusalOf x)) (c .before .r2 .given .1)
 
--- src/lib.rt:343:1
 returns-4 : tie.Need-returns-4
 returns-4 c = λ at. ap (λ x. refusedAt at (refusalOf x)) (c .enum-told2 .given .1)
 
--- src/lib.rt:343:1
 returns-5 : tie.Need-returns-5
 returns-5 c = λ at. ap (λ x. refusedAt at (refusalOf x)) (c .enum-told3 .given .1)
 
--- src/lib.rt:343:1
 returns-6 : tie.Need-returns-6
 returns-6 c = λ at. ap (λ x. refusedAt at (refusalOf x)) (c .enum-told4 .given .1)
 
--- src/lib.rt:343:1
 returns-7 : tie.Need-returns-7
 returns-7 c = λ at. ap (λ x. refusedAt at (refusalOf x)) (c .before .r3 .given .1)
 
--- src/lib.rt:343:1
 returns-8 : tie.Need-returns-8
 returns-8 c = λ at. ap (λ x. refusedAt at (refusalOf x)) (c .enum-told5 .given .1)
 
--- src/lib.rt:343:1
 returns-9 : tie.Need-returns-9
 returns-9 c = λ at. ap (λ x. refusedAt at (refusalOf x)) (c .enum-told6 .given .1)
 
--- src/lib.rt:343:1
 returns-10 : tie.Need-returns-10
 returns-10 c = λ at. ap (λ x. refusedAt at (refusalOf x)) (c .enum-told7 .given .1)
 
--- src/lib.rt:343:1
 returns-11 : tie.Need-returns-11
 returns-11 c = λ at. ap (λ x. refusedAt at (refusalOf x)) (c .enum-told8 .given .1)
 
--- src/lib.rt:343:1
 returns-12 : tie.Need-returns-12
 returns-12 c = λ at. ap (λ x. refusedAt at (refusalOf x)) (c .enum-told9 .given .1)
 

@@ -9,63 +9,48 @@ use Rattle.stack_analysis.proofs.finish.Lts as lts
 use Rattle.stack_analysis.proofs.close.Reads as close-reads
 use Rattle.stack_analysis.proofs.refused.Reads as refused-reads
 
--- src/lib.rt:250:24
 enum-told : tie.Need-enum-told
 enum-told c = search needs
 
--- src/lib.rt:250:24
 close-requires : tie.Need-close-requires
 close-requires c κs = search needs
 
--- src/lib.rt:251:34
 enum-told-2 : tie.Need-enum-told-2
 enum-told-2 c = search needs
 
--- src/lib.rt:251:23
 refused-requires : tie.Need-refused-requires
 refused-requires c κs = search needs
 
--- src/lib.rt:252:33
 enum-told-3 : tie.Need-enum-told-3
 enum-told-3 c = search needs
 
--- src/lib.rt:252:22
 refused-requires-2 : tie.Need-refused-requires-2
 refused-requires-2 c κs = search needs
 
--- src/lib.rt:253:29
 enum-told-4 : tie.Need-enum-told-4
 enum-told-4 c = search needs
 
--- src/lib.rt:254:26
 enum-told-5 : tie.Need-enum-told-5
 enum-told-5 c = search needs
 
--- src/lib.rt:255:30
 enum-told-6 : tie.Need-enum-told-6
 enum-told-6 c = search needs
 
--- src/lib.rt:243:1
 returns : tie.Need-returns
 returns c = λ s. finished-endif builtIn s _ _ (c .before .enum-told .given .1) _ (c .close .ensures s)
 
--- src/lib.rt:243:1
 returns-2 : tie.Need-returns-2
 returns-2 c = λ s. finished-else builtIn s _ _ (c .before .enum-told2 .given .1) (c .before .before .before .pre .0 .0) _ (c .refused .ensures)
 
--- src/lib.rt:243:1
 returns-3 : tie.Need-returns-3
 returns-3 c = λ s. finished-open builtIn s _ _ (c .before .enum-told3 .given .1) (c .before .before .before .pre .0 .0) _ (c .refused2 .ensures)
 
--- src/lib.rt:243:1
 returns-4 : tie.Need-returns-4
 returns-4 c = λ s. finished-refused builtIn s _ _ _ (c .enum-told4 .given .1) (c .before .before .pre .0 .0)
 
--- src/lib.rt:243:1
 returns-5 : tie.Need-returns-5
 returns-5 c = λ s. not-running builtIn s _ _ (c .before .before .pre .1) (c .enum-told5 .given .1)
 
--- src/lib.rt:243:1
 returns-6 : tie.Need-returns-6
 returns-6 c = λ s. not-conditional builtIn s _ _ (c .before .before .pre .1) (c .enum-told6 .given .1)
 

@@ -9,15 +9,12 @@ use Rattle.stack_analysis.proofs.refusal.Lts as lts
 use Rattle.stack.proofs.Stacks.cleared.Reads as cleared-reads
 use Rattle.stack.proofs.Stacks.new.Reads as new-reads
 
--- src/lib.rt:381:9
 new-requires : tie.Need-new-requires
 new-requires c κs = search needs
 
--- src/lib.rt:382:9
 cleared-requires : tie.Need-cleared-requires
 cleared-requires c κs = search needs
 
--- src/lib.rt:366:1
 returns : tie.Need-returns
 returns c =
     let a = c .before .before .args in

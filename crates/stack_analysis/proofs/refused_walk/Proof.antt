@@ -8,15 +8,12 @@ use Rattle.stack_analysis.proofs.refused_walk.Lts as lts
 use Rattle.stack_analysis.proofs.figures_of.Reads as figures-of-reads
 use Rattle.stack_analysis.proofs.refusal.Reads as refusal-reads
 
--- src/lib.rt:390:9
 figures-of-requires : tie.Need-figures-of-requires
 figures-of-requires c κs = search needs
 
--- src/lib.rt:391:5
 refusal-requires : tie.Need-refusal-requires
 refusal-requires c κs = search needs
 
--- src/lib.rt:387:1
 returns : tie.Need-returns
 returns c = search (refused-walk-is, needs)
 

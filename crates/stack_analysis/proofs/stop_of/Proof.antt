@@ -6,19 +6,15 @@ use Rattle.stack_analysis.proofs.stop_of.Tie as tie
 use Rattle.stack_analysis.proofs.stop_of.Reads as reads
 use Rattle.stack_analysis.proofs.stop_of.Lts as lts
 
--- src/lib.rt:165:25
 enum-told : tie.Need-enum-told
 enum-told c = search needs
 
--- src/lib.rt:166:25
 enum-known-answer : tie.Need-enum-known-answer
 enum-known-answer c = search needs
 
--- src/lib.rt:161:1
 returns : tie.Need-returns
 returns c = search (stop-done)
 
--- src/lib.rt:161:1
 returns-2 : tie.Need-returns-2
 returns-2 c = search (stop-refused)
 

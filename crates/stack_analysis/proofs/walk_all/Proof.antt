@@ -11,29 +11,23 @@ use Rattle.stack.proofs.Stacks.new.Reads as new-reads
 use Rattle.stack_analysis.proofs.arm.Reads as arm-reads
 use Rattle.stack_analysis.proofs.conclude.Reads as conclude-reads
 
--- src/lib.rt:455:9
 new-requires : tie.Need-new-requires
 new-requires c κs = search needs
 
--- src/lib.rt:462:15
 add-t8 : tie.Need-add-t8
 add-t8 c = search needs
 
--- src/lib.rt:465:9
 arm-requires : tie.Need-arm-requires
 arm-requires c κs =
     let s = c .before .before .before .before in
     ((ready-start _ _ _ (c .before .new .ensures .fit) refl refl (s .pre .0 .0) (s .pre .1), refl), omega arith)
 
--- src/lib.rt:466:5
 conclude-requires : tie.Need-conclude-requires
 conclude-requires c κs = (c .before .before .arm .ensures .goes .fit, c .before .before .arm .ensures .ended)
 
--- src/lib.rt:438:1
 same-length : tie.Need-same-length
 same-length c = search needs
 
--- src/lib.rt:438:1
 returns : tie.Need-returns
 returns c =
     let a = c .before .before .before .arm in

@@ -23,87 +23,66 @@ Inv-loop paper log₀ count k₀ rows₀ t9 t10 log k rows = (3 * rows ≤ lengt
 abbrev μ-loop : tie.MeasureT-loop
 μ-loop paper log₀ count k₀ rows₀ t9 t10 log k rows = count - k
 
--- src/main.rt:512:9
 fragment-count-requires : tie.Need-fragment-count-requires Inv-loop μ-loop
 fragment-count-requires c κs = search needs
 
--- src/main.rt:515:5
 loop-holds : tie.Need-loop-holds Inv-loop μ-loop
 loop-holds c = search needs
 
--- src/main.rt:516:13
 mark-fragment-requires : tie.Need-mark-fragment-requires Inv-loop μ-loop
 mark-fragment-requires c κs = search needs
 
--- src/main.rt:517:13
 fragment-bytes-requires : tie.Need-fragment-bytes-requires Inv-loop μ-loop
 fragment-bytes-requires c κs = search needs
 
--- src/main.rt:518:20
 add-next : tie.Need-add-next Inv-loop μ-loop
 add-next c = search needs
 
--- src/main.rt:519:9
 print-start-requires : tie.Need-print-start-requires Inv-loop μ-loop
 print-start-requires c κs = search needs
 
--- src/main.rt:520:9
 print-heading-requires : tie.Need-print-heading-requires Inv-loop μ-loop
 print-heading-requires c κs = search needs
 
--- src/main.rt:521:9
 print-rows-requires : tie.Need-print-rows-requires Inv-loop μ-loop
 print-rows-requires c κs = search needs
 
--- src/main.rt:522:9
 print-verdict-requires : tie.Need-print-verdict-requires Inv-loop μ-loop
 print-verdict-requires c κs = search needs
 
--- src/main.rt:524:13
 print-last-requires : tie.Need-print-last-requires Inv-loop μ-loop
 print-last-requires c κs = search needs
 
--- src/main.rt:525:13
 same-length : tie.Need-same-length Inv-loop μ-loop
 same-length c = search needs
 
--- src/main.rt:525:13
 returns : tie.Need-returns Inv-loop μ-loop
 returns c = search needs
 
--- src/main.rt:527:26
 slice-aggregate-write-all : tie.Need-slice-aggregate-write-all Inv-loop μ-loop
 slice-aggregate-write-all c = search needs
 
--- src/main.rt:527:9
 write-all-requires : tie.Need-write-all-requires Inv-loop μ-loop
 write-all-requires c κs = search needs
 
--- src/main.rt:529:9
 add-k : tie.Need-add-k Inv-loop μ-loop
 add-k c = search needs
 
--- src/main.rt:515:5
 loop-less : tie.Need-loop-less Inv-loop μ-loop
 loop-less c = search needs
 
--- src/main.rt:515:5
 loop-again : tie.Need-loop-again Inv-loop μ-loop
 loop-again c = search needs
 
--- src/main.rt:531:22
 slice-aggregate-write-all-2 : tie.Need-slice-aggregate-write-all-2 Inv-loop μ-loop
 slice-aggregate-write-all-2 c = search needs
 
--- src/main.rt:531:5
 write-all-requires-2 : tie.Need-write-all-requires-2 Inv-loop μ-loop
 write-all-requires-2 c κs = search needs
 
--- src/main.rt:511:1
 same-length-2 : tie.Need-same-length-2 Inv-loop μ-loop
 same-length-2 c = search needs
 
--- src/main.rt:511:1
 returns-2 : tie.Need-returns-2 Inv-loop μ-loop
 returns-2 c = search needs
 

@@ -13,27 +13,21 @@ Inv-loop fragment log from to j₀ j = from ≤ j
 abbrev μ-loop : tie.MeasureT-loop
 μ-loop fragment log from to j₀ j = to - j
 
--- src/main.rt:429:5
 loop-holds : tie.Need-loop-holds Inv-loop μ-loop
 loop-holds c = omega arith
 
--- src/main.rt:430:9
 print-row-requires : tie.Need-print-row-requires Inv-loop μ-loop
 print-row-requires c κs = search needs
 
--- src/main.rt:431:9
 add-j : tie.Need-add-j Inv-loop μ-loop
 add-j c = search needs
 
--- src/main.rt:429:5
 loop-less : tie.Need-loop-less Inv-loop μ-loop
 loop-less c = search needs
 
--- src/main.rt:429:5
 loop-again : tie.Need-loop-again Inv-loop μ-loop
 loop-again c = omega arith
 
--- src/main.rt:425:1
 returns : tie.Need-returns Inv-loop μ-loop
 returns c = search needs
 

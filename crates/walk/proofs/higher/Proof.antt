@@ -6,15 +6,12 @@ use Rattle.walk.proofs.higher.Tie as tie
 use Rattle.walk.proofs.higher.Reads as reads
 use Rattle.walk.proofs.higher.Lts as lts
 
--- src/lib.rt:42:13
 returns : tie.Need-returns
 returns c = search (higher-now)
 
--- src/lib.rt:37:1
 returns-2 : tie.Need-returns-2
 returns-2 c = search (high-already)
 
--- src/lib.rt:37:1
 returns-3 : tie.Need-returns-3
 returns-3 c = search (high-dead)
 

@@ -6,55 +6,42 @@ use Rattle.walk.proofs.log_row.Tie as tie
 use Rattle.walk.proofs.log_row.Reads as reads
 use Rattle.walk.proofs.log_row.Lts as lts
 
--- src/lib.rt:70:9
 mul-log : tie.Need-mul-log
 mul-log c = search needs
 
--- src/lib.rt:70:5
 mul-log-2 : tie.Need-mul-log-2
 mul-log-2 c = search needs
 
--- src/lib.rt:70:5
 slice-write-log : tie.Need-slice-write-log
 slice-write-log c = search needs
 
--- src/lib.rt:71:9
 mul-log-3 : tie.Need-mul-log-3
 mul-log-3 c = search needs
 
--- src/lib.rt:71:9
 add-log : tie.Need-add-log
 add-log c = search needs
 
--- src/lib.rt:71:5
 mul-log-4 : tie.Need-mul-log-4
 mul-log-4 c = search needs
 
--- src/lib.rt:71:5
 slice-write-log-2 : tie.Need-slice-write-log-2
 slice-write-log-2 c = simp length-set (omega arith)
 
--- src/lib.rt:72:9
 mul-log-5 : tie.Need-mul-log-5
 mul-log-5 c = search needs
 
--- src/lib.rt:72:9
 add-log-2 : tie.Need-add-log-2
 add-log-2 c = search needs
 
--- src/lib.rt:72:5
 mul-log-6 : tie.Need-mul-log-6
 mul-log-6 c = search needs
 
--- src/lib.rt:72:5
 slice-write-log-3 : tie.Need-slice-write-log-3
 slice-write-log-3 c = search needs
 
--- src/lib.rt:60:1
 same-length : tie.Need-same-length
 same-length c = search needs
 
--- src/lib.rt:60:1
 returns : tie.Need-returns
 returns c = search needs
 

@@ -67,474 +67,357 @@ met c =
       number = c .class-of .ensures;
     }
 
--- src/lib.rt:124:5
 loop-holds : tie.Need-loop-holds Inv-loop μ-loop
 loop-holds c = walking-none (slice-bytes (c .before .before .before .args .code .now) (c .before .before .shared-slice-known .given)) (ready-running (c .before .before .before .args .start) (c .before .before .before .pre .0))
 
--- src/lib.rt:126:32
 enum-known-answer : tie.Need-enum-known-answer Inv-loop μ-loop
 enum-known-answer c = search needs
 
--- src/lib.rt:128:13
 same-length : tie.Need-same-length Inv-loop μ-loop
 same-length c = search needs
 
--- src/lib.rt:128:13
 returns : tie.Need-returns Inv-loop μ-loop
 returns c = runs-from (c .before .before .before .before .before .before .before .before .args .start) (c .before .before .before .before .before .before .before .before .pre .1) (was-refused _ _ _ _ _ _ _ (c .before .before .before .before .loop .inv) (c .before .before .answer .given .1))
 
 enum-told : tie.Need-enum-told Inv-loop μ-loop
 enum-told c = search needs
 
--- src/lib.rt:140:35
 add-higher : tie.Need-add-higher Inv-loop μ-loop
 add-higher c = search needs
 
--- src/lib.rt:140:9
 higher-requires : tie.Need-higher-requires Inv-loop μ-loop
 higher-requires c κs = search needs
 
--- src/lib.rt:141:13
 decode-at-requires : tie.Need-decode-at-requires Inv-loop μ-loop
 decode-at-requires c κs = search needs
 
--- src/lib.rt:142:25
 enum-known-d : tie.Need-enum-known-d Inv-loop μ-loop
 enum-known-d c = search needs
 
--- src/lib.rt:144:13
 same-length-2 : tie.Need-same-length-2 Inv-loop μ-loop
 same-length-2 c = search needs
 
--- src/lib.rt:144:13
 returns-2 : tie.Need-returns-2 Inv-loop μ-loop
 returns-2 c = runs-from (c .before .before .before .before .before .before .before .before .before .before .args .start) (c .before .before .before .before .before .before .before .before .before .before .pre .1) (none-left (c .before .before .before .before .before .before .loop .inv) (rw (c .before .before .before .before .enum-told .given .1)) (high-of (c .before .before .before .before .before .before .loop .peak) (c .before .before .before .higher .result) (c .before .before .before .before .before .before .loop .live) (c .before .before .before .before .before .before .loop .t .stacks) (c .before .before .before .higher .ensures)) (no-instruction _ _ (c .before .before .decode-at .result) (c .before .before .decode-at .ensures) (c .before .match2 .keys2)))
 
--- src/lib.rt:154:28
 cast-log-row : tie.Need-cast-log-row Inv-loop μ-loop
 cast-log-row c = search needs
 
--- src/lib.rt:154:39
 logged-requires : tie.Need-logged-requires Inv-loop μ-loop
 logged-requires c κs = search needs
 
--- src/lib.rt:154:56
 logged-requires-2 : tie.Need-logged-requires-2 Inv-loop μ-loop
 logged-requires-2 c κs = search needs
 
--- src/lib.rt:154:9
 log-row-requires : tie.Need-log-row-requires Inv-loop μ-loop
 log-row-requires c κs = omega (arith, row-room (c .before .before .before .before .before .before .before .before .before .before .loop .inv) (code-instruction _ _ (c .before .before .before .before .before .before .before .before .before .before .loop .inv .bytes) _ (sym (c .before .before .before .before .before .before .decode-at .ensures) ∙ c .before .before .before .before .d .given .1)))
 
--- src/lib.rt:155:9
 add-rows : tie.Need-add-rows Inv-loop μ-loop
 add-rows c = search needs
 
--- src/lib.rt:159:13
 class-of-requires : tie.Need-class-of-requires Inv-loop μ-loop
 class-of-requires c κs = search needs
 
--- src/lib.rt:163:17
 same-length-3 : tie.Need-same-length-3 Inv-loop μ-loop
 same-length-3 c = search needs
 
--- src/lib.rt:163:17
 returns-3 : tie.Need-returns-3 Inv-loop μ-loop
 returns-3 c = runs-from (c .before .before .before .before .before .before .before .before .before .before .before .before .before .before .before .before .before .before .before .before .args .start) (c .before .before .before .before .before .before .before .before .before .before .before .before .before .before .before .before .before .before .before .before .pre .1) (met-if (met (c .before .before)) (c .before .match3 .keys1))
 
--- src/lib.rt:175:17
 same-length-4 : tie.Need-same-length-4 Inv-loop μ-loop
 same-length-4 c = search needs
 
--- src/lib.rt:175:17
 returns-4 : tie.Need-returns-4 Inv-loop μ-loop
 returns-4 c = runs-from (c .before .before .before .before .before .before .before .before .before .before .before .before .before .before .before .before .before .before .before .before .args .start) (c .before .before .before .before .before .before .before .before .before .before .before .before .before .before .before .before .before .before .before .before .pre .1) (met-notif (met (c .before .before)) (c .before .match3 .keys2))
 
--- src/lib.rt:187:17
 same-length-5 : tie.Need-same-length-5 Inv-loop μ-loop
 same-length-5 c = search needs
 
--- src/lib.rt:187:17
 returns-5 : tie.Need-returns-5 Inv-loop μ-loop
 returns-5 c = runs-from (c .before .before .before .before .before .before .before .before .before .before .before .before .before .before .before .before .before .before .before .before .args .start) (c .before .before .before .before .before .before .before .before .before .before .before .before .before .before .before .before .before .before .before .before .pre .1) (met-else (met (c .before .before)) (c .before .match3 .keys3))
 
--- src/lib.rt:199:17
 same-length-6 : tie.Need-same-length-6 Inv-loop μ-loop
 same-length-6 c = search needs
 
--- src/lib.rt:199:17
 returns-6 : tie.Need-returns-6 Inv-loop μ-loop
 returns-6 c = runs-from (c .before .before .before .before .before .before .before .before .before .before .before .before .before .before .before .before .before .before .before .before .args .start) (c .before .before .before .before .before .before .before .before .before .before .before .before .before .before .before .before .before .before .before .before .pre .1) (met-endif (met (c .before .before)) (c .before .match3 .keys4))
 
--- src/lib.rt:124:5
 loop-less : tie.Need-loop-less Inv-loop μ-loop
 loop-less c = nearer (met (c .before))
 
--- src/lib.rt:124:5
 loop-again : tie.Need-loop-again Inv-loop μ-loop
 loop-again c = met-return (met (c .before)) (c .match3 .keys5)
 
--- src/lib.rt:124:5
 loop-less-2 : tie.Need-loop-less-2 Inv-loop μ-loop
 loop-less-2 c = nearer (met (c .before .before))
 
--- src/lib.rt:124:5
 loop-again-2 : tie.Need-loop-again-2 Inv-loop μ-loop
 loop-again-2 c = met-skipped (met (c .before .before)) (c .before .match3 .rest) (not-live _ (c .if1 .taken))
 
--- src/lib.rt:124:5
 loop-less-3 : tie.Need-loop-less-3 Inv-loop μ-loop
 loop-less-3 c = nearer (met (c .before .before .before))
 
--- src/lib.rt:124:5
 loop-again-3 : tie.Need-loop-again-3 Inv-loop μ-loop
 loop-again-3 c = met-nothing (met (c .before .before .before)) (c .match4 .keys1) (is-live _ (c .before .if1 .left))
 
--- src/lib.rt:222:36
 enum-known-v : tie.Need-enum-known-v Inv-loop μ-loop
 enum-known-v c = search needs
 
--- src/lib.rt:223:25
 enum-told-2 : tie.Need-enum-told-2 Inv-loop μ-loop
 enum-told-2 c = search needs
 
--- src/lib.rt:224:21
 push-code-requires : tie.Need-push-code-requires Inv-loop μ-loop
 push-code-requires c κs = (search needs, (unknown-suffices, search needs))
 
--- src/lib.rt:124:5
 loop-less-4 : tie.Need-loop-less-4 Inv-loop μ-loop
 loop-less-4 c = nearer (met (c .before .before .before .before .before .before .before))
 
--- src/lib.rt:124:5
 loop-again-4 : tie.Need-loop-again-4 Inv-loop μ-loop
 loop-again-4 c = met-push (met (c .before .before .before .before .before .before .before)) (is-live _ (c .before .before .before .before .before .if1 .left)) (c .push-code .result) (c .before .before .before .before .match4 .keys2) (push-is-unknown _ _ _ (c .push-code .result) (c .before .before .enum-told2 .given .1) (c .push-code .ensures))
 
--- src/lib.rt:227:21
 code-of-requires : tie.Need-code-of-requires Inv-loop μ-loop
 code-of-requires c κs = search needs
 
--- src/lib.rt:228:20
 suffices-requires : tie.Need-suffices-requires Inv-loop μ-loop
 suffices-requires c κs = search needs
 
--- src/lib.rt:230:21
 push-code-requires-2 : tie.Need-push-code-requires-2 Inv-loop μ-loop
 push-code-requires-2 c κs = (met (c .before .before .before .before .before .before .before .before .before .before) .walking .goes .fit, (sym (c .before .before .suffices .ensures) ∙ c .before .if2 .taken, omega arith))
 
--- src/lib.rt:124:5
 loop-less-5 : tie.Need-loop-less-5 Inv-loop μ-loop
 loop-less-5 c = nearer (met (c .before .before .before .before .before .before .before .before .before .before .before))
 
--- src/lib.rt:124:5
 loop-again-5 : tie.Need-loop-again-5 Inv-loop μ-loop
 loop-again-5 c = met-push (met (c .before .before .before .before .before .before .before .before .before .before .before)) (is-live _ (c .before .before .before .before .before .before .before .before .before .if1 .left)) (c .push-code2 .result) (c .before .before .before .before .before .before .before .before .match4 .keys2) (push-is-code _ _ _ (c .push-code2 .result) _ _ (c .before .before .before .before .before .before .v .given .1) (met (c .before .before .before .before .before .before .before .before .before .before .before) .stands .held) _ (c .before .before .before .before .code-of .ensures) (sym (c .before .before .before .suffices .ensures) ∙ c .before .before .if2 .taken) (c .push-code2 .ensures))
 
--- src/lib.rt:234:17
 push-exact-requires : tie.Need-push-exact-requires Inv-loop μ-loop
 push-exact-requires c κs = (met (c .before .before .before .before .before .before .before .before .before .before) .walking .goes .fit, (held-exact _ _ _ (c .before .before .before .before .before .v .given .1) (met (c .before .before .before .before .before .before .before .before .before .before) .stands .held), (code-wants _ _ (c .before .before .before .code-of .ensures) (sym (c .before .before .suffices .ensures) ∙ c .before .if2 .left), omega arith)))
 
--- src/lib.rt:124:5
 loop-less-6 : tie.Need-loop-less-6 Inv-loop μ-loop
 loop-less-6 c = nearer (met (c .before .before .before .before .before .before .before .before .before .before .before))
 
--- src/lib.rt:124:5
 loop-again-6 : tie.Need-loop-again-6 Inv-loop μ-loop
 loop-again-6 c = met-push (met (c .before .before .before .before .before .before .before .before .before .before .before)) (is-live _ (c .before .before .before .before .before .before .before .before .before .if1 .left)) (c .push-exact .result) (c .before .before .before .before .before .before .before .before .match4 .keys2) (push-is-exact _ _ _ (c .push-exact .result) _ _ (c .before .before .before .before .before .before .v .given .1) (c .push-exact .ensures))
 
--- src/lib.rt:239:17
 move-to-alt-requires : tie.Need-move-to-alt-requires Inv-loop μ-loop
 move-to-alt-requires c κs = search needs
 
--- src/lib.rt:124:5
 loop-less-7 : tie.Need-loop-less-7 Inv-loop μ-loop
 loop-less-7 c = nearer (met (c .before .before .before .before .before))
 
--- src/lib.rt:124:5
 loop-again-7 : tie.Need-loop-again-7 Inv-loop μ-loop
 loop-again-7 c = met-to-alt (met (c .before .before .before .before .before)) (is-live _ (c .before .before .before .if1 .left)) (c .move-to-alt .result) (c .before .before .match4 .keys3) (c .move-to-alt .ensures)
 
--- src/lib.rt:244:17
 move-from-alt-requires : tie.Need-move-from-alt-requires Inv-loop μ-loop
 move-from-alt-requires c κs = search needs
 
--- src/lib.rt:124:5
 loop-less-8 : tie.Need-loop-less-8 Inv-loop μ-loop
 loop-less-8 c = nearer (met (c .before .before .before .before .before))
 
--- src/lib.rt:124:5
 loop-again-8 : tie.Need-loop-again-8 Inv-loop μ-loop
 loop-again-8 c = met-from-alt (met (c .before .before .before .before .before)) (is-live _ (c .before .before .before .if1 .left)) (c .move-from-alt .result) (c .before .before .match4 .keys4) (c .move-from-alt .ensures)
 
--- src/lib.rt:249:17
 depth-requires : tie.Need-depth-requires Inv-loop μ-loop
 depth-requires c κs = search needs
 
--- src/lib.rt:124:5
 loop-less-9 : tie.Need-loop-less-9 Inv-loop μ-loop
 loop-less-9 c = nearer (met (c .before .before .before .before .before))
 
--- src/lib.rt:124:5
 loop-again-9 : tie.Need-loop-again-9 Inv-loop μ-loop
 loop-again-9 c = met-steps (met (c .before .before .before .before .before)) (is-live _ (c .before .before .before .if1 .left)) (c .depth .result) 10 _ (c .before .before .match4 .keys5) refl (c .depth .ensures)
 
--- src/lib.rt:254:17
 size-requires : tie.Need-size-requires Inv-loop μ-loop
 size-requires c κs = search needs
 
--- src/lib.rt:124:5
 loop-less-10 : tie.Need-loop-less-10 Inv-loop μ-loop
 loop-less-10 c = nearer (met (c .before .before .before .before .before))
 
--- src/lib.rt:124:5
 loop-again-10 : tie.Need-loop-again-10 Inv-loop μ-loop
 loop-again-10 c = met-steps (met (c .before .before .before .before .before)) (is-live _ (c .before .before .before .if1 .left)) (c .size .result) 11 _ (c .before .before .match4 .keys6) refl (c .size .ensures)
 
--- src/lib.rt:259:17
 nip-requires : tie.Need-nip-requires Inv-loop μ-loop
 nip-requires c κs = search needs
 
--- src/lib.rt:124:5
 loop-less-11 : tie.Need-loop-less-11 Inv-loop μ-loop
 loop-less-11 c = nearer (met (c .before .before .before .before .before))
 
--- src/lib.rt:124:5
 loop-again-11 : tie.Need-loop-again-11 Inv-loop μ-loop
 loop-again-11 c = met-nip (met (c .before .before .before .before .before)) (is-live _ (c .before .before .before .if1 .left)) (c .nip .result) (c .before .before .match4 .keys7) (c .nip .ensures)
 
--- src/lib.rt:264:17
 tuck-requires : tie.Need-tuck-requires Inv-loop μ-loop
 tuck-requires c κs = search needs
 
--- src/lib.rt:124:5
 loop-less-12 : tie.Need-loop-less-12 Inv-loop μ-loop
 loop-less-12 c = nearer (met (c .before .before .before .before .before))
 
--- src/lib.rt:124:5
 loop-again-12 : tie.Need-loop-again-12 Inv-loop μ-loop
 loop-again-12 c = met-tuck (met (c .before .before .before .before .before)) (is-live _ (c .before .before .before .if1 .left)) (c .tuck .result) (c .before .before .match4 .keys8) (c .tuck .ensures)
 
--- src/lib.rt:269:17
 pick-requires : tie.Need-pick-requires Inv-loop μ-loop
 pick-requires c κs = search needs
 
--- src/lib.rt:124:5
 loop-less-13 : tie.Need-loop-less-13 Inv-loop μ-loop
 loop-less-13 c = nearer (met (c .before .before .before .before .before))
 
--- src/lib.rt:124:5
 loop-again-13 : tie.Need-loop-again-13 Inv-loop μ-loop
 loop-again-13 c = met-steps (met (c .before .before .before .before .before)) (is-live _ (c .before .before .before .if1 .left)) (c .pick .result) 14 _ (c .before .before .match4 .keys9) refl (c .pick .ensures)
 
--- src/lib.rt:274:17
 roll-requires : tie.Need-roll-requires Inv-loop μ-loop
 roll-requires c κs = search needs
 
--- src/lib.rt:124:5
 loop-less-14 : tie.Need-loop-less-14 Inv-loop μ-loop
 loop-less-14 c = nearer (met (c .before .before .before .before .before))
 
--- src/lib.rt:124:5
 loop-again-14 : tie.Need-loop-again-14 Inv-loop μ-loop
 loop-again-14 c = met-roll (met (c .before .before .before .before .before)) (is-live _ (c .before .before .before .if1 .left)) (c .roll .result) (c .before .before .match4 .keys10) (c .roll .ensures)
 
--- src/lib.rt:279:17
 zk-requires : tie.Need-zk-requires Inv-loop μ-loop
 zk-requires c κs = search needs
 
--- src/lib.rt:124:5
 loop-less-15 : tie.Need-loop-less-15 Inv-loop μ-loop
 loop-less-15 c = nearer (met (c .before .before .before .before .before))
 
--- src/lib.rt:124:5
 loop-again-15 : tie.Need-loop-again-15 Inv-loop μ-loop
 loop-again-15 c = met-steps (met (c .before .before .before .before .before)) (is-live _ (c .before .before .before .if1 .left)) (c .zk .result) 16 _ (c .before .before .match4 .keys11) refl (c .zk .ensures)
 
--- src/lib.rt:284:17
 extend-from-within-requires : tie.Need-extend-from-within-requires Inv-loop μ-loop
 extend-from-within-requires c κs = search needs
 
--- src/lib.rt:124:5
 loop-less-16 : tie.Need-loop-less-16 Inv-loop μ-loop
 loop-less-16 c = nearer (met (c .before .before .before .before .before))
 
--- src/lib.rt:124:5
 loop-again-16 : tie.Need-loop-again-16 Inv-loop μ-loop
 loop-again-16 c = met-copies (met (c .before .before .before .before .before)) (is-live _ (c .before .before .before .if1 .left)) (c .extend-from-within .result) 17 1 1 (c .before .before .match4 .keys12) refl (c .extend-from-within .ensures)
 
--- src/lib.rt:289:17
 extend-from-within-requires-2 : tie.Need-extend-from-within-requires-2 Inv-loop μ-loop
 extend-from-within-requires-2 c κs = search needs
 
--- src/lib.rt:124:5
 loop-less-17 : tie.Need-loop-less-17 Inv-loop μ-loop
 loop-less-17 c = nearer (met (c .before .before .before .before .before))
 
--- src/lib.rt:124:5
 loop-again-17 : tie.Need-loop-again-17 Inv-loop μ-loop
 loop-again-17 c = met-copies (met (c .before .before .before .before .before)) (is-live _ (c .before .before .before .if1 .left)) (c .extend-from-within2 .result) 18 2 2 (c .before .before .match4 .keys13) refl (c .extend-from-within2 .ensures)
 
--- src/lib.rt:294:17
 extend-from-within-requires-3 : tie.Need-extend-from-within-requires-3 Inv-loop μ-loop
 extend-from-within-requires-3 c κs = search needs
 
--- src/lib.rt:124:5
 loop-less-18 : tie.Need-loop-less-18 Inv-loop μ-loop
 loop-less-18 c = nearer (met (c .before .before .before .before .before))
 
--- src/lib.rt:124:5
 loop-again-18 : tie.Need-loop-again-18 Inv-loop μ-loop
 loop-again-18 c = met-copies (met (c .before .before .before .before .before)) (is-live _ (c .before .before .before .if1 .left)) (c .extend-from-within3 .result) 19 3 3 (c .before .before .match4 .keys14) refl (c .extend-from-within3 .ensures)
 
--- src/lib.rt:299:17
 extend-from-within-requires-4 : tie.Need-extend-from-within-requires-4 Inv-loop μ-loop
 extend-from-within-requires-4 c κs = search needs
 
--- src/lib.rt:124:5
 loop-less-19 : tie.Need-loop-less-19 Inv-loop μ-loop
 loop-less-19 c = nearer (met (c .before .before .before .before .before))
 
--- src/lib.rt:124:5
 loop-again-19 : tie.Need-loop-again-19 Inv-loop μ-loop
 loop-again-19 c = met-copies (met (c .before .before .before .before .before)) (is-live _ (c .before .before .before .if1 .left)) (c .extend-from-within4 .result) 20 2 1 (c .before .before .match4 .keys15) refl (c .extend-from-within4 .ensures)
 
--- src/lib.rt:304:17
 extend-from-within-requires-5 : tie.Need-extend-from-within-requires-5 Inv-loop μ-loop
 extend-from-within-requires-5 c κs = search needs
 
--- src/lib.rt:124:5
 loop-less-20 : tie.Need-loop-less-20 Inv-loop μ-loop
 loop-less-20 c = nearer (met (c .before .before .before .before .before))
 
--- src/lib.rt:124:5
 loop-again-20 : tie.Need-loop-again-20 Inv-loop μ-loop
 loop-again-20 c = met-copies (met (c .before .before .before .before .before)) (is-live _ (c .before .before .before .if1 .left)) (c .extend-from-within5 .result) 21 4 2 (c .before .before .match4 .keys16) refl (c .extend-from-within5 .ensures)
 
--- src/lib.rt:309:17
 rotate-left-requires : tie.Need-rotate-left-requires Inv-loop μ-loop
 rotate-left-requires c κs = search needs
 
--- src/lib.rt:124:5
 loop-less-21 : tie.Need-loop-less-21 Inv-loop μ-loop
 loop-less-21 c = nearer (met (c .before .before .before .before .before))
 
--- src/lib.rt:124:5
 loop-again-21 : tie.Need-loop-again-21 Inv-loop μ-loop
 loop-again-21 c = met-rotates (met (c .before .before .before .before .before)) (is-live _ (c .before .before .before .if1 .left)) (c .rotate-left .result) 22 3 1 (c .before .before .match4 .keys17) refl (c .rotate-left .ensures)
 
--- src/lib.rt:314:17
 rotate-left-requires-2 : tie.Need-rotate-left-requires-2 Inv-loop μ-loop
 rotate-left-requires-2 c κs = search needs
 
--- src/lib.rt:124:5
 loop-less-22 : tie.Need-loop-less-22 Inv-loop μ-loop
 loop-less-22 c = nearer (met (c .before .before .before .before .before))
 
--- src/lib.rt:124:5
 loop-again-22 : tie.Need-loop-again-22 Inv-loop μ-loop
 loop-again-22 c = met-rotates (met (c .before .before .before .before .before)) (is-live _ (c .before .before .before .if1 .left)) (c .rotate-left2 .result) 23 6 2 (c .before .before .match4 .keys18) refl (c .rotate-left2 .ensures)
 
--- src/lib.rt:319:17
 rotate-left-requires-3 : tie.Need-rotate-left-requires-3 Inv-loop μ-loop
 rotate-left-requires-3 c κs = search needs
 
--- src/lib.rt:124:5
 loop-less-23 : tie.Need-loop-less-23 Inv-loop μ-loop
 loop-less-23 c = nearer (met (c .before .before .before .before .before))
 
--- src/lib.rt:124:5
 loop-again-23 : tie.Need-loop-again-23 Inv-loop μ-loop
 loop-again-23 c = met-rotates (met (c .before .before .before .before .before)) (is-live _ (c .before .before .before .if1 .left)) (c .rotate-left3 .result) 24 2 1 (c .before .before .match4 .keys19) refl (c .rotate-left3 .ensures)
 
--- src/lib.rt:324:17
 rotate-left-requires-4 : tie.Need-rotate-left-requires-4 Inv-loop μ-loop
 rotate-left-requires-4 c κs = search needs
 
--- src/lib.rt:124:5
 loop-less-24 : tie.Need-loop-less-24 Inv-loop μ-loop
 loop-less-24 c = nearer (met (c .before .before .before .before .before))
 
--- src/lib.rt:124:5
 loop-again-24 : tie.Need-loop-again-24 Inv-loop μ-loop
 loop-again-24 c = met-rotates (met (c .before .before .before .before .before)) (is-live _ (c .before .before .before .if1 .left)) (c .rotate-left4 .result) 25 4 2 (c .before .before .match4 .keys20) refl (c .rotate-left4 .ensures)
 
--- src/lib.rt:329:17
 apply-effect-requires : tie.Need-apply-effect-requires Inv-loop μ-loop
 apply-effect-requires c κs = search needs
 
--- src/lib.rt:124:5
 loop-less-25 : tie.Need-loop-less-25 Inv-loop μ-loop
 loop-less-25 c = nearer (met (c .before .before .before .before .before))
 
--- src/lib.rt:124:5
 loop-again-25 : tie.Need-loop-again-25 Inv-loop μ-loop
 loop-again-25 c = met-steps (met (c .before .before .before .before .before)) (is-live _ (c .before .before .before .if1 .left)) (c .apply-effect .result) 26 _ (c .before .before .match4 .keys21) refl (c .apply-effect .ensures)
 
--- src/lib.rt:334:17
 apply-effect-requires-2 : tie.Need-apply-effect-requires-2 Inv-loop μ-loop
 apply-effect-requires-2 c κs = search needs
 
--- src/lib.rt:124:5
 loop-less-26 : tie.Need-loop-less-26 Inv-loop μ-loop
 loop-less-26 c = nearer (met (c .before .before .before .before .before))
 
--- src/lib.rt:124:5
 loop-again-26 : tie.Need-loop-again-26 Inv-loop μ-loop
 loop-again-26 c = met-steps (met (c .before .before .before .before .before)) (is-live _ (c .before .before .before .if1 .left)) (c .apply-effect2 .result) 27 _ (c .before .before .match4 .keys22) refl (c .apply-effect2 .ensures)
 
--- src/lib.rt:339:17
 apply-effect-requires-3 : tie.Need-apply-effect-requires-3 Inv-loop μ-loop
 apply-effect-requires-3 c κs = search needs
 
--- src/lib.rt:124:5
 loop-less-27 : tie.Need-loop-less-27 Inv-loop μ-loop
 loop-less-27 c = nearer (met (c .before .before .before .before .before))
 
--- src/lib.rt:124:5
 loop-again-27 : tie.Need-loop-again-27 Inv-loop μ-loop
 loop-again-27 c = met-steps (met (c .before .before .before .before .before)) (is-live _ (c .before .before .before .if1 .left)) (c .apply-effect3 .result) 28 _ (c .before .before .match4 .keys23) refl (c .apply-effect3 .ensures)
 
--- src/lib.rt:344:17
 apply-effect-requires-4 : tie.Need-apply-effect-requires-4 Inv-loop μ-loop
 apply-effect-requires-4 c κs = search needs
 
--- src/lib.rt:124:5
 loop-less-28 : tie.Need-loop-less-28 Inv-loop μ-loop
 loop-less-28 c = nearer (met (c .before .before .before .before .before))
 
--- src/lib.rt:124:5
 loop-again-28 : tie.Need-loop-again-28 Inv-loop μ-loop
 loop-again-28 c = met-steps (met (c .before .before .before .before .before)) (is-live _ (c .before .before .before .if1 .left)) (c .apply-effect4 .result) 29 _ (c .before .before .match4 .keys24) refl (c .apply-effect4 .ensures)
 
--- src/lib.rt:349:17
 apply-effect-requires-5 : tie.Need-apply-effect-requires-5 Inv-loop μ-loop
 apply-effect-requires-5 c κs = search needs
 
--- src/lib.rt:124:5
 loop-less-29 : tie.Need-loop-less-29 Inv-loop μ-loop
 loop-less-29 c = nearer (met (c .before .before .before .before .before))
 
--- src/lib.rt:124:5
 loop-again-29 : tie.Need-loop-again-29 Inv-loop μ-loop
 loop-again-29 c = met-steps (met (c .before .before .before .before .before)) (is-live _ (c .before .before .before .if1 .left)) (c .apply-effect5 .result) 30 _ (c .before .before .match4 .keys25) refl (c .apply-effect5 .ensures)
 
--- src/lib.rt:354:17
 apply-effect-requires-6 : tie.Need-apply-effect-requires-6 Inv-loop μ-loop
 apply-effect-requires-6 c κs = search needs
 
--- src/lib.rt:124:5
 loop-less-30 : tie.Need-loop-less-30 Inv-loop μ-loop
 loop-less-30 c = nearer (met (c .before .before .before .before .before))
 
--- src/lib.rt:124:5
 loop-again-30 : tie.Need-loop-again-30 Inv-loop μ-loop
 loop-again-30 c = met-steps (met (c .before .before .before .before .before)) (is-live _ (c .before .before .before .if1 .left)) (c .apply-effect6 .result) 31 _ (c .before .before .match4 .keys26) refl (c .apply-effect6 .ensures)
 
--- src/lib.rt:124:5
 loop-less-31 : tie.Need-loop-less-31 Inv-loop μ-loop
 loop-less-31 c = nearer (met (c .before .before .before .before))
 
--- src/lib.rt:124:5
 loop-again-31 : tie.Need-loop-again-31 Inv-loop μ-loop
 loop-again-31 c = met-unmodelled (met (c .before .before .before .before)) (is-live _ (c .before .before .if1 .left)) (class-left (met (c .before .before .before .before)) (c .before .before .before .match3 .rest) handled (c .before .match4 .rest) tt)
 
