@@ -119,7 +119,7 @@ pub fn rotate_bytes(mut bytes: [u64; 244], b: usize, k: usize, rest: usize) -> [
 }
 
 // The code of a slot that joins another.
-pub fn joined(code: u8, bytes: u64, code1: u8, bytes1: u64) -> u8
+fn joined(code: u8, bytes: u64, code1: u8, bytes1: u64) -> u8
     requires { ⌜ (Canon code bytes) × (Canon code1 bytes1) ⌝ }
     ensures { λ r. ⌜ Joined code bytes code1 bytes1 r ⌝ }
 {
@@ -160,7 +160,7 @@ pub fn join_codes(
 }
 
 // The bytes of a slot become 0 where its code suffices.
-pub fn clear_bytes(code: u8, bytes: u64) -> u64
+fn clear_bytes(code: u8, bytes: u64) -> u64
     requires { ⌜ Canon code bytes ⌝ }
     ensures { λ r. ⌜ r ≡ slotBytes (slotItem code bytes) ⌝ }
 {
