@@ -13,10 +13,10 @@ use Rattle.definition.specs.Lines.{refusedLine, lastLine, linesOf, printed}
 use Rattle.definition.specs.Papers.{field, fragments, entries, entryCount, headerSize, initialiser, bodies, goodParts, goodHeader, PaperMarked, refusedPaper, markFrom, dispatch, markPaper}
 use Rattle.definition.specs.Refusals.{Refusal, refusedAt, badHeader, dispatchTooLarge, longPaper, answer}
 use Rattle.definition.specs.Stacks.{builtIn}
-use Rattle.paper.specs.View.{dispatched}
-use Rattle.paper.specs.declared.Dispatch.{Dispatch}
-use Rattle.paper.specs.declared.Dispatch.the-variants.{Fits, Over}
-use Rattle.paper.proofs.Fragments.{count-without, count-with}
+use Rattle.header.specs.View.{dispatched}
+use Rattle.header.specs.declared.Dispatch.{Dispatch}
+use Rattle.header.specs.declared.Dispatch.the-variants.{Fits, Over}
+use Rattle.header.proofs.Fragments.{count-without, count-with}
 use Rattle.lines.specs.View.{Written, Prints, linesIn, Within}
 use Rattle.lines.specs.declared.Lines.{Lines}
 

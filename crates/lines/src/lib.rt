@@ -9,7 +9,7 @@ ghost use Rattle.definition.specs.Papers.{entryCount, fragments, markFrom, mark
 ghost use Rattle.definition.specs.Refusals.{answer};
 ghost use Rattle.definition.specs.Stacks.{builtIn};
 ghost use Rattle.lines.specs.View.{Written, endText, lineText, Prints, linesIn, Within};
-use paper::Dispatch;
+use header::Dispatch;
 
 // A word, byte by byte.
 pub fn write_word(out: &mut [u8], at: usize, word: &[u8]) -> usize
@@ -164,8 +164,8 @@ fn write_fragments(paper: &[u8], log: &mut [u16], out: &mut [u8]) -> usize
         ⌝ }
     ensures short { λ r. ⌜ r ≤ 4096 ⌝ }
 {
-    let entries = paper::field(paper, 0) as usize;
-    let count = paper::fragment_count(paper);
+    let entries = header::field(paper, 0) as usize;
+    let count = header::fragment_count(paper);
     let mut k: usize = 0;
     let mut rows: usize = 0;
     let mut at: usize = 0;
@@ -208,10 +208,10 @@ fn write_lines(paper: &[u8], log: &mut [u16], out: &mut [u8]) -> usize
     if paper.len() > 8000 {
         return write_refused(out, 0, 21, 0, 0, paper.len() as u64, 8000);
     }
-    if !paper::header_ok(paper) {
+    if !header::header_ok(paper) {
         return write_refused(out, 0, 19, 0, 0, 0, 0);
     }
-    let d = paper::dispatch_check(paper);
+    let d = header::dispatch_check(paper);
     match d {
         Dispatch::Over { entry, sum } => write_refused(out, 0, 20, entry, 0, sum as u64, 244),
         Dispatch::Fits => write_fragments(paper, log, out),

@@ -13,7 +13,7 @@ use Rattle.definition.specs.Lines.{text, decimal, labelled}
 use Rattle.lines.specs.View.{Written}
 use Rattle.lines.proofs.Texts.{written-as, then-written, byte-written, decimal-one, decimal-more}
 use Rattle.definition.specs.Papers.{entryCount, display}
-use Rattle.paper.specs.View.{fragmentAt}
+use Rattle.header.specs.View.{fragmentAt}
 use Rattle.stack_analysis.specs.declared.Verdict.{Verdict}
 use Rattle.log_lines.specs.Log.{startLine, start, acceptedLine, refusalLine, malformedLine, verdictLine}
 use Rattle.log_lines.specs.Log.{

@@ -7,7 +7,7 @@ use lib.ListN.{length, take, getD, replicate}
 use Rattle.definition.specs.Basics.{Bytes, pick}
 use Rattle.definition.specs.Lines.{text, decimal, labelled, name}
 use Rattle.definition.specs.Papers.{entryCount, display}
-use Rattle.paper.specs.View.{fragmentAt}
+use Rattle.header.specs.View.{fragmentAt}
 use Rattle.reasons.specs.Reasons.{reason}
 use Rattle.stack_analysis.specs.declared.Verdict.{Verdict}
 

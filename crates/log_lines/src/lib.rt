@@ -237,10 +237,10 @@ pub fn write_head(out: &mut [u8], paper: &[u8], k: usize) -> usize
     ensures same { λ r. ⌜ Written (now (out .entry)) 0 (start (now (paper .entry)) k) (now (out .exit)) r ⌝ }
     ensures short { λ r. ⌜ r ≤ 256 ⌝ }
 {
-    let entries = paper::field(paper, 0) as usize;
-    let size = paper::fragment_bytes(paper, k).len();
-    let main = paper::fragment_main(paper, k);
-    let alt = paper::fragment_alt(paper, k);
+    let entries = header::field(paper, 0) as usize;
+    let size = header::fragment_bytes(paper, k).len();
+    let main = header::fragment_main(paper, k);
+    let alt = header::fragment_alt(paper, k);
     write_start(out, entries, k, size, main, alt)
 }
 

@@ -17,9 +17,10 @@ use Rattle.definition.specs.Walk.{Marked, dead, analysis}
 use Rattle.definition.proofs.TrueOfPaper.{trueOfPaper}
 use Rattle.stack_analysis.specs.View.{packedVerdict}
 use Rattle.stack_analysis.specs.declared.Verdict.{Verdict}
-use Rattle.paper.specs.View.{dispatched, fragmentAt, fragmentMarked, Marks, paperOf}
-use Rattle.paper.specs.declared.Dispatch.{Dispatch}
-use Rattle.paper.specs.declared.Dispatch.the-variants.{Fits, Over}
+use Rattle.header.specs.View.{dispatched, fragmentAt}
+use Rattle.header.specs.declared.Dispatch.{Dispatch}
+use Rattle.header.specs.declared.Dispatch.the-variants.{Fits, Over}
+use Rattle.paper.specs.View.{fragmentMarked, Marks, paperOf}
 use Rattle.paper.specs.declared.PaperVerdict.{PaperVerdict}
 
 -- The fragments one after another

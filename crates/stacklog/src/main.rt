@@ -3,7 +3,7 @@
 // lent bytes by a function of `log_lines` or `lines`, which says which line it is.
 ghost use Prim.Native.Nat.{_+_, _*_, _≤_};
 ghost use lib.ListN.{length};
-use paper::Dispatch;
+use header::Dispatch;
 use stack_analysis::Verdict;
 
 // Row j of the log is printed.
@@ -74,12 +74,12 @@ fn print_verdict(fragment: &[u8], v: Verdict) {
 
 // The fragments of a paper, each marked in its order with its rows in the log, and the last line.
 fn print_fragments(paper: &[u8], log: &mut [u16]) {
-    let count = paper::fragment_count(paper);
+    let count = header::fragment_count(paper);
     let mut k: usize = 0;
     let mut rows: usize = 0;
     while k < count {
         let v = paper::mark_fragment(paper, k, rows, log);
-        let fragment = paper::fragment_bytes(paper, k);
+        let fragment = header::fragment_bytes(paper, k);
         let next = rows + v.rows;
         print_start(paper, k);
         print_heading(v.rows);
@@ -103,12 +103,12 @@ fn print_paper(paper: &[u8], log: &mut [u16]) {
         print_last(21, 0, 0, paper.len() as u64, 8000);
         return;
     }
-    if !paper::header_ok(paper) {
+    if !header::header_ok(paper) {
         print_refusal(19, 0, 0);
         print_last(19, 0, 0, 0, 0);
         return;
     }
-    let d = paper::dispatch_check(paper);
+    let d = header::dispatch_check(paper);
     match d {
         Dispatch::Over { entry, sum } => {
             print_dispatch(entry, sum);

@@ -5,9 +5,9 @@ use Rattle.paper.proofs.mark_fragment.Statement.{statement}
 use Rattle.paper.proofs.mark_fragment.Tie as tie
 use Rattle.paper.proofs.mark_fragment.Reads as reads
 use Rattle.paper.proofs.mark_fragment.Lts as lts
-use Rattle.paper.proofs.field.Reads as field-reads
+use Rattle.header.proofs.field.Reads as field-reads
 use Rattle.paper.proofs.mark_part.Reads as mark-part-reads
-use Rattle.paper.proofs.most_parameters.Reads as most-parameters-reads
+use Rattle.header.proofs.most_parameters.Reads as most-parameters-reads
 
 field-requires : tie.Need-field-requires
 field-requires c κs = search needs

@@ -10,8 +10,8 @@ use Rattle.paper.proofs.mark_fragments.Statement.{statement}
 use Rattle.paper.proofs.mark_fragments.Tie as tie
 use Rattle.paper.proofs.mark_fragments.Reads as reads
 use Rattle.paper.proofs.mark_fragments.Lts as lts
-use Rattle.paper.proofs.fragment_count.Reads as fragment-count-reads
-use Rattle.paper.proofs.larger.Reads as larger-reads
+use Rattle.header.proofs.fragment_count.Reads as fragment-count-reads
+use Rattle.header.proofs.larger.Reads as larger-reads
 use Rattle.paper.proofs.mark_fragment.Reads as mark-fragment-reads
 
 abbrev Inv-loop : tie.InvT-loop

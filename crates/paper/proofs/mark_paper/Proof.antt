@@ -5,8 +5,8 @@ use Rattle.paper.proofs.mark_paper.Statement.{statement}
 use Rattle.paper.proofs.mark_paper.Tie as tie
 use Rattle.paper.proofs.mark_paper.Reads as reads
 use Rattle.paper.proofs.mark_paper.Lts as lts
-use Rattle.paper.proofs.dispatch_check.Reads as dispatch-check-reads
-use Rattle.paper.proofs.header_ok.Reads as header-ok-reads
+use Rattle.header.proofs.dispatch_check.Reads as dispatch-check-reads
+use Rattle.header.proofs.header_ok.Reads as header-ok-reads
 use Rattle.paper.proofs.mark_fragments.Reads as mark-fragments-reads
 use Rattle.paper.proofs.refused.Reads as refused-reads
 

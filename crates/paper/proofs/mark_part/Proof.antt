@@ -5,7 +5,7 @@ use Rattle.paper.proofs.mark_part.Statement.{statement}
 use Rattle.paper.proofs.mark_part.Tie as tie
 use Rattle.paper.proofs.mark_part.Reads as reads
 use Rattle.paper.proofs.mark_part.Lts as lts
-use Rattle.paper.proofs.part.Reads as part-reads
+use Rattle.header.proofs.part.Reads as part-reads
 use Rattle.stack_analysis.proofs.analyze.Reads as analyze-reads
 
 part-requires : tie.Need-part-requires

@@ -8,8 +8,8 @@ use Rattle.stacklog.proofs.print_fragments.Tie as tie
 use Rattle.stacklog.proofs.print_fragments.Reads as reads
 use Rattle.stacklog.proofs.print_fragments.Lts as lts
 use Rattle.io.proofs.write_all.Reads as write-all-reads
-use Rattle.paper.proofs.fragment_bytes.Reads as fragment-bytes-reads
-use Rattle.paper.proofs.fragment_count.Reads as fragment-count-reads
+use Rattle.header.proofs.fragment_bytes.Reads as fragment-bytes-reads
+use Rattle.header.proofs.fragment_count.Reads as fragment-count-reads
 use Rattle.paper.proofs.mark_fragment.Reads as mark-fragment-reads
 use Rattle.stacklog.proofs.print_heading.Reads as print-heading-reads
 use Rattle.stacklog.proofs.print_last.Reads as print-last-reads

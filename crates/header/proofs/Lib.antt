@@ -1,0 +1,5 @@
+-- What is proved of the definitions for this crate's functions and for callers.
+pub mod Headers
+pub mod Entries
+pub mod Fragments
+pub mod Numbered
