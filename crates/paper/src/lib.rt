@@ -1,7 +1,7 @@
 // Marking a paper: document 01, section 6.
-ghost use mathlib.Core.List.{List, _++_};
+ghost use mathlib.Core.List.{_++_};
 ghost use mathlib.Core.Path.{_≡_};
-ghost use Prim.Native.Nat.{ℕ, _+_, _*_, _≤_, _<_};
+ghost use Prim.Native.Nat.{_+_, _*_, _≤_, _<_};
 ghost use lib.ListN.{length, take, drop};
 ghost use Rattle.definition.specs.Papers.{partAt, bytesOf, fragments, markFrom, markPaper, EachTrue};
 ghost use Rattle.definition.specs.Stacks.{builtIn};
