@@ -830,12 +830,12 @@ impl Stacks {
                         }),
                     };
                 }
-                let to = m as usize;
-                let from = to - depth as usize;
+                let i = m as usize;
+                let from = i - depth as usize;
                 self.mains = m + 1;
                 let codes = self.codes;
-                let moved = copy_codes(codes, from, to, 1);
-                let suffice = all_suffice(moved, to, 1);
+                let moved = copy_codes(codes, from, i, 1);
+                let suffice = all_suffice(moved, i, 1);
                 self.codes = moved;
                 if suffice {
                     return Stepped {
@@ -844,7 +844,7 @@ impl Stacks {
                     };
                 }
                 let bytes = self.bytes;
-                let moved_bytes = copy_bytes(bytes, from, to, 1);
+                let moved_bytes = copy_bytes(bytes, from, i, 1);
                 self.bytes = moved_bytes;
                 return Stepped {
                     stacks: self,

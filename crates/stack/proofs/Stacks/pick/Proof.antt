@@ -49,8 +49,8 @@ add-t24 c = search needs
 returns-3 : tie.Need-returns-3
 returns-3 c = search (pick-full)
 
-cast-to : tie.Need-cast-to
-cast-to c = search needs
+cast-i : tie.Need-cast-i
+cast-i c = search needs
 
 sub-from : tie.Need-sub-from
 sub-from c = search needs
@@ -90,7 +90,7 @@ pick-spec =
     add-t23
     add-t24
     returns-3
-    cast-to
+    cast-i
     sub-from
     add-self
     copy-codes-requires
