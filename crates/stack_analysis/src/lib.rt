@@ -412,9 +412,19 @@ fn enter(w: Walk, depth: u32) -> Walk
         };
     }
     let p = s.drop_items(1);
-    let t = p.stacks;
     let answer = p.answer;
-    let stop = stop_of(answer);
+    let t = p.stacks;
+    if let Answer::Refused(r) = answer {
+        return Walk {
+            stacks: t,
+            live: true,
+            at,
+            last,
+            rows,
+            peak,
+            stop: Stop::Refused(r),
+        };
+    }
     Walk {
         stacks: t,
         live: true,
@@ -422,7 +432,7 @@ fn enter(w: Walk, depth: u32) -> Walk
         last,
         rows,
         peak,
-        stop,
+        stop: Stop::Running,
     }
 }
 
