@@ -529,25 +529,26 @@ fn finish(w: Walk, other: Stacks, alive: bool) -> Walk
     }
 }
 
-// Walks an arm, with depth conditionals open around it, to the end, or to the ELSE or ENDIF of the innermost.
+// Walks the rest of an arm from its conditional at whose IF or NOTIF start stands, with depth conditionals open around the
+// arm, to the end, or to the ELSE or ENDIF of the innermost.
 fn arm(code: &[u8], log: &mut [u16], start: Walk, depth: u32) -> Walk
-    requires { ⌜ (Ready (now code) (now log) start) × (start .stop ≡ Stop.Running) ⌝ }
+    requires { ⌜ (Ready (now code) (now log) start) × (start .stop ≡ Stop.Conditional) ⌝ }
     requires { ⌜ depth ≤ 24 ⌝ }
     ensures { λ r.
         ⌜ Walks builtIn (now (code .entry)) depth start (now (log .entry)) r (now (log .exit)) ⌝ }
 {
-    let mut w = plain(code, log, start);
+    let mut w = start;
     loop {
-        let stop = w.stop;
-        let Stop::Conditional = stop else {
-            return w;
-        };
         let v = conditional(code, log, w, depth);
         let went = v.stop;
         if let Stop::Refused(_) = went {
             return v;
         }
         w = plain(code, log, v);
+        let stop = w.stop;
+        let Stop::Conditional = stop else {
+            return w;
+        };
     }
 }
 
@@ -564,7 +565,11 @@ fn conditional(code: &[u8], log: &mut [u16], w: Walk, depth: u32) -> Walk
     }
     let start = v.stacks;
     let live = v.live;
-    let first = arm(code, log, v, depth + 1);
+    let mut first = plain(code, log, v);
+    let met = first.stop;
+    if let Stop::Conditional = met {
+        first = arm(code, log, first, depth + 1);
+    }
     let stop = first.stop;
     if let Stop::Else = stop {
         let s = first.stacks;
@@ -577,7 +582,11 @@ fn conditional(code: &[u8], log: &mut [u16], w: Walk, depth: u32) -> Walk
             peak: first.peak,
             stop: Stop::Running,
         };
-        let other = arm(code, log, second, depth + 1);
+        let mut other = plain(code, log, second);
+        let met = other.stop;
+        if let Stop::Conditional = met {
+            other = arm(code, log, other, depth + 1);
+        }
         return finish(other, s, first.live);
     }
     finish(first, start, live)
@@ -771,7 +780,11 @@ fn walk_all(fragment: &[u8], main: u32, alt: u32, log: &mut [u16]) -> Verdict
         peak: main + alt,
         stop: Stop::Running,
     };
-    let w = arm(fragment, log, start, 0);
+    let mut w = plain(fragment, log, start);
+    let met = w.stop;
+    if let Stop::Conditional = met {
+        w = arm(fragment, log, w, 0);
+    }
     conclude(w)
 }
 
