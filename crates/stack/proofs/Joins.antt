@@ -4,14 +4,14 @@ use mathlib.Core.Path.{_≡_, refl, sym, ap, _∙_}
 use mathlib.Core.List.{List, [], _∷_}
 use Prim.Native.Nat.{ℕ, zero, suc, _+_, _-_, _≤_, _<_}
 use native.Mathlib.Omega.{arith}
-use borrow.Author.Tests.{eq-eqb, ne-eqb, eqb-true, ltb-true, ltb-false}
+use borrow.Author.Tests.{eq-eqb, ne-eqb, eqb-true, eqb-false, ltb-true, ltb-false}
 use lib.Dec.{eqb, ltb}
-use lib.ListN.{getD, set}
+use lib.ListN.{length, getD, set}
 use Rattle.definition.specs.Basics.{Bytes, pick}
 use Rattle.definition.specs.Stacks as S
 use Rattle.definition.specs.Walk.{Item, unknown, exact, sameBytes, joinItem, joinItems, joinStacks}
 use Rattle.stack.specs.View.{Slots, slots, slotsOf, slotItem, sufficient, slotCode, slotBytes, cells, backs, tops, view, Canon, Sound, Fit, Says}
-use Rattle.stack.specs.Parts.{Joined, Each, JoinedAt}
+use Rattle.stack.specs.Parts.{Suffice, Joined, Each, JoinedAt, commonCode, CommonAt}
 use Rattle.stack.specs.declared.Stacks.{Stacks}
 use Rattle.stack.specs.declared.Refusal.the-variants.{ArmsDiffer}
 use Rattle.stack.proofs.Codes.{canon-unknown, same-item, code-is, clear-some}
@@ -79,6 +79,44 @@ pub joining-more : (p t : Slots) (q : List ℕ) (a i e x : ℕ) → Sound p → 
 joining-more p t q a i e x s h lt g v k =
     each-more (JoinedAt p t) (p .codes) a q i x h (omega (arith, s .wholeCodes)) (rw (v .above i (omega arith)) at k) v
 
+-- Codes alone
+
+module _ (code code′ : ℕ) where
+  pub common-same : code ≡ code′ → code ≡ commonCode code code′
+  unfolding commonCode
+  common-same e = rw (eq-eqb code code′ e)
+
+  pub common-none : (code ≡ code′ → ⊥) → 9 ≡ commonCode code code′
+  unfolding commonCode
+  common-none e = rw (ne-eqb code code′ e)
+
+  -- where it suffices, the bytes have no say
+  common-joined : (n n′ : ℕ) → Canon code n → Canon code′ n′ → (x : ℕ) → x ≡ commonCode code code′ → sufficient x ≡ true → Joined code n code′ n′ x
+  common-joined n n′ c c′ x e s = by (eqb code code′) refl
+    where
+      by : (t : Bool) → eqb code code′ ≡ t → Joined code n code′ n′ x
+      by true g =
+          let h : code ≡ code′ = eqb-true code code′ g in
+          let z : x ≡ code = e ∙ sym (common-same h) in
+          rw z (joined-suffices code n code′ n′ c c′ h (rw z at s))
+      by false g =
+          let h : code ≡ code′ → ⊥ = eqb-false code code′ g in
+          rw (e ∙ sym (common-none h)) (joined-code code n code′ n′ c c′ h)
+
+pub common-more : (l m q : List ℕ) (a i e x : ℕ) → length l ≡ 244 → a ≤ i → i < e → e ≤ 244 → Each (CommonAt l m) l a i q
+    → x ≡ commonCode (getD q i 0) (getD m i 0) → Each (CommonAt l m) l a (i + 1) (set q i x)
+common-more l m q a i e x s h lt g v k = each-more (CommonAt l m) l a q i x h (omega arith) (rw (v .above i (omega arith)) at k) v
+
+-- codes in common that suffice are those of a join
+pub all-common : (y c y′ c′ d : List ℕ) (a e : ℕ) → Sound (slots y c) → Sound (slots y′ c′) → Each (CommonAt c c′) c a e d → ((j : ℕ) → a ≤ j → j < e → sufficient (getD d j 0) ≡ true)
+    → Each (JoinedAt (slots y c) (slots y′ c′)) c a e d
+all-common y c y′ c′ d a e s s′ v k = record {
+  whole = v .whole;
+  each = λ j h g. common-joined (getD c j 0) (getD c′ j 0) (getD y j 0) (getD y′ j 0) (s .canon j) (s′ .canon j) (getD d j 0) (v .each j h g) (k j h g);
+  below = v .below;
+  above = v .above;
+}
+
 -- a code that is not joined yet is as it was
 pub joined-now : (p : Slots) (q : List ℕ) (a i : ℕ) (P : ℕ → ℕ → Type 0) → Sound p → Each P (p .codes) a i q → (j : ℕ) → i ≤ j → Canon (getD q j 0) (getD (p .bytes) j 0)
 joined-now p q a i P s v j h = rw (v .above j h) (s .canon j)
@@ -142,3 +180,14 @@ module _ (s t : Stacks) (f : Fit s) where
             ← g,
           );
         }
+
+    -- the bytes have no say in it
+    pub join-common : Fit t → s .alts ≡ t .alts → (d c : List ℕ) → Each (CommonAt (s .codes) (t .codes)) (s .codes) 0 (s .mains) d → Suffice d 0 (s .mains)
+        → Each (CommonAt d (t .codes)) d (244 - s .alts) 244 c → Suffice c (244 - s .alts) (s .alts) → Says (stepped (s .bytes) c (s .mains) (s .alts)) (joinStacks (view s) (view t))
+    join-common o g d c v k w l =
+        let y = s .bytes in
+        let p = all-common y (s .codes) (t .bytes) (t .codes) d 0 (s .mains) (f .sound) (o .sound) v (λ j h lt. let e : 0 + j ≡ j = omega arith in rw e at (k j lt)) in
+        let q = joined-sound y (s .codes) d (slotsOf t) 0 (s .mains) (f .sound) p in
+        join-done g d c p
+        (all-common y d (t .bytes) (t .codes) c (244 - s .alts) 244 q (o .sound) w
+        (λ j h lt. let e : 244 - s .alts + (j - (244 - s .alts)) ≡ j = omega arith in rw e at (l (j - (244 - s .alts)) (omega (arith, f .room)))))

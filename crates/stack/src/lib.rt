@@ -9,7 +9,7 @@ ghost use Rattle.definition.specs.Decoding.{indexOf};
 ghost use Rattle.definition.specs.Walk.{exact, bytesKnown, marking, joinStacks};
 ghost use Rattle.decode.specs.View.{lowBytes, itemOf, Held};
 ghost use Rattle.stack.specs.View.{view, slots, packed, plain, slotItem, slotBytes, codeOf, sufficient, Canon, Sound, Fit, Fresh, Says, Steps};
-ghost use Rattle.stack.specs.Parts.{Suffice, Copied, Turned, Joined, Each, JoinedAt, ClearAt, SameAt, InSlot, codeLength, countOf, Pops};
+ghost use Rattle.stack.specs.Parts.{Suffice, Copied, Turned, Joined, Each, JoinedAt, commonCode, CommonAt, ClearAt, SameAt, InSlot, codeLength, countOf, Pops};
 use decode::Index;
 use decode::Value;
 use decode::number_value;
@@ -185,6 +185,31 @@ fn joined(code: u8, bytes: u64, code1: u8, bytes1: u64) -> u8
         return 9;
     }
     code
+}
+
+// The code that two slots have in common, where it suffices.
+fn common(code: u8, code1: u8) -> u8
+    ensures { λ r. ⌜ r ≡ commonCode code code1 ⌝ }
+{
+    if code == code1 {
+        return code;
+    }
+    9
+}
+
+// The same of the slots from `from` up to `to`.
+fn common_codes(mut codes: [u8; 244], codes1: [u8; 244], from: usize, to: usize) -> [u8; 244]
+    requires { ⌜ (length codes ≡ 244) × (from ≤ to) × (to ≤ 244) ⌝ }
+    ensures { λ r. ⌜ Each (CommonAt codes codes1) codes from to r ⌝ }
+{
+    let mut i = from;
+    while i < to {
+        let code = codes[i];
+        let code1 = codes1[i];
+        codes[i] = common(code, code1);
+        i += 1;
+    }
+    codes
 }
 
 // The codes of the slots that join others. The bytes stay.
@@ -744,8 +769,21 @@ impl Stacks {
             };
         }
         let codes = self.codes;
-        let bytes = self.bytes;
         let codes1 = other.codes;
+        let low = common_codes(codes, codes1, 0, m as usize);
+        let suffice = all_suffice(low, 0, m as usize);
+        let all = common_codes(low, codes1, (244 - a) as usize, 244);
+        let suffice1 = all_suffice(all, (244 - a) as usize, a as usize);
+        if suffice {
+            if suffice1 {
+                self.codes = all;
+                return Stepped {
+                    stacks: self,
+                    answer: Answer::Done,
+                };
+            }
+        }
+        let bytes = self.bytes;
         let bytes1 = other.bytes;
         let main = join_codes(codes, bytes, codes1, bytes1, 0, m as usize);
         let both = join_codes(main, bytes, codes1, bytes1, (244 - a) as usize, 244);
