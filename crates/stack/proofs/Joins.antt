@@ -182,11 +182,12 @@ module _ (s t : Stacks) (f : Fit s) where
         }
 
     -- the bytes have no say in it
-    pub join-common : Fit t → s .alts ≡ t .alts → (d c : List ℕ) → Each (CommonAt (s .codes) (t .codes)) (s .codes) 0 (s .mains) d → Suffice d 0 (s .mains)
-        → Each (CommonAt d (t .codes)) d (244 - s .alts) 244 c → Suffice c (244 - s .alts) (s .alts) → Says (stepped (s .bytes) c (s .mains) (s .alts)) (joinStacks (view s) (view t))
-    join-common o g d c v k w l =
+    pub join-common : Fit t → s .alts ≡ t .alts → (d c : List ℕ) → Each (CommonAt (s .codes) (t .codes)) (s .codes) 0 (s .mains) d → Each (CommonAt d (t .codes)) d (244 - s .alts) 244 c
+        → Suffice c 0 (s .mains) → Suffice c (244 - s .alts) (s .alts) → Says (stepped (s .bytes) c (s .mains) (s .alts)) (joinStacks (view s) (view t))
+    join-common o g d c v w k l =
         let y = s .bytes in
-        let p = all-common y (s .codes) (t .bytes) (t .codes) d 0 (s .mains) (f .sound) (o .sound) v (λ j h lt. let e : 0 + j ≡ j = omega arith in rw e at (k j lt)) in
+        let p = all-common y (s .codes) (t .bytes) (t .codes) d 0 (s .mains) (f .sound) (o .sound) v
+        (λ j h lt. let e : 0 + j ≡ j = omega arith in rw (e, w .below j (omega (arith, f .room))) at (k j lt)) in
         let q = joined-sound y (s .codes) d (slotsOf t) 0 (s .mains) (f .sound) p in
         join-done g d c p
         (all-common y d (t .bytes) (t .codes) c (244 - s .alts) 244 q (o .sound) w

@@ -771,8 +771,8 @@ impl Stacks {
         let codes = self.codes;
         let codes1 = other.codes;
         let low = common_codes(codes, codes1, 0, m as usize);
-        let suffice = all_suffice(low, 0, m as usize);
         let all = common_codes(low, codes1, (244 - a) as usize, 244);
+        let suffice = all_suffice(all, 0, m as usize);
         let suffice1 = all_suffice(all, (244 - a) as usize, a as usize);
         if suffice {
             if suffice1 {

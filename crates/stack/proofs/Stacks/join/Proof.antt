@@ -20,12 +20,6 @@ cast-common-codes c = search needs
 common-codes-requires : tie.Need-common-codes-requires
 common-codes-requires c κs = search needs
 
-cast-all-suffice : tie.Need-cast-all-suffice
-cast-all-suffice c = search needs
-
-all-suffice-requires : tie.Need-all-suffice-requires
-all-suffice-requires c κs = search needs
-
 sub-common-codes : tie.Need-sub-common-codes
 sub-common-codes c = search needs
 
@@ -34,6 +28,12 @@ cast-common-codes-2 c = search needs
 
 common-codes-requires-2 : tie.Need-common-codes-requires-2
 common-codes-requires-2 c κs = search needs
+
+cast-all-suffice : tie.Need-cast-all-suffice
+cast-all-suffice c = search needs
+
+all-suffice-requires : tie.Need-all-suffice-requires
+all-suffice-requires c κs = search needs
 
 sub-all-suffice : tie.Need-sub-all-suffice
 sub-all-suffice c = search needs
@@ -49,7 +49,7 @@ all-suffice-requires-2 c κs = search needs
 
 returns-3 : tie.Need-returns-3
 returns-3 c =
-    let b = c .before .before .before .before .all-suffice .ensures (c .before .if3 .taken) in
+    let b = c .before .before .before .all-suffice .ensures (c .before .if3 .taken) in
     let d = c .before .before .all-suffice2 .ensures (c .if4 .taken) in
     search (join-common)
 
@@ -79,11 +79,11 @@ join-spec =
     returns-2
     cast-common-codes
     common-codes-requires
-    cast-all-suffice
-    all-suffice-requires
     sub-common-codes
     cast-common-codes-2
     common-codes-requires-2
+    cast-all-suffice
+    all-suffice-requires
     sub-all-suffice
     cast-all-suffice-2
     cast-all-suffice-3
