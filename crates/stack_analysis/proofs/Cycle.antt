@@ -23,7 +23,7 @@ use Rattle.stack_analysis.proofs.Goings.{stays, goes-on, among}
 
 -- the second arm starts where the first did, and stands behind what the first has walked
 abbrev pub second : Walk → Walk → Walk
-second v a = record { stacks = v .stacks; live = v .live; at = a .at; last = a .last; rows = a .rows; peak = a .peak; stop = Running }
+second v a = record { stacks = v .stacks; live = v .live; at = a .at; last = a .last; rows = a .rows; peak = a .peak; stop = v .stop }
 
 rows-there : (s : Bytes) {w v : Walk} → SamePlace w v → rowsIn s v ≡ rowsIn s w
 rows-there s {w} {v} p = rw (p .at, p .rows)
@@ -73,7 +73,7 @@ module _ {R : Rules} {s : Bytes} where
 
       module _ (else : a .stop ≡ Else) {b : Walk} {log₂ : List ℕ} (other : Walks R s (depth + 1) (second v a) log₁ b log₂) where
         in-second : (fs : List Frame) → Open depth fs → resume R s w fs log ≡ resume R s b (frame (arm v) (ended (arm a)) ∷ fs) log₂
-        in-second fs o = in-first fs o ∙ rw else (other .goes .same (frame (arm v) (ended (arm a)) ∷ fs) (omega arith))
+        in-second fs o = in-first fs o ∙ rw else (ap (λ (x : Stop). Rattle.stack_analysis.specs.Walkers.resumeBy R s x (second v a) (frame (arm v) (ended (arm a)) ∷ fs) log₁) (sym run) ∙ other .goes .same (frame (arm v) (ended (arm a)) ∷ fs) (omega arith))
 
         pub two-arms : {f : Walk} → Finishes R s b (arm a) f → Closes R s depth w log f log₂
         two-arms {f} h = record {

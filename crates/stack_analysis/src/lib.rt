@@ -558,7 +558,7 @@ fn conditional(code: &[u8], log: &mut [u16], w: Walk, depth: u32) -> Walk
     requires { ⌜ depth ≤ 24 ⌝ }
     ensures { λ r. ⌜ Closes builtIn (now (code .entry)) depth w (now (log .entry)) r (now (log .exit)) ⌝ }
 {
-    let v = enter(w, depth);
+    let mut v = enter(w, depth);
     let opened = v.stop;
     if let Stop::Refused(_) = opened {
         return v;
@@ -573,16 +573,12 @@ fn conditional(code: &[u8], log: &mut [u16], w: Walk, depth: u32) -> Walk
     let stop = first.stop;
     if let Stop::Else = stop {
         let s = first.stacks;
-        let second = Walk {
-            stacks: start,
-            live,
-            at: first.at,
-            last: first.last,
-            rows: first.rows,
-            peak: first.peak,
-            stop: Stop::Running,
-        };
-        let mut other = plain(code, log, second);
+        // the second arm starts from the same stacks
+        v.at = first.at;
+        v.last = first.last;
+        v.rows = first.rows;
+        v.peak = first.peak;
+        let mut other = plain(code, log, v);
         let met = other.stop;
         if let Stop::Conditional = met {
             other = arm(code, log, other, depth + 1);

@@ -286,7 +286,7 @@ conditional-plain-requires-2 t c κs =
     let e = c .before .before .before .before .before .before .before .before .before .before .before .enter .ensures (s .args .code .now) in
     let f = first-walked t (c .before .before .before .before) in
     let r = ready-on (ready-there (s .pre .1 .0 .0) (e .fit) (e .place)) (f .0 .goes) (f .1) in
-    (record { fit = e .fit; high = r .high; short = r .short; room = r .room }, refl)
+    (record { fit = e .fit; high = r .high; short = r .short; room = r .room }, closed-running _ (e .closed) (c .before .before .before .before .before .before .before .before .before .before .match .keys2))
 
 conditional-enum-told-4 : (t : ℕ) → conditional-lts.Need-enum-told-4 (
   enter-reads.Asked,
