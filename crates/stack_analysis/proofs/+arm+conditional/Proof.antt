@@ -286,7 +286,7 @@ conditional-plain-requires-2 t c κs =
     let e = c .before .before .before .before .before .before .before .before .before .before .before .enter .ensures (s .args .code .now) in
     let f = first-walked t (c .before .before .before .before) in
     let r = ready-on (ready-there (s .pre .1 .0 .0) (e .fit) (e .place)) (f .0 .goes) (f .1) in
-    (record { fit = e .fit; high = r .high; short = r .short; room = r .room }, closed-running _ (e .closed) (c .before .before .before .before .before .before .before .before .before .before .match .keys2))
+    (record { fit = search (e .fit, f .0 .goes .fit); high = r .high; short = r .short; room = r .room }, closed-running _ (e .closed) (c .before .before .before .before .before .before .before .before .before .before .match .keys2))
 
 conditional-enum-told-4 : (t : ℕ) → conditional-lts.Need-enum-told-4 (
   enter-reads.Asked,
@@ -332,7 +332,7 @@ conditional-arm-requires-2 t c κs =
     let met = c .before .enum-told4 .given .1 in
     let run = closed-running _ (e .closed) (c .before .before .before .before .before .before .before .before .before .before .before .before .before .before .before .before .match .keys2) in
     let r = ready-on (ready-there (s .pre .1 .0 .0) (e .fit) (e .place)) (f .0 .goes) (f .1) in
-    let o = ready-on (record { fit = e .fit; high = r .high; short = r .short; room = r .room }) (q .ensures .goes) (q .kept .1 .0) in
+    let o = ready-on (record { fit = search (e .fit, f .0 .goes .fit); high = r .high; short = r .short; room = r .room }) (q .ensures .goes) (q .kept .1 .0) in
     (omega (arith, s .pre .0, e .place .at, f .0 .goes .low, met-later (q .ensures) met, q .ensures .goes .high), ((o, met), one-deeper (s .pre .1 .0 .0) e run))
 
 -- where the second arm is walked
