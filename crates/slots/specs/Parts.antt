@@ -3,7 +3,7 @@ use mathlib.Core.Bool.{true}
 use mathlib.Core.List.{List}
 use mathlib.Core.Path.{_≡_}
 use Prim.Native.Nat.{ℕ, _+_, _-_, _≤_, _<_}
-use lib.Dec.{leb, ltb}
+use lib.Dec.{leb, ltb, eqb}
 use lib.ListN.{length, getD}
 use Rattle.definition.specs.Basics.{pick}
 use Rattle.definition.specs.Walk.{joinItem}
@@ -50,6 +50,14 @@ pub record Joined (code bytes code1 bytes1 r : ℕ) : Type 0 where
 -- the code x at j is that of what the slots j of p and t have in common
 abbrev pub JoinedAt : Slots → Slots → ℕ → ℕ → Type 0
 JoinedAt p t j x = Joined (getD (p .codes) j 0) (getD (p .bytes) j 0) (getD (t .codes) j 0) (getD (t .bytes) j 0) x
+
+-- the code that two slots have in common by their codes alone
+unfoldable pub commonCode : ℕ → ℕ → ℕ
+commonCode code code1 = pick (eqb code code1) code 9
+
+-- the code x at j is that of l and m
+abbrev pub CommonAt : List ℕ → List ℕ → ℕ → ℕ → Type 0
+CommonAt l m j x = x ≡ commonCode (getD l j 0) (getD m j 0)
 
 -- the bytes at j are those of slot j of p, in the one form
 abbrev pub ClearAt : Slots → ℕ → ℕ → Type 0

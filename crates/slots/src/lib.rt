@@ -6,7 +6,7 @@ ghost use mathlib.Core.Bool.{true};
 ghost use lib.ListN.{length};
 ghost use Prim.Native.Nat.{_+_, _≤_, _<_};
 ghost use Rattle.slots.specs.View.{slots, slotItem, slotBytes, codeOf, sufficient, Canon, Sound};
-ghost use Rattle.slots.specs.Parts.{Suffice, Copied, Turned, Joined, Each, JoinedAt, ClearAt, SameAt, InSlot, codeLength};
+ghost use Rattle.slots.specs.Parts.{Suffice, Copied, Turned, Joined, Each, JoinedAt, commonCode, CommonAt, ClearAt, SameAt, InSlot, codeLength};
 use decode::Value;
 
 // Whether a code says its item by itself, whatever the bytes of the slot.
@@ -133,6 +133,31 @@ fn joined(code: u8, bytes: u64, code1: u8, bytes1: u64) -> u8
         return 9;
     }
     code
+}
+
+// The code that two slots have in common, where it suffices.
+fn common(code: u8, code1: u8) -> u8
+    ensures { λ r. ⌜ r ≡ commonCode code code1 ⌝ }
+{
+    if code == code1 {
+        return code;
+    }
+    9
+}
+
+// The same of the slots from `from` up to `to`.
+pub fn common_codes(mut codes: [u8; 244], codes1: [u8; 244], from: usize, to: usize) -> [u8; 244]
+    requires { ⌜ (length codes ≡ 244) × (from ≤ to) × (to ≤ 244) ⌝ }
+    ensures { λ r. ⌜ Each (CommonAt codes codes1) codes from to r ⌝ }
+{
+    let mut i = from;
+    while i < to {
+        let code = codes[i];
+        let code1 = codes1[i];
+        codes[i] = common(code, code1);
+        i += 1;
+    }
+    codes
 }
 
 // The codes of the slots that join others. The bytes stay.

@@ -1,5 +1,6 @@
 -- PICK, ROLL, DEPTH, SIZE and ZK.
 use mathlib.Core.Path.{_≡_, refl, sym, ap, _∙_}
+use mathlib.Core.List.{List}
 use mathlib.Core.Option.{some}
 use Prim.Native.Nat.{ℕ, zero, suc, _+_, _-_, _%_, _^_, _≤_, _<_}
 use native.Mathlib.Omega.{arith}
@@ -16,18 +17,18 @@ use Rattle.decode.specs.declared.Value.{Value}
 use Rattle.decode.proofs.Bytes.{length-low}
 use Rattle.decode.proofs.Numbers.{held-number, item-of-number}
 use Rattle.slots.specs.View.{slotItem, cells, Canon}
-use Rattle.slots.specs.Parts.{codeLength}
+use Rattle.slots.specs.Parts.{Suffice, Copied, Turned, codeLength}
 use Rattle.slots.proofs.Codes.{either, by-code, item-low, item-high}
 use Rattle.slots.proofs.Laws.{length-tops}
 use Rattle.stack.specs.View.{slotsOf, view, plain, Fit, Says, Steps}
 use Rattle.stack.specs.Parts.{without, Pops}
 use Rattle.stack.specs.declared.Stacks.{Stacks}
 use Rattle.stack.specs.declared.Refusal.{Refusal}
-use Rattle.stack.specs.declared.Refusal.the-variants.{MainDry, BadTag}
+use Rattle.stack.specs.declared.Refusal.the-variants.{MainDry, StacksFull, BadTag}
 use Rattle.stack.specs.declared.Count.the-variants as C
 use Rattle.stack.specs.declared.Count.{Count}
 use Rattle.stack.specs.declared.Stepped.{Stepped}
-use Rattle.stack.proofs.Mains.{refusing, refuses, steps, without-fit, drop-dry, drop-is}
+use Rattle.stack.proofs.Mains.{refusing, refuses, stepped, steps, without-fit, drop-dry, drop-is, copy-dry, copy-full, copy-codes, copy-done, rotate-dry, rotate-codes, rotate-done}
 use Rattle.stack.proofs.Pops.{pop-dry, pop-is, had-one, on-at, on-refused}
 
 -- PICK
@@ -36,7 +37,7 @@ module _ (s : Stacks) (f : Fit s) (c : Count) (k : Pops s c) (limit : ℕ) where
   picks : ℕ → S.Outcome Item
   picks l = popIndex marking (view s) (λ n t. copyItems l (n + 1) 1 t)
 
-  pub pick-at : (n : ℕ) → c ≡ C.At n → (r : Stepped) → Says r (copyItems limit (n + 1) 1 (view (without s 1))) → Steps r limit PICK (view s)
+  pick-at : (n : ℕ) → c ≡ C.At n → (r : Stepped) → Says r (copyItems limit (n + 1) 1 (view (without s 1))) → Steps r limit PICK (view s)
   unfolding step picks
   pick-at n e r v = steps (on-at s c k (λ n t. copyItems limit (n + 1) 1 t) n e r v) (λ R i g. ap picks (sym g))
 
@@ -44,14 +45,40 @@ module _ (s : Stacks) (f : Fit s) (c : Count) (k : Pops s c) (limit : ℕ) where
   unfolding step picks
   pick-refused x e = steps (on-refused s c k (λ n t. copyItems limit (n + 1) 1 t) f x e) (λ R i g. ap picks (sym g))
 
+  module _ (n : ℕ) (e : c ≡ C.At n) where
+    pub pick-dry : s .mains - 1 < n + 1 → Steps (refusing (without s 1) (MainDry (n + 1) (s .mains - 1))) limit PICK (view s)
+    pick-dry h = pick-at n e _ (copy-dry (without s 1) (without-fit s f 1) limit (n + 1) 1 h)
+
+    module _ (h : n + 1 ≤ s .mains - 1) where
+      pub pick-full : limit < s .mains - 1 + s .alts + 1 → Steps (refusing (without s 1) (StacksFull (s .mains - 1 + s .alts + 1) limit)) limit PICK (view s)
+      pick-full g = pick-at n e _ (copy-full (without s 1) (without-fit s f 1) limit (n + 1) 1 h g)
+
+      module _ (g : s .mains - 1 + s .alts + 1 ≤ limit) (t : limit ≤ 244) (d : List ℕ) (v : Copied (s .codes) (s .mains - 1 - (n + 1)) (s .mains - 1) 1 d) where
+        pub pick-codes : Suffice d (s .mains - 1) 1 → Steps (stepped (s .bytes) d (s .mains - 1 + 1) (s .alts)) limit PICK (view s)
+        pick-codes w = pick-at n e _ (copy-codes (without s 1) (without-fit s f 1) limit (n + 1) 1 h (omega arith) g t d v w)
+
+        pub pick-done : (y : List ℕ) → Copied (s .bytes) (s .mains - 1 - (n + 1)) (s .mains - 1) 1 y → Steps (stepped y d (s .mains - 1 + 1) (s .alts)) limit PICK (view s)
+        pick-done y w = pick-at n e _ (copy-done (without s 1) (without-fit s f 1) limit (n + 1) 1 h (omega arith) g t d v y w)
+
 -- ROLL
 
 module _ (s : Stacks) (f : Fit s) (c : Count) (k : Pops s c) where
-  pub roll-at : (n : ℕ) → c ≡ C.At n → (r : Stepped) → Says r (rotateItems (n + 1) 1 (view (without s 1))) → Says r (popIndex marking (view s) (λ n t. rotateItems (n + 1) 1 t))
+  roll-at : (n : ℕ) → c ≡ C.At n → (r : Stepped) → Says r (rotateItems (n + 1) 1 (view (without s 1))) → Says r (popIndex marking (view s) (λ n t. rotateItems (n + 1) 1 t))
   roll-at = on-at s c k (λ n t. rotateItems (n + 1) 1 t)
 
   pub roll-refused : (x : Refusal) → c ≡ C.Refused x → Says (refusing s x) (popIndex marking (view s) (λ n t. rotateItems (n + 1) 1 t))
   roll-refused = on-refused s c k (λ n t. rotateItems (n + 1) 1 t) f
+
+  module _ (n : ℕ) (e : c ≡ C.At n) where
+    pub roll-dry : s .mains - 1 < n + 1 → Says (refusing (without s 1) (MainDry (n + 1) (s .mains - 1))) (popIndex marking (view s) (λ n t. rotateItems (n + 1) 1 t))
+    roll-dry h = roll-at n e _ (rotate-dry (without s 1) (without-fit s f 1) (n + 1) 1 h)
+
+    module _ (h : n + 1 ≤ s .mains - 1) (d : List ℕ) (v : Turned (s .codes) (s .mains - 1 - (n + 1)) (n + 1 - 1) 1 d) where
+      pub roll-codes : Suffice d (s .mains - 1 - (n + 1)) (n + 1) → Says (stepped (s .bytes) d (s .mains - 1) (s .alts)) (popIndex marking (view s) (λ n t. rotateItems (n + 1) 1 t))
+      roll-codes w = roll-at n e _ (rotate-codes (without s 1) (without-fit s f 1) (n + 1) 1 h (omega arith) d v w)
+
+      pub roll-done : (y : List ℕ) → Turned (s .bytes) (s .mains - 1 - (n + 1)) (n + 1 - 1) 1 y → Says (stepped y d (s .mains - 1) (s .alts)) (popIndex marking (view s) (λ n t. rotateItems (n + 1) 1 t))
+      roll-done y w = roll-at n e _ (rotate-done (without s 1) (without-fit s f 1) (n + 1) 1 h (omega arith) d v y w)
 
 -- DEPTH and SIZE
 

@@ -18,6 +18,7 @@ use slots::all_suffice;
 use slots::clear_slots;
 use slots::code_length;
 use slots::code_of;
+use slots::common_codes;
 use slots::copy_bytes;
 use slots::copy_codes;
 use slots::join_codes;
@@ -527,8 +528,21 @@ impl Stacks {
             };
         }
         let codes = self.codes;
-        let bytes = self.bytes;
         let codes1 = other.codes;
+        let low = common_codes(codes, codes1, 0, m as usize);
+        let all = common_codes(low, codes1, (244 - a) as usize, 244);
+        let suffice = all_suffice(all, 0, m as usize);
+        let suffice1 = all_suffice(all, (244 - a) as usize, a as usize);
+        if suffice {
+            if suffice1 {
+                self.codes = all;
+                return Stepped {
+                    stacks: self,
+                    answer: Answer::Done,
+                };
+            }
+        }
+        let bytes = self.bytes;
         let bytes1 = other.bytes;
         let main = join_codes(codes, bytes, codes1, bytes1, 0, m as usize);
         let both = join_codes(main, bytes, codes1, bytes1, (244 - a) as usize, 244);
@@ -584,14 +598,56 @@ impl Stacks {
     {
         let count = self.top_count();
         match count {
-            Count::At(n) => {
-                self.mains = self.mains - 1;
-                self.extend_from_within(n + 1, 1, limit)
+            Count::Refused(refusal) => {
+                return Stepped {
+                    stacks: self,
+                    answer: Answer::Refused(refusal),
+                };
             }
-            Count::Refused(refusal) => Stepped {
-                stacks: self,
-                answer: Answer::Refused(refusal),
-            },
+            Count::At(n) => {
+                let depth = n + 1;
+                let m = self.mains - 1;
+                let a = self.alts;
+                self.mains = m;
+                if (m as u64) < depth {
+                    return Stepped {
+                        stacks: self,
+                        answer: Answer::Refused(Refusal::MainDry {
+                            needed: depth,
+                            had: m,
+                        }),
+                    };
+                }
+                if limit < m + a + 1 {
+                    return Stepped {
+                        stacks: self,
+                        answer: Answer::Refused(Refusal::StacksFull {
+                            wanted: m + a + 1,
+                            limit: limit,
+                        }),
+                    };
+                }
+                let i = m as usize;
+                let from = i - depth as usize;
+                self.mains = m + 1;
+                let codes = self.codes;
+                let moved = copy_codes(codes, from, i, 1);
+                let suffice = all_suffice(moved, i, 1);
+                self.codes = moved;
+                if suffice {
+                    return Stepped {
+                        stacks: self,
+                        answer: Answer::Done,
+                    };
+                }
+                let bytes = self.bytes;
+                let moved_bytes = copy_bytes(bytes, from, i, 1);
+                self.bytes = moved_bytes;
+                return Stepped {
+                    stacks: self,
+                    answer: Answer::Done,
+                };
+            }
         }
     }
 
@@ -601,14 +657,45 @@ impl Stacks {
     {
         let count = self.top_count();
         match count {
-            Count::At(n) => {
-                self.mains = self.mains - 1;
-                self.rotate_left(n + 1, 1)
+            Count::Refused(refusal) => {
+                return Stepped {
+                    stacks: self,
+                    answer: Answer::Refused(refusal),
+                };
             }
-            Count::Refused(refusal) => Stepped {
-                stacks: self,
-                answer: Answer::Refused(refusal),
-            },
+            Count::At(n) => {
+                let count = n + 1;
+                let m = self.mains - 1;
+                self.mains = m;
+                if (m as u64) < count {
+                    return Stepped {
+                        stacks: self,
+                        answer: Answer::Refused(Refusal::MainDry {
+                            needed: count,
+                            had: m,
+                        }),
+                    };
+                }
+                let k = count as usize;
+                let b = m as usize - k;
+                let codes = self.codes;
+                let turned = rotate_codes(codes, b, 1, k - 1);
+                let suffice = all_suffice(turned, b, k);
+                self.codes = turned;
+                if suffice {
+                    return Stepped {
+                        stacks: self,
+                        answer: Answer::Done,
+                    };
+                }
+                let bytes = self.bytes;
+                let turned_bytes = rotate_bytes(bytes, b, 1, k - 1);
+                self.bytes = turned_bytes;
+                return Stepped {
+                    stacks: self,
+                    answer: Answer::Done,
+                };
+            }
         }
     }
 

@@ -24,7 +24,7 @@ use Rattle.walk.proofs.Goings.{stays, goes-on, among}
 
 -- the second arm starts where the first did, and stands behind what the first has walked
 abbrev pub second : Walk → Walk → Walk
-second v a = record { stacks = v .stacks; live = v .live; at = a .at; last = a .last; rows = a .rows; peak = a .peak; stop = Running }
+second v a = record { stacks = v .stacks; live = v .live; at = a .at; last = a .last; rows = a .rows; peak = a .peak; stop = v .stop }
 
 rows-there : (s : Bytes) {w v : Walk} → SamePlace w v → rowsIn s v ≡ rowsIn s w
 rows-there s {w} {v} p = rw (p .at, p .rows)
@@ -74,7 +74,7 @@ module _ {R : Rules} {s : Bytes} where
 
       module _ (else : a .stop ≡ Else) {b : Walk} {log₂ : List ℕ} (other : Walks R s (depth + 1) (second v a) log₁ b log₂) where
         in-second : (fs : List Frame) → Open depth fs → resume R s w fs log ≡ resume R s b (frame (arm v) (ended (arm a)) ∷ fs) log₂
-        in-second fs o = in-first fs o ∙ rw else (other .goes .same (frame (arm v) (ended (arm a)) ∷ fs) (omega arith))
+        in-second fs o = in-first fs o ∙ rw else (ap (λ (x : Stop). resumeBy R s x (second v a) (frame (arm v) (ended (arm a)) ∷ fs) log₁) (sym run) ∙ other .goes .same (frame (arm v) (ended (arm a)) ∷ fs) (omega arith))
 
         pub two-arms : {f : Walk} → Finishes R s b (arm a) f → Closes R s depth w log f log₂
         two-arms {f} h = record {
@@ -87,33 +87,6 @@ module _ {R : Rules} {s : Bytes} where
           };
           closed = h .closed;
         }
-
--- The loop of the arm walker.
-
--- a walk that stands at a conditional has one step more to go
-abbrev pub ifMore : Stop → ℕ
-ifMore Conditional = 1
-ifMore Running = 0
-ifMore End = 0
-ifMore Else = 0
-ifMore Endif = 0
-ifMore (Refused r) = 0
-
-abbrev NotRunning : Stop → Type 0
-NotRunning Running = ⊥
-NotRunning Conditional = Unit {0}
-NotRunning End = Unit {0}
-NotRunning Else = Unit {0}
-NotRunning Endif = Unit {0}
-NotRunning (Refused r) = Unit {0}
-
-not-running : (from to : ℕ) (x : Stop) → Stopped from to x → NotRunning x
-not-running from to Running h = h
-not-running from to Conditional h = tt
-not-running from to End h = tt
-not-running from to Else h = tt
-not-running from to Endif h = tt
-not-running from to (Refused r) h = tt
 
 -- what a match tells of a stop that is none of the named ones
 pub closed-running : (z : Stop) → Closed z → OneOf (0 ∷ 1 ∷ 2 ∷ 3 ∷ 4 ∷ []) (tagOf the-type z) → z ≡ Running
@@ -132,71 +105,65 @@ not-else End k = tt
 not-else Endif k = tt
 not-else (Refused r) k = tt
 
--- v is where the first part of the arm stopped
+stopped-ended : (from to : ℕ) (z : Stop) → Stopped from to z → OneOf (0 ∷ 1 ∷ 3 ∷ 4 ∷ 5 ∷ []) (tagOf the-type z) → Ended z
+stopped-ended from to Running h k = h
+stopped-ended from to Conditional h k = absurd (⊎-elim (λ e. omega arith) (⊎-elim (λ e. omega arith) (⊎-elim (λ e. omega arith) (⊎-elim (λ e. omega arith) (λ e. omega arith)))) k)
+stopped-ended from to End h k = tt
+stopped-ended from to Else h k = tt
+stopped-ended from to Endif h k = tt
+stopped-ended from to (Refused r) h k = tt
+
+-- An arm is walked up to its first conditional, and then on from there.
+
+module _ {s : Bytes} {depth : ℕ} {u v : Walk} {l m : List ℕ} (r : Runs builtIn s u l v m) where
+  -- it has none
+  pub walks-plain : OneOf (0 ∷ 1 ∷ 3 ∷ 4 ∷ 5 ∷ []) (tagOf the-type (v .stop)) → Walks builtIn s depth u l v m
+  walks-plain k = record { goes = among (r .goes); ended = stopped-ended (u .at) (v .at) (v .stop) (r .stopped) k }
+
+  pub walks-on : {w : Walk} {n : List ℕ} → Walks builtIn s depth v m w n → Walks builtIn s depth u l w n
+  walks-on k = record { goes = goes-on (among (r .goes)) (k .goes); ended = k .ended }
+
+-- a conditional that was met lies behind the start
+pub met-later : {s : Bytes} {u v : Walk} {l m : List ℕ} → Runs builtIn s u l v m → v .stop ≡ Conditional → u .at < v .at
+met-later r e = rw e at (r .stopped)
+
+-- The loop of the arm walker, which stands at a conditional in each turn.
+
 pub record Arming (s : Bytes) (depth : ℕ) (v : Walk) (before : List ℕ) (w : Walk) (now : List ℕ) : Type 0 where
   pub goes : Goes builtIn s (Open depth) v before w now
   pub len : length now ≡ length before
-  pub stopped : NotRunning (w .stop)
-  pub first : w .stop ≡ Conditional → v .stop ≡ Conditional
+  pub stands : w .stop ≡ Conditional
 
-module _ {s : Bytes} {depth : ℕ} {u v : Walk} {l m : List ℕ} (r : Runs builtIn s u l v m) where
-  pub arming-none : Arming s depth v m v m
-  arming-none = record { goes = stays (r .goes .fit) (r .goes .high); len = refl; stopped = not-running (u .at) (v .at) (v .stop) (r .stopped); first = λ e. e }
+pub arming-none : {s : Bytes} {depth : ℕ} {v : Walk} {l : List ℕ} → Ready s l v → v .stop ≡ Conditional → Arming s depth v l v l
+arming-none r e = record { goes = stays (r .fit) (r .high); len = refl; stands = e }
 
-  module _ {w : Walk} {n : List ℕ} (a : Arming s depth v m w n) where
-    so-far : Goes builtIn s (Open depth) u l w n
-    so-far = goes-on (among (r .goes)) (a .goes)
+module _ {s : Bytes} {depth : ℕ} {v w : Walk} {l n : List ℕ} (a : Arming s depth v l w n) where
+  pub falls-in : 2 * (length s - w .at) + 1 < 2 * (length s - v .at) + 2
+  falls-in = omega (arith, a .goes .low)
 
-    -- it stands at the end of the arm
-    pub arm-ended : OneOf (0 ∷ 1 ∷ 3 ∷ 4 ∷ 5 ∷ []) (tagOf the-type (w .stop)) → Walks builtIn s depth u l w n
-    arm-ended k = record { goes = so-far; ended = by (w .stop) (a .stopped) k }
-      where
-        by : (x : Stop) → NotRunning x → OneOf (0 ∷ 1 ∷ 3 ∷ 4 ∷ 5 ∷ []) (tagOf the-type x) → Ended x
-        by Running h k = h
-        by Conditional h k = absurd (⊎-elim (λ e. omega arith) (⊎-elim (λ e. omega arith) (⊎-elim (λ e. omega arith) (⊎-elim (λ e. omega arith) (λ e. omega arith)))) k)
-        by End h k = tt
-        by Else h k = tt
-        by Endif h k = tt
-        by (Refused x) h k = tt
+  pub ready-in : Ready s l v → Ready s n w
+  ready-in k = ready-on k (a .goes) (a .len)
 
-    -- or at a conditional, which the next walker takes
-    past-first : w .stop ≡ Conditional → u .at < w .at
-    past-first e =
-        let f : u .at < v .at = rw (a .first e) at (r .stopped) in
-        omega (arith, a .goes .low)
+  module _ {x : Walk} {o : List ℕ} (c : Closes builtIn s depth w n x o) where
+    pub arm-refused : (y : Refusal) → x .stop ≡ Refused y → Walks builtIn s depth v l x o
+    arm-refused y e = record { goes = goes-on (a .goes) (c .goes); ended = rw e tt }
 
-    pub falls-in : w .stop ≡ Conditional → 2 * (length s - w .at) + 2 < 2 * (length s - u .at) + 1
-    falls-in e = omega (arith, past-first e, a .goes .high)
+    pub runs-on : OneOf (0 ∷ 1 ∷ 2 ∷ 3 ∷ 4 ∷ []) (tagOf the-type (x .stop)) → x .stop ≡ Running
+    runs-on k = closed-running (x .stop) (c .closed) k
 
-    pub ready-in : Ready s l u → length m ≡ length l → Ready s n w
-    ready-in k e = ready-on k so-far (a .len ∙ e)
+    pub ready-after : Ready s l v → length o ≡ length n → Ready s o x
+    ready-after k f = ready-on (ready-in k) (c .goes) f
 
-    module _ {x : Walk} {o : List ℕ} (c : Closes builtIn s depth w n x o) where
-      pub arm-refused : (y : Refusal) → x .stop ≡ Refused y → Walks builtIn s depth u l x o
-      arm-refused y e = record { goes = goes-on so-far (c .goes); ended = rw e tt }
+    module _ {y : Walk} {p : List ℕ} (q : Runs builtIn s x o y p) where
+      so-far : Goes builtIn s (Open depth) v l y p
+      so-far = goes-on (a .goes) (goes-on (c .goes) (among (q .goes)))
 
-      pub runs-on : OneOf (0 ∷ 1 ∷ 2 ∷ 3 ∷ 4 ∷ []) (tagOf the-type (x .stop)) → x .stop ≡ Running
-      runs-on k = closed-running (x .stop) (c .closed) k
+      -- it stands at the end of the arm, or at the next conditional
+      pub arm-ended : OneOf (0 ∷ 1 ∷ 3 ∷ 4 ∷ 5 ∷ []) (tagOf the-type (y .stop)) → Walks builtIn s depth v l y p
+      arm-ended k = record { goes = so-far; ended = stopped-ended (x .at) (y .at) (y .stop) (q .stopped) k }
 
-      pub ready-after : Ready s l u → length m ≡ length l → length o ≡ length n → Ready s o x
-      ready-after k e f = ready-on (ready-in k e) (c .goes) f
+      pub arm-again : y .stop ≡ Conditional → length o ≡ length n → length p ≡ length o → Arming s depth v l y p
+      arm-again e f g = record { goes = so-far; len = g ∙ f ∙ a .len; stands = e }
 
-      module _ {y : Walk} {p : List ℕ} (q : Runs builtIn s x o y p) where
-        pub arm-again : w .stop ≡ Conditional → length o ≡ length n → length p ≡ length o → Arming s depth v m y p
-        arm-again e f g = record {
-          goes = goes-on (a .goes) (goes-on (c .goes) (among (q .goes)));
-          len = g ∙ f ∙ a .len;
-          stopped = not-running (x .at) (y .at) (y .stop) (q .stopped);
-          first = λ h. a .first e;
-        }
-
-        pub arm-nearer : w .stop ≡ Conditional → 2 * (length s - y .at) + ifMore (y .stop) < 2 * (length s - w .at) + ifMore (w .stop)
-        arm-nearer e = rw e (by (y .stop) (q .stopped))
-          where
-            by : (z : Stop) → Stopped (x .at) (y .at) z → 2 * (length s - y .at) + ifMore z < 2 * (length s - w .at) + 1
-            by Running h = absurd h
-            by Conditional h = omega (arith, c .goes .low, q .goes .high)
-            by End h = omega (arith, c .goes .low, q .goes .low)
-            by Else h = omega (arith, c .goes .low, q .goes .low)
-            by Endif h = omega (arith, c .goes .low, q .goes .low)
-            by (Refused r) h = omega (arith, c .goes .low, q .goes .low)
+      pub arm-nearer : y .stop ≡ Conditional → length s - y .at < length s - w .at
+      arm-nearer e = omega (arith, met-later q e, c .goes .low, q .goes .high)

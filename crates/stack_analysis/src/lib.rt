@@ -86,9 +86,19 @@ fn enter(w: Walk, depth: u32) -> Walk
         };
     }
     let p = s.drop_items(1);
-    let t = p.stacks;
     let answer = p.answer;
-    let stop = stop_of(answer);
+    let t = p.stacks;
+    if let Answer::Refused(r) = answer {
+        return Walk {
+            stacks: t,
+            live: true,
+            at,
+            last,
+            rows,
+            peak,
+            stop: Stop::Refused(r),
+        };
+    }
     Walk {
         stacks: t,
         live: true,
@@ -96,7 +106,7 @@ fn enter(w: Walk, depth: u32) -> Walk
         last,
         rows,
         peak,
-        stop,
+        stop: Stop::Running,
     }
 }
 
@@ -193,25 +203,26 @@ fn finish(w: Walk, other: Stacks, alive: bool) -> Walk
     }
 }
 
-// Walks an arm, with depth conditionals open around it, to the end, or to the ELSE or ENDIF of the innermost.
+// Walks the rest of an arm from its conditional at whose IF or NOTIF start stands, with depth conditionals open around the
+// arm, to the end, or to the ELSE or ENDIF of the innermost.
 fn arm(code: &[u8], log: &mut [u16], start: Walk, depth: u32) -> Walk
-    requires { ⌜ (Ready (now code) (now log) start) × (start .stop ≡ Stop.Running) ⌝ }
+    requires { ⌜ (Ready (now code) (now log) start) × (start .stop ≡ Stop.Conditional) ⌝ }
     requires { ⌜ depth ≤ 24 ⌝ }
     ensures { λ r.
         ⌜ Walks builtIn (now (code .entry)) depth start (now (log .entry)) r (now (log .exit)) ⌝ }
 {
-    let mut w = walk::plain(code, log, start);
+    let mut w = start;
     loop {
-        let stop = w.stop;
-        let Stop::Conditional = stop else {
-            return w;
-        };
         let v = conditional(code, log, w, depth);
         let went = v.stop;
         if let Stop::Refused(_) = went {
             return v;
         }
         w = walk::plain(code, log, v);
+        let stop = w.stop;
+        let Stop::Conditional = stop else {
+            return w;
+        };
     }
 }
 
@@ -221,27 +232,31 @@ fn conditional(code: &[u8], log: &mut [u16], w: Walk, depth: u32) -> Walk
     requires { ⌜ depth ≤ 24 ⌝ }
     ensures { λ r. ⌜ Closes builtIn (now (code .entry)) depth w (now (log .entry)) r (now (log .exit)) ⌝ }
 {
-    let v = enter(w, depth);
+    let mut v = enter(w, depth);
     let opened = v.stop;
     if let Stop::Refused(_) = opened {
         return v;
     }
     let start = v.stacks;
     let live = v.live;
-    let first = arm(code, log, v, depth + 1);
+    let mut first = walk::plain(code, log, v);
+    let met = first.stop;
+    if let Stop::Conditional = met {
+        first = arm(code, log, first, depth + 1);
+    }
     let stop = first.stop;
     if let Stop::Else = stop {
         let s = first.stacks;
-        let second = Walk {
-            stacks: start,
-            live,
-            at: first.at,
-            last: first.last,
-            rows: first.rows,
-            peak: first.peak,
-            stop: Stop::Running,
-        };
-        let other = arm(code, log, second, depth + 1);
+        // the second arm starts from the same stacks
+        v.at = first.at;
+        v.last = first.last;
+        v.rows = first.rows;
+        v.peak = first.peak;
+        let mut other = walk::plain(code, log, v);
+        let met = other.stop;
+        if let Stop::Conditional = met {
+            other = arm(code, log, other, depth + 1);
+        }
         return finish(other, s, first.live);
     }
     finish(first, start, live)
@@ -435,7 +450,11 @@ fn walk_all(fragment: &[u8], main: u32, alt: u32, log: &mut [u16]) -> Verdict
         peak: main + alt,
         stop: Stop::Running,
     };
-    let w = arm(fragment, log, start, 0);
+    let mut w = walk::plain(fragment, log, start);
+    let met = w.stop;
+    if let Stop::Conditional = met {
+        w = arm(fragment, log, w, 0);
+    }
     conclude(w)
 }
 
