@@ -591,6 +591,8 @@ impl Stacks {
         count_of(slot_value(code, n))
     }
 
+    // PICK and ROLL judge everything before they write, and do not call the methods above, which judge again: a copy of both
+    // arrays would be kept across the call.
     pub fn pick(mut self, limit: u32) -> Stepped
         requires { ⌜ Fit self ⌝ }
         requires { ⌜ limit ≤ 244 ⌝ }
