@@ -10,8 +10,8 @@ use lib.ListN.{length, take, set, getD, replicate, length-append, replicate-appe
 use lib.Seq.{paste-zero, take-suc, take-all}
 use Rattle.definition.specs.Basics.{Bytes}
 use Rattle.definition.specs.Lines.{text, decimal, labelled}
-use Rattle.lines.specs.View.{Written}
-use Rattle.lines.proofs.Texts.{written-as, then-written, byte-written, decimal-one, decimal-more}
+use Rattle.text.specs.View.{Written}
+use Rattle.text.proofs.Texts.{written-as, then-written, byte-written, decimal-one, decimal-more}
 use Rattle.definition.specs.Papers.{entryCount, display}
 use Rattle.header.specs.View.{fragmentAt}
 use Rattle.stack_analysis.specs.declared.Verdict.{Verdict}

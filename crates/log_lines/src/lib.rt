@@ -5,7 +5,7 @@ ghost use mathlib.Core.Path.{_≡_};
 ghost use Prim.Native.Nat.{_+_, _-_, _*_, _≤_, _<_};
 ghost use lib.ListN.{length, take, replicate};
 ghost use Rattle.definition.specs.Lines.{decimal};
-ghost use Rattle.lines.specs.View.{Written};
+ghost use Rattle.text.specs.View.{Written};
 ghost use Rattle.log_lines.specs.Log.{column, filled, bar, hexDigit, hex, instruction, deadHeights, liveHeights, heights};
 ghost use Rattle.log_lines.specs.Log.{rowLine, row, startLine, start, ending, acceptedLine};
 ghost use Rattle.log_lines.specs.Log.{refusal, refusalLine, malformedLine, dispatchLine, verdictLine};
@@ -58,7 +58,7 @@ fn write_column(out: &mut [u8], at: usize, width: usize, n: u64) -> usize
     let size = digits(n);
     let gap = left_of(width, size);
     let next = write_same(out, at, b' ', gap);
-    lines::write_number(out, next, n)
+    text::write_number(out, next, n)
 }
 
 // How many places of a bar are filled.
@@ -138,7 +138,7 @@ fn write_instruction(out: &mut [u8], at: usize, bytes: &[u8]) -> usize
 {
     if bytes.len() > 8 {
         let next = write_hex(out, at, bytes, 8);
-        return lines::write_word(out, next, b" ..");
+        return text::write_word(out, next, b" ..");
     }
     write_hex(out, at, bytes, bytes.len())
 }
@@ -149,9 +149,9 @@ fn write_dead(out: &mut [u8], at: usize) -> usize
     ensures same { λ r. ⌜ Written (now (out .entry)) at deadHeights (now (out .exit)) r ⌝ }
     ensures short { λ r. ⌜ r ≤ at + 125 ⌝ }
 {
-    let a = lines::write_word(out, at, b"  dead  dead  |");
+    let a = text::write_word(out, at, b"  dead  dead  |");
     let b = write_same(out, a, b' ', 61);
-    lines::write_word(out, b, b"|     ")
+    text::write_word(out, b, b"|     ")
 }
 
 // Main height, alt height, the bar of the total, and the total.
@@ -163,9 +163,9 @@ fn write_live(out: &mut [u8], at: usize, main: u32, alt: u32) -> usize
     let total = main + alt;
     let a = write_column(out, at, 6, main as u64);
     let b = write_column(out, a, 6, alt as u64);
-    let c = lines::write_word(out, b, b"  |");
+    let c = text::write_word(out, b, b"  |");
     let d = write_bar(out, c, total);
-    let e = lines::write_word(out, d, b"|");
+    let e = text::write_word(out, d, b"|");
     write_column(out, e, 5, total as u64)
 }
 
@@ -190,9 +190,9 @@ fn write_row_line(out: &mut [u8], offset: u32, main: u32, alt: u32, bytes: &[u8]
 {
     let a = write_column(out, 0, 9, offset as u64);
     let b = write_heights(out, a, main, alt);
-    let c = lines::write_word(out, b, b" ");
+    let c = text::write_word(out, b, b" ");
     let d = write_instruction(out, c, bytes);
-    lines::write_word(out, d, b"\n")
+    text::write_word(out, d, b"\n")
 }
 
 fn wide(x: u16) -> u32
@@ -225,10 +225,10 @@ fn write_start(out: &mut [u8], entries: usize, k: usize, size: usize, main: u32,
     ensures short { λ r. ⌜ r ≤ 256 ⌝ }
 {
     let a = lines::write_name(out, 0, entries, k);
-    let b = lines::write_labelled(out, a, b": length ", size as u64);
-    let c = lines::write_labelled(out, b, b", from main ", main as u64);
-    let d = lines::write_labelled(out, c, b" alt ", alt as u64);
-    lines::write_word(out, d, b"\n")
+    let b = text::write_labelled(out, a, b": length ", size as u64);
+    let c = text::write_labelled(out, b, b", from main ", main as u64);
+    let d = text::write_labelled(out, c, b" alt ", alt as u64);
+    text::write_word(out, d, b"\n")
 }
 
 // That of fragment k of a paper.
@@ -251,10 +251,10 @@ fn write_ending(out: &mut [u8], at: usize, ended: bool, main: u32, alt: u32) -> 
     ensures short { λ r. ⌜ r ≤ at + 60 ⌝ }
 {
     if ended {
-        let next = lines::write_labelled(out, at, b", end main ", main as u64);
-        return lines::write_labelled(out, next, b" alt ", alt as u64);
+        let next = text::write_labelled(out, at, b", end main ", main as u64);
+        return text::write_labelled(out, next, b" alt ", alt as u64);
     }
-    lines::write_word(out, at, b", end none")
+    text::write_word(out, at, b", end none")
 }
 
 // The line after the rows of an accepted fragment.
@@ -264,9 +264,9 @@ fn write_accepted(out: &mut [u8], peak: u32, ended: bool, main: u32, alt: u32) -
         ⌜ Written (now (out .entry)) 0 (acceptedLine peak ended main alt) (now (out .exit)) r ⌝ }
     ensures short { λ r. ⌜ r ≤ 256 ⌝ }
 {
-    let a = lines::write_labelled(out, 0, b"accepted: peak ", peak as u64);
+    let a = text::write_labelled(out, 0, b"accepted: peak ", peak as u64);
     let b = write_ending(out, a, ended, main, alt);
-    lines::write_word(out, b, b"\n")
+    text::write_word(out, b, b"\n")
 }
 
 // Number and word.
@@ -275,8 +275,8 @@ fn write_refusal(out: &mut [u8], at: usize, number: u32, first: u64, second: u64
     ensures same { λ r. ⌜ Written (now (out .entry)) at (refusal number first second) (now (out .exit)) r ⌝ }
     ensures short { λ r. ⌜ r ≤ at + 120 ⌝ }
 {
-    let a = lines::write_labelled(out, at, b"refused ", number as u64);
-    let b = lines::write_word(out, a, b", ");
+    let a = text::write_labelled(out, at, b"refused ", number as u64);
+    let b = text::write_word(out, a, b", ");
     reasons::write_reason(out, b, number, first, second)
 }
 
@@ -300,9 +300,9 @@ pub fn write_refusal_line(
         ⌝ }
     ensures short { λ r. ⌜ r ≤ 256 ⌝ }
 {
-    let a = lines::write_word(out, 0, lead);
+    let a = text::write_word(out, 0, lead);
     let b = write_refusal(out, a, number, first, second);
-    lines::write_word(out, b, b"\n")
+    text::write_word(out, b, b"\n")
 }
 
 // The line of a malformed fragment.
@@ -313,10 +313,10 @@ fn write_malformed(out: &mut [u8], offset: usize, bytes: &[u8]) -> usize
     ensures short { λ r. ⌜ r ≤ 256 ⌝ }
 {
     let a = write_refusal(out, 0, 3, 0, 0);
-    let b = lines::write_labelled(out, a, b" at ", offset as u64);
-    let c = lines::write_word(out, b, b":");
+    let b = text::write_labelled(out, a, b" at ", offset as u64);
+    let c = text::write_word(out, b, b":");
     let d = write_instruction(out, c, bytes);
-    lines::write_word(out, d, b"\n")
+    text::write_word(out, d, b"\n")
 }
 
 // The line of the dispatch check.
@@ -325,10 +325,10 @@ pub fn write_dispatch(out: &mut [u8], k: usize, sum: u32) -> usize
     ensures same { λ r. ⌜ Written (now (out .entry)) 0 (dispatchLine k sum) (now (out .exit)) r ⌝ }
     ensures short { λ r. ⌜ r ≤ 256 ⌝ }
 {
-    let a = lines::write_labelled(out, 0, b"entry ", k as u64);
-    let b = lines::write_word(out, a, b": ");
+    let a = text::write_labelled(out, 0, b"entry ", k as u64);
+    let b = text::write_word(out, a, b": ");
     let c = write_refusal(out, b, 20, sum as u64, 244);
-    lines::write_word(out, c, b"\n")
+    text::write_word(out, c, b"\n")
 }
 
 // The line after the rows of a fragment: 1 to 4 come before any row.

@@ -4,7 +4,7 @@ use mathlib.Core.Path.{_≡_}
 use Prim.Native.Nat.{_+_}
 use lib.ListN.{length}
 use Rattle.definition.specs.Lines.{decimal}
-use Rattle.lines.proofs.Texts.{decimal-20}
+use Rattle.text.proofs.Texts.{decimal-20}
 use Rattle.log_lines.proofs.Texts.{digits-one, digits-more}
 use Rattle.log_lines.proofs.digits.Statement.{statement}
 use Rattle.log_lines.proofs.digits.Tie as tie

@@ -1,6 +1,6 @@
 use borrow.Author.Needs.{needs}
 use native.Mathlib.Omega.{arith}
-use Rattle.lines.proofs.Texts.{byte-written}
+use Rattle.text.proofs.Texts.{byte-written}
 use Rattle.log_lines.proofs.write_byte.Statement.{statement}
 use Rattle.log_lines.proofs.write_byte.Tie as tie
 

@@ -3,7 +3,7 @@ use native.Mathlib.Omega.{arith}
 use mathlib.Core.Path.{_≡_}
 use Prim.Native.Nat.{_+_, _*_, _-_, _≤_}
 use lib.ListN.{length, take}
-use Rattle.lines.specs.View.{Written}
+use Rattle.text.specs.View.{Written}
 use Rattle.log_lines.specs.Log.{hex}
 use Rattle.log_lines.proofs.Texts.{hex-none, hex-more, hex-written}
 use Rattle.log_lines.proofs.write_hex.Statement.{statement}

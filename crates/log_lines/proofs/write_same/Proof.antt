@@ -3,7 +3,7 @@ use native.Mathlib.Omega.{arith}
 use mathlib.Core.Path.{_≡_}
 use Prim.Native.Nat.{_+_, _-_, _≤_}
 use lib.ListN.{length, replicate, length-set}
-use Rattle.lines.specs.View.{Written}
+use Rattle.text.specs.View.{Written}
 use Rattle.log_lines.proofs.Texts.{same-none, same-more, same-written}
 use Rattle.log_lines.proofs.write_same.Statement.{statement}
 use Rattle.log_lines.proofs.write_same.Tie as tie

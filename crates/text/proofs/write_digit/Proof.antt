@@ -1,7 +1,7 @@
-use Rattle.lines.proofs.Texts.{byte-written}
+use Rattle.text.proofs.Texts.{byte-written}
 use borrow.Author.Needs.{needs}
-use Rattle.lines.proofs.write_digit.Statement.{statement}
-use Rattle.lines.proofs.write_digit.Tie as tie
+use Rattle.text.proofs.write_digit.Statement.{statement}
+use Rattle.text.proofs.write_digit.Tie as tie
 
 cast-out : tie.Need-cast-out
 cast-out c = search needs

@@ -1,15 +1,15 @@
-use Rattle.lines.proofs.Texts.{room-one, room-more, number-one, number-more}
+use Rattle.text.proofs.Texts.{room-one, room-more, number-one, number-more}
 use borrow.Author.Needs.{needs}
 use native.Mathlib.Omega.{arith}
 use Prim.Native.Nat.{ℕ, _<_}
 use borrow.Fn.Kinds.{In}
 use borrow.Fn.PlainCycle.{Measures, is, falls, and}
-use Rattle.lines.proofs.write_number.Reads as write-number
-use Rattle.lines.proofs.write_number.Kinds as write-number-kinds
-use Rattle.lines.proofs.+write_number.Lts-write_number as write-number-lts
-use Rattle.lines.proofs.write_digit.Reads as write-digit-reads
-use Rattle.lines.proofs.+write_number.{statement}
-use Rattle.lines.proofs.+write_number.Tie.{close}
+use Rattle.text.proofs.write_number.Reads as write-number
+use Rattle.text.proofs.write_number.Kinds as write-number-kinds
+use Rattle.text.proofs.+write_number.Lts-write_number as write-number-lts
+use Rattle.text.proofs.write_digit.Reads as write-digit-reads
+use Rattle.text.proofs.+write_number.{statement}
+use Rattle.text.proofs.+write_number.Tie.{close}
 
 abbrev μ-write-number : Measures 1 write-number-kinds.ps ℕ
 μ-write-number κs a = a .1 .1 .0

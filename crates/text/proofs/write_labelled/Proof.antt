@@ -1,8 +1,8 @@
-use Rattle.lines.proofs.Texts.{then-written, decimal-20}
+use Rattle.text.proofs.Texts.{then-written, decimal-20}
 use native.Mathlib.Omega.{arith}
 use borrow.Author.Needs.{needs}
-use Rattle.lines.proofs.write_labelled.Statement.{statement}
-use Rattle.lines.proofs.write_labelled.Tie as tie
+use Rattle.text.proofs.write_labelled.Statement.{statement}
+use Rattle.text.proofs.write_labelled.Tie as tie
 
 write-word-requires : tie.Need-write-word-requires
 write-word-requires c κs = search needs

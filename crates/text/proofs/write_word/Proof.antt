@@ -2,11 +2,11 @@ use mathlib.Core.Path.{_≡_}
 use Prim.Native.Nat.{_-_, _≤_}
 use lib.ListN.{length, length-set}
 use lib.Seq.{paste, paste-zero}
-use Rattle.lines.proofs.Texts.{word-more, word-written}
+use Rattle.text.proofs.Texts.{word-more, word-written}
 use borrow.Author.Needs.{needs}
 use native.Mathlib.Omega.{arith}
-use Rattle.lines.proofs.write_word.Statement.{statement}
-use Rattle.lines.proofs.write_word.Tie as tie
+use Rattle.text.proofs.write_word.Statement.{statement}
+use Rattle.text.proofs.write_word.Tie as tie
 
 abbrev Inv-loop : tie.InvT-loop
 Inv-loop out₀ at word j₀ out j = ((out ≡ paste out₀ at word j) × (length out ≡ length out₀)) × (j ≤ length word)
