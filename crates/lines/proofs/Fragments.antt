@@ -20,8 +20,9 @@ use Rattle.stack_analysis.specs.declared.Verdict.{Verdict}
 use Rattle.paper.specs.View.{fragmentMarked, Marks, paperOf}
 use Rattle.paper.specs.declared.PaperVerdict.{PaperVerdict}
 use Rattle.paper.proofs.Markings.{Marking, Answers, marking-none, marking-more, marking-stops, marking-end, onto, told}
-use Rattle.lines.specs.View.{Written, endText, lineText, Prints}
-use Rattle.lines.proofs.Texts.{then-written}
+use Rattle.text.specs.View.{Written}
+use Rattle.lines.specs.View.{endText, lineText, Prints}
+use Rattle.text.proofs.Texts.{then-written}
 
 -- The parts of a line
 

@@ -1,4 +1,3 @@
--- What is proved of texts and lines for this crate's functions.
-pub mod Texts
+-- What is proved of lines for this crate's functions.
 pub mod Fragments
 pub mod Papers

@@ -17,7 +17,8 @@ use Rattle.header.specs.View.{dispatched}
 use Rattle.header.specs.declared.Dispatch.{Dispatch}
 use Rattle.header.specs.declared.Dispatch.the-variants.{Fits, Over}
 use Rattle.header.proofs.Fragments.{count-without, count-with}
-use Rattle.lines.specs.View.{Written, Prints, linesIn, Within}
+use Rattle.text.specs.View.{Written}
+use Rattle.lines.specs.View.{Prints, linesIn, Within}
 use Rattle.lines.specs.declared.Lines.{Lines}
 
 -- How many fragments

@@ -1,22 +1,14 @@
--- What a text written into lent bytes is, and the parts of a line by the numbers that the code holds.
+-- The parts of a line by the numbers that the code holds, and the struct that holds the lines.
 use mathlib.Core.Bool.{Bool, true, false}
 use mathlib.Core.List.{List, _++_}
 use mathlib.Core.Path.{_≡_}
-use Prim.Native.Nat.{ℕ, _+_, _-_, _≤_}
-use lib.ListN.{length, take, drop, replicate}
+use Prim.Native.Nat.{ℕ, _-_, _≤_}
+use lib.ListN.{length, take, replicate}
 use Rattle.definition.specs.Basics.{Bytes}
 use Rattle.definition.specs.Lines.{text, labelled, name, linesOf}
 use Rattle.definition.specs.Papers.{PaperMarked}
+use Rattle.text.specs.View.{Written}
 use Rattle.lines.specs.declared.Lines.{Lines}
-
--- the lent bytes with a text in place of those from `at` on
-abbrev pub placed : Bytes → ℕ → Bytes → Bytes
-placed lent at t = take at lent ++ t ++ drop (at + length t) lent
-
--- the text is written into the lent bytes from `at` on, the rest is as lent, and `next` is the index after it
-pub record Written (lent : Bytes) (at : ℕ) (t : Bytes) (new : Bytes) (next : ℕ) : Type 0 where
-  pub ends : next ≡ at + length t
-  pub holds : new ≡ placed lent at t
 
 -- how a fragment ends: whether it has an end, and its heights
 abbrev pub endText : Bool → ℕ → ℕ → Bytes

@@ -1,59 +1,15 @@
 // The lines that `stackmark` prints: document 01, section 6. A text is written into lent bytes from an index on; the answer
 // is the index after it.
-ghost use mathlib.Core.List.{[], _∷_, _++_};
 ghost use mathlib.Core.Path.{_≡_};
-ghost use Prim.Native.Nat.{_+_, _≤_, _<_};
+ghost use Prim.Native.Nat.{_+_, _≤_};
 ghost use lib.ListN.{length};
-ghost use Rattle.definition.specs.Lines.{text, decimal, name, refusedLine, printed};
+ghost use Rattle.definition.specs.Lines.{text, name, refusedLine, printed};
 ghost use Rattle.definition.specs.Papers.{entryCount, fragments, markFrom, markPaper};
 ghost use Rattle.definition.specs.Refusals.{answer};
 ghost use Rattle.definition.specs.Stacks.{builtIn};
-ghost use Rattle.lines.specs.View.{Written, endText, lineText, Prints, linesIn, Within};
+ghost use Rattle.text.specs.View.{Written};
+ghost use Rattle.lines.specs.View.{endText, lineText, Prints, linesIn, Within};
 use header::Dispatch;
-
-// A word, byte by byte.
-pub fn write_word(out: &mut [u8], at: usize, word: &[u8]) -> usize
-    requires { ⌜ at + length (now word) ≤ length (now out) ⌝ }
-    ensures { λ r. ⌜ Written (now (out .entry)) at (now (word .entry)) (now (out .exit)) r ⌝ }
-{
-    let mut j = 0;
-    while j < word.len() {
-        out[at + j] = word[j];
-        j += 1;
-    }
-    at + j
-}
-
-// A digit.
-fn write_digit(out: &mut [u8], at: usize, d: u64) -> usize
-    requires { ⌜ (at < length (now out)) × (d < 10) ⌝ }
-    ensures { λ r. ⌜ Written (now (out .entry)) at ((48 + d) ∷ []) (now (out .exit)) r ⌝ }
-{
-    out[at] = 48 + d as u8;
-    at + 1
-}
-
-// A number in decimal: all digits but the last, and the last.
-pub fn write_number(out: &mut [u8], at: usize, n: u64) -> usize
-    requires { ⌜ at + length (decimal n) ≤ length (now out) ⌝ }
-    ensures { λ r. ⌜ Written (now (out .entry)) at (decimal n) (now (out .exit)) r ⌝ }
-{
-    if n < 10 {
-        return write_digit(out, at, n);
-    }
-    let next = write_number(out, at, n / 10);
-    write_digit(out, next, n % 10)
-}
-
-// A word and the number behind it, of at most 20 digits.
-pub fn write_labelled(out: &mut [u8], at: usize, word: &[u8], n: u64) -> usize
-    requires { ⌜ at + length (now word) + 20 ≤ length (now out) ⌝ }
-    ensures same { λ r. ⌜ Written (now (out .entry)) at (now (word .entry) ++ decimal n) (now (out .exit)) r ⌝ }
-    ensures short { λ r. ⌜ r ≤ at + length (now (word .entry)) + 20 ⌝ }
-{
-    let next = write_word(out, at, word);
-    write_number(out, next, n)
-}
 
 // Fragment k of a paper with so many entries: `entry k`, or `state` at the initialiser.
 pub fn write_name(out: &mut [u8], at: usize, entries: usize, k: usize) -> usize
@@ -62,9 +18,9 @@ pub fn write_name(out: &mut [u8], at: usize, entries: usize, k: usize) -> usize
     ensures short { λ r. ⌜ r ≤ at + 26 ⌝ }
 {
     if k < entries {
-        return write_labelled(out, at, b"entry ", k as u64);
+        return text::write_labelled(out, at, b"entry ", k as u64);
     }
-    write_word(out, at, b"state")
+    text::write_word(out, at, b"state")
 }
 
 // How a fragment ends: `end M A`, or `end none`.
@@ -74,10 +30,10 @@ fn write_end(out: &mut [u8], at: usize, ended: bool, main: u32, alt: u32) -> usi
     ensures short { λ r. ⌜ r ≤ at + 46 ⌝ }
 {
     if ended {
-        let next = write_labelled(out, at, b" end ", main as u64);
-        return write_labelled(out, next, b" ", alt as u64);
+        let next = text::write_labelled(out, at, b" end ", main as u64);
+        return text::write_labelled(out, next, b" ", alt as u64);
     }
-    write_word(out, at, b" end none")
+    text::write_word(out, at, b" end none")
 }
 
 // The line of an accepted fragment, of at most 99 bytes.
@@ -104,9 +60,9 @@ fn write_line(
     ensures short { λ r. ⌜ r ≤ at + 100 ⌝ }
 {
     let named = write_name(out, at, entries, k);
-    let peaked = write_labelled(out, named, b" peak ", peak as u64);
+    let peaked = text::write_labelled(out, named, b" peak ", peak as u64);
     let next = write_end(out, peaked, ended, main, alt);
-    write_word(out, next, b"\n")
+    text::write_word(out, next, b"\n")
 }
 
 // The last line of a refused paper, of at most 116 bytes.
@@ -131,12 +87,12 @@ pub fn write_refused(
         ⌝ }
     ensures short { λ r. ⌜ r ≤ at + 120 ⌝ }
 {
-    let a = write_labelled(out, at, b"refused ", number as u64);
-    let b = write_labelled(out, a, b" at ", entry as u64);
-    let c = write_labelled(out, b, b" ", offset as u64);
-    let d = write_labelled(out, c, b" ", first);
-    let e = write_labelled(out, d, b" ", second);
-    write_word(out, e, b"\n")
+    let a = text::write_labelled(out, at, b"refused ", number as u64);
+    let b = text::write_labelled(out, a, b" at ", entry as u64);
+    let c = text::write_labelled(out, b, b" ", offset as u64);
+    let d = text::write_labelled(out, c, b" ", first);
+    let e = text::write_labelled(out, d, b" ", second);
+    text::write_word(out, e, b"\n")
 }
 
 // The last line of an accepted paper.
@@ -145,7 +101,7 @@ pub fn write_accepted(out: &mut [u8], at: usize) -> usize
     ensures same { λ r. ⌜ Written (now (out .entry)) at (text "accepted\n") (now (out .exit)) r ⌝ }
     ensures short { λ r. ⌜ r ≤ at + 9 ⌝ }
 {
-    write_word(out, at, b"accepted\n")
+    text::write_word(out, at, b"accepted\n")
 }
 
 // The lines of all fragments, each marked in its order with its rows in the log, and the last line. 33 lines of at most 100

@@ -1,221 +1,12 @@
-// The lines that `stacklog` prints, each written into lent bytes, and the function that does it says which line it is. A text
-// is written from an index on; the answer is the index after it.
-ghost use mathlib.Core.List.{[], _∷_, _++_};
-ghost use mathlib.Core.Path.{_≡_};
-ghost use Prim.Native.Nat.{_+_, _-_, _*_, _≤_, _<_};
-ghost use lib.ListN.{length, take, replicate};
-ghost use Rattle.definition.specs.Lines.{decimal};
-ghost use Rattle.lines.specs.View.{Written};
-ghost use Rattle.log_lines.specs.Log.{column, filled, bar, hexDigit, hex, instruction, deadHeights, liveHeights, heights};
-ghost use Rattle.log_lines.specs.Log.{rowLine, row, startLine, start, ending, acceptedLine};
+// The lines that `stacklog` prints around the rows, each written into lent bytes, and the function that does it says which
+// line it is. A text is written from an index on; the answer is the index after it. Each line is of at most 256 bytes, and is
+// written from the start on.
+ghost use Prim.Native.Nat.{_+_, _≤_};
+ghost use lib.ListN.{length};
+ghost use Rattle.text.specs.View.{Written};
+ghost use Rattle.log_lines.specs.Log.{startLine, start, ending, acceptedLine};
 ghost use Rattle.log_lines.specs.Log.{refusal, refusalLine, malformedLine, dispatchLine, verdictLine};
 use stack_analysis::Verdict;
-
-// A byte so many times.
-fn write_same(out: &mut [u8], at: usize, byte: u8, count: usize) -> usize
-    requires { ⌜ at + count ≤ length (now out) ⌝ }
-    ensures same { λ r. ⌜ Written (now (out .entry)) at (replicate count byte) (now (out .exit)) r ⌝ }
-    ensures ends { λ r. ⌜ r ≡ at + count ⌝ }
-{
-    let mut j = 0;
-    while j < count {
-        out[at + j] = byte;
-        j += 1;
-    }
-    at + j
-}
-
-// How many digits a number has in decimal.
-fn digits(n: u64) -> usize
-    ensures same { λ r. ⌜ r ≡ length (decimal n) ⌝ }
-    ensures short { λ r. ⌜ r ≤ 20 ⌝ }
-{
-    let mut left = n;
-    let mut count = 1;
-    while left >= 10 {
-        left /= 10;
-        count += 1;
-    }
-    count
-}
-
-// What is left of a width, none where it is exceeded.
-fn left_of(width: usize, size: usize) -> usize
-    ensures { λ r. ⌜ r ≡ width - size ⌝ }
-{
-    if width < size {
-        return 0;
-    }
-    width - size
-}
-
-// A number at the right of a column.
-fn write_column(out: &mut [u8], at: usize, width: usize, n: u64) -> usize
-    requires { ⌜ (at + 20 ≤ length (now out)) × (width ≤ 20) ⌝ }
-    ensures same { λ r. ⌜ Written (now (out .entry)) at (column width n) (now (out .exit)) r ⌝ }
-    ensures short { λ r. ⌜ r ≤ at + 20 ⌝ }
-{
-    let size = digits(n);
-    let gap = left_of(width, size);
-    let next = write_same(out, at, b' ', gap);
-    lines::write_number(out, next, n)
-}
-
-// How many places of a bar are filled.
-fn places(n: u32) -> usize
-    requires { ⌜ n ≤ 131070 ⌝ }
-    ensures { λ r. ⌜ r ≡ filled n ⌝ }
-{
-    let wanted = ((n + 3) / 4) as usize;
-    if wanted < 61 {
-        return wanted;
-    }
-    61
-}
-
-// The bar of a total, of 61 places.
-fn write_bar(out: &mut [u8], at: usize, n: u32) -> usize
-    requires { ⌜ (at + 61 ≤ length (now out)) × (n ≤ 131070) ⌝ }
-    ensures same { λ r. ⌜ Written (now (out .entry)) at (bar n) (now (out .exit)) r ⌝ }
-    ensures short { λ r. ⌜ r ≤ at + 61 ⌝ }
-{
-    let full = places(n);
-    let next = write_same(out, at, b'#', full);
-    write_same(out, next, b'.', 61 - full)
-}
-
-// One byte.
-fn write_byte(out: &mut [u8], at: usize, byte: u8) -> usize
-    requires { ⌜ at < length (now out) ⌝ }
-    ensures { λ r. ⌜ Written (now (out .entry)) at (byte ∷ []) (now (out .exit)) r ⌝ }
-{
-    out[at] = byte;
-    at + 1
-}
-
-// A hexadecimal digit.
-fn hex_digit(d: u8) -> u8
-    requires { ⌜ d < 16 ⌝ }
-    ensures { λ r. ⌜ r ≡ hexDigit d ⌝ }
-{
-    if d < 10 {
-        return 48 + d;
-    }
-    87 + d
-}
-
-// A blank and a byte in hexadecimal.
-fn write_hex_byte(out: &mut [u8], at: usize, byte: u8) -> usize
-    requires { ⌜ at + 3 ≤ length (now out) ⌝ }
-    ensures same { λ r. ⌜ Written (now (out .entry)) at (hex (byte ∷ [])) (now (out .exit)) r ⌝ }
-    ensures ends { λ r. ⌜ r ≡ at + 3 ⌝ }
-{
-    let first = write_byte(out, at, b' ');
-    let second = write_byte(out, first, hex_digit(byte / 16));
-    write_byte(out, second, hex_digit(byte % 16))
-}
-
-// The first so many bytes in hexadecimal.
-fn write_hex(out: &mut [u8], at: usize, bytes: &[u8], count: usize) -> usize
-    requires { ⌜ (at + 3 * count ≤ length (now out)) × (count ≤ length (now bytes)) ⌝ }
-    ensures same { λ r. ⌜ Written (now (out .entry)) at (hex (take count (now (bytes .entry)))) (now (out .exit)) r ⌝ }
-    ensures ends { λ r. ⌜ r ≡ at + 3 * count ⌝ }
-{
-    let mut next = at;
-    let mut j = 0;
-    while j < count {
-        next = write_hex_byte(out, next, bytes[j]);
-        j += 1;
-    }
-    next
-}
-
-// An instruction: at most 8 bytes of it.
-fn write_instruction(out: &mut [u8], at: usize, bytes: &[u8]) -> usize
-    requires { ⌜ at + 27 ≤ length (now out) ⌝ }
-    ensures same { λ r. ⌜ Written (now (out .entry)) at (instruction (now (bytes .entry))) (now (out .exit)) r ⌝ }
-    ensures short { λ r. ⌜ r ≤ at + 27 ⌝ }
-{
-    if bytes.len() > 8 {
-        let next = write_hex(out, at, bytes, 8);
-        return lines::write_word(out, next, b" ..");
-    }
-    write_hex(out, at, bytes, bytes.len())
-}
-
-// The heights of a dead arm.
-fn write_dead(out: &mut [u8], at: usize) -> usize
-    requires { ⌜ at + 125 ≤ length (now out) ⌝ }
-    ensures same { λ r. ⌜ Written (now (out .entry)) at deadHeights (now (out .exit)) r ⌝ }
-    ensures short { λ r. ⌜ r ≤ at + 125 ⌝ }
-{
-    let a = lines::write_word(out, at, b"  dead  dead  |");
-    let b = write_same(out, a, b' ', 61);
-    lines::write_word(out, b, b"|     ")
-}
-
-// Main height, alt height, the bar of the total, and the total.
-fn write_live(out: &mut [u8], at: usize, main: u32, alt: u32) -> usize
-    requires { ⌜ (at + 125 ≤ length (now out)) × ((main ≤ 65535) × (alt ≤ 65535)) ⌝ }
-    ensures same { λ r. ⌜ Written (now (out .entry)) at (liveHeights main alt) (now (out .exit)) r ⌝ }
-    ensures short { λ r. ⌜ r ≤ at + 125 ⌝ }
-{
-    let total = main + alt;
-    let a = write_column(out, at, 6, main as u64);
-    let b = write_column(out, a, 6, alt as u64);
-    let c = lines::write_word(out, b, b"  |");
-    let d = write_bar(out, c, total);
-    let e = lines::write_word(out, d, b"|");
-    write_column(out, e, 5, total as u64)
-}
-
-// The heights that a row of the log has.
-fn write_heights(out: &mut [u8], at: usize, main: u32, alt: u32) -> usize
-    requires { ⌜ (at + 125 ≤ length (now out)) × ((main ≤ 65535) × (alt ≤ 65535)) ⌝ }
-    ensures same { λ r. ⌜ Written (now (out .entry)) at (heights main alt) (now (out .exit)) r ⌝ }
-    ensures short { λ r. ⌜ r ≤ at + 125 ⌝ }
-{
-    if main == 65535 {
-        return write_dead(out, at);
-    }
-    write_live(out, at, main, alt)
-}
-
-// The line of an instruction. This and each line below is of at most 256 bytes, and is written from the start on.
-fn write_row_line(out: &mut [u8], offset: u32, main: u32, alt: u32, bytes: &[u8]) -> usize
-    requires { ⌜ (256 ≤ length (now out)) × ((main ≤ 65535) × (alt ≤ 65535)) ⌝ }
-    ensures same { λ r.
-        ⌜ Written (now (out .entry)) 0 (rowLine offset main alt (now (bytes .entry))) (now (out .exit)) r ⌝ }
-    ensures short { λ r. ⌜ r ≤ 256 ⌝ }
-{
-    let a = write_column(out, 0, 9, offset as u64);
-    let b = write_heights(out, a, main, alt);
-    let c = lines::write_word(out, b, b" ");
-    let d = write_instruction(out, c, bytes);
-    lines::write_word(out, d, b"\n")
-}
-
-fn wide(x: u16) -> u32
-    ensures { λ r. ⌜ (r ≡ x) × (r ≤ 65535) ⌝ }
-{
-    x as u32
-}
-
-// The line of row j of the log.
-pub fn write_row(out: &mut [u8], fragment: &[u8], log: &[u16], j: usize) -> usize
-    requires { ⌜ (256 ≤ length (now out)) × (3 * j + 3 ≤ length (now log)) ⌝ }
-    ensures same { λ r.
-        ⌜
-        Written (now (out .entry)) 0 (row (now (fragment .entry)) (now (log .entry)) j) (now (out .exit)) r
-        ⌝ }
-    ensures short { λ r. ⌜ r ≤ 256 ⌝ }
-{
-    let offset = wide(log[3 * j]);
-    let main = wide(log[3 * j + 1]);
-    let alt = wide(log[3 * j + 2]);
-    let bytes = display::display(fragment, fragment, offset as usize, 0);
-    write_row_line(out, offset, main, alt, bytes)
-}
 
 // The line before the rows of a fragment.
 fn write_start(out: &mut [u8], entries: usize, k: usize, size: usize, main: u32, alt: u32) -> usize
@@ -225,10 +16,10 @@ fn write_start(out: &mut [u8], entries: usize, k: usize, size: usize, main: u32,
     ensures short { λ r. ⌜ r ≤ 256 ⌝ }
 {
     let a = lines::write_name(out, 0, entries, k);
-    let b = lines::write_labelled(out, a, b": length ", size as u64);
-    let c = lines::write_labelled(out, b, b", from main ", main as u64);
-    let d = lines::write_labelled(out, c, b" alt ", alt as u64);
-    lines::write_word(out, d, b"\n")
+    let b = text::write_labelled(out, a, b": length ", size as u64);
+    let c = text::write_labelled(out, b, b", from main ", main as u64);
+    let d = text::write_labelled(out, c, b" alt ", alt as u64);
+    text::write_word(out, d, b"\n")
 }
 
 // That of fragment k of a paper.
@@ -251,10 +42,10 @@ fn write_ending(out: &mut [u8], at: usize, ended: bool, main: u32, alt: u32) -> 
     ensures short { λ r. ⌜ r ≤ at + 60 ⌝ }
 {
     if ended {
-        let next = lines::write_labelled(out, at, b", end main ", main as u64);
-        return lines::write_labelled(out, next, b" alt ", alt as u64);
+        let next = text::write_labelled(out, at, b", end main ", main as u64);
+        return text::write_labelled(out, next, b" alt ", alt as u64);
     }
-    lines::write_word(out, at, b", end none")
+    text::write_word(out, at, b", end none")
 }
 
 // The line after the rows of an accepted fragment.
@@ -264,9 +55,9 @@ fn write_accepted(out: &mut [u8], peak: u32, ended: bool, main: u32, alt: u32) -
         ⌜ Written (now (out .entry)) 0 (acceptedLine peak ended main alt) (now (out .exit)) r ⌝ }
     ensures short { λ r. ⌜ r ≤ 256 ⌝ }
 {
-    let a = lines::write_labelled(out, 0, b"accepted: peak ", peak as u64);
+    let a = text::write_labelled(out, 0, b"accepted: peak ", peak as u64);
     let b = write_ending(out, a, ended, main, alt);
-    lines::write_word(out, b, b"\n")
+    text::write_word(out, b, b"\n")
 }
 
 // Number and word.
@@ -275,8 +66,8 @@ fn write_refusal(out: &mut [u8], at: usize, number: u32, first: u64, second: u64
     ensures same { λ r. ⌜ Written (now (out .entry)) at (refusal number first second) (now (out .exit)) r ⌝ }
     ensures short { λ r. ⌜ r ≤ at + 120 ⌝ }
 {
-    let a = lines::write_labelled(out, at, b"refused ", number as u64);
-    let b = lines::write_word(out, a, b", ");
+    let a = text::write_labelled(out, at, b"refused ", number as u64);
+    let b = text::write_word(out, a, b", ");
     reasons::write_reason(out, b, number, first, second)
 }
 
@@ -300,9 +91,9 @@ pub fn write_refusal_line(
         ⌝ }
     ensures short { λ r. ⌜ r ≤ 256 ⌝ }
 {
-    let a = lines::write_word(out, 0, lead);
+    let a = text::write_word(out, 0, lead);
     let b = write_refusal(out, a, number, first, second);
-    lines::write_word(out, b, b"\n")
+    text::write_word(out, b, b"\n")
 }
 
 // The line of a malformed fragment.
@@ -313,10 +104,10 @@ fn write_malformed(out: &mut [u8], offset: usize, bytes: &[u8]) -> usize
     ensures short { λ r. ⌜ r ≤ 256 ⌝ }
 {
     let a = write_refusal(out, 0, 3, 0, 0);
-    let b = lines::write_labelled(out, a, b" at ", offset as u64);
-    let c = lines::write_word(out, b, b":");
-    let d = write_instruction(out, c, bytes);
-    lines::write_word(out, d, b"\n")
+    let b = text::write_labelled(out, a, b" at ", offset as u64);
+    let c = text::write_word(out, b, b":");
+    let d = log_rows::write_instruction(out, c, bytes);
+    text::write_word(out, d, b"\n")
 }
 
 // The line of the dispatch check.
@@ -325,10 +116,10 @@ pub fn write_dispatch(out: &mut [u8], k: usize, sum: u32) -> usize
     ensures same { λ r. ⌜ Written (now (out .entry)) 0 (dispatchLine k sum) (now (out .exit)) r ⌝ }
     ensures short { λ r. ⌜ r ≤ 256 ⌝ }
 {
-    let a = lines::write_labelled(out, 0, b"entry ", k as u64);
-    let b = lines::write_word(out, a, b": ");
+    let a = text::write_labelled(out, 0, b"entry ", k as u64);
+    let b = text::write_word(out, a, b": ");
     let c = write_refusal(out, b, 20, sum as u64, 244);
-    lines::write_word(out, c, b"\n")
+    text::write_word(out, c, b"\n")
 }
 
 // The line after the rows of a fragment: 1 to 4 come before any row.

@@ -6,8 +6,8 @@ use native.Mathlib.Omega.{arith}
 use lib.ListN.{List·getD-eq-default}
 use lib.Seq.{paste-zero}
 use Rattle.definition.specs.Basics.{Bytes}
-use Rattle.lines.specs.View.{Written}
-use Rattle.lines.proofs.Texts.{written-as}
+use Rattle.text.specs.View.{Written}
+use Rattle.text.proofs.Texts.{written-as}
 use Rattle.reasons.specs.Reasons.{reasons, reason}
 
 module _ (first second : ℕ) where

@@ -4,7 +4,7 @@ ghost use mathlib.Core.List.{_++_};
 ghost use Prim.Native.Nat.{_+_, _≤_};
 ghost use lib.ListN.{length};
 ghost use Rattle.definition.specs.Lines.{decimal};
-ghost use Rattle.lines.specs.View.{Written};
+ghost use Rattle.text.specs.View.{Written};
 ghost use Rattle.reasons.specs.Reasons.{reason};
 
 // A word with both figures.
@@ -21,8 +21,8 @@ fn write_both(out: &mut [u8], at: usize, word: &[u8], first: u64, and: &[u8], se
         ⌝ }
     ensures short { λ r. ⌜ r ≤ at + length (now (word .entry)) + length (now (and .entry)) + 40 ⌝ }
 {
-    let next = lines::write_labelled(out, at, word, first);
-    lines::write_labelled(out, next, and, second)
+    let next = text::write_labelled(out, at, word, first);
+    text::write_labelled(out, next, and, second)
 }
 
 // The word of a number with its figures: document 01, section 7. From 0 to 5, to 11, to 17 and to 22.
@@ -32,7 +32,7 @@ fn write_reason_0(out: &mut [u8], at: usize, number: u32, first: u64, second: u6
     ensures short { λ r. ⌜ r ≤ at + 80 ⌝ }
 {
     match number {
-        0 => lines::write_word(out, at, b"accepted"),
+        0 => text::write_word(out, at, b"accepted"),
         1 => write_both(
             out,
             at,
@@ -42,7 +42,7 @@ fn write_reason_0(out: &mut [u8], at: usize, number: u32, first: u64, second: u6
             second,
         ),
         2 => write_both(out, at, b"start: sum ", first, b", limit ", second),
-        3 => lines::write_word(out, at, b"malformed"),
+        3 => text::write_word(out, at, b"malformed"),
         4 => write_both(out, at, b"short log: needed ", first, b", lent ", second),
         _ => write_both(out, at, b"nesting: open ", first, b", limit ", second),
     }
@@ -63,10 +63,10 @@ fn write_reason_6(out: &mut [u8], at: usize, number: u32, first: u64, second: u6
             second,
         ),
         7 => write_both(out, at, b"main dry: needed ", first, b", had ", second),
-        8 => lines::write_word(out, at, b"alt dry"),
-        9 => lines::write_word(out, at, b"index"),
-        10 => lines::write_word(out, at, b"tag"),
-        _ => lines::write_labelled(out, at, b"unmodelled: opcode ", first),
+        8 => text::write_word(out, at, b"alt dry"),
+        9 => text::write_word(out, at, b"index"),
+        10 => text::write_word(out, at, b"tag"),
+        _ => text::write_labelled(out, at, b"unmodelled: opcode ", first),
     }
 }
 
@@ -76,11 +76,11 @@ fn write_reason_12(out: &mut [u8], at: usize, number: u32, first: u64, second: u
     ensures short { λ r. ⌜ r ≤ at + 80 ⌝ }
 {
     match number {
-        12 => lines::write_word(out, at, b"arms differ"),
-        13 => lines::write_word(out, at, b"stray ELSE"),
-        14 => lines::write_word(out, at, b"second ELSE"),
-        15 => lines::write_word(out, at, b"stray ENDIF"),
-        16 => lines::write_word(out, at, b"open IF"),
+        12 => text::write_word(out, at, b"arms differ"),
+        13 => text::write_word(out, at, b"stray ELSE"),
+        14 => text::write_word(out, at, b"second ELSE"),
+        15 => text::write_word(out, at, b"stray ENDIF"),
+        16 => text::write_word(out, at, b"open IF"),
         _ => write_both(out, at, b"opcode count: count ", first, b", limit ", second),
     }
 }
@@ -92,10 +92,10 @@ fn write_reason_18(out: &mut [u8], at: usize, number: u32, first: u64, second: u
 {
     match number {
         18 => write_both(out, at, b"script size: length ", first, b", limit ", second),
-        19 => lines::write_word(out, at, b"header"),
+        19 => text::write_word(out, at, b"header"),
         20 => write_both(out, at, b"dispatch: sum ", first, b", limit ", second),
         21 => write_both(out, at, b"long paper: length ", first, b", limit ", second),
-        _ => lines::write_word(out, at, b"tally full"),
+        _ => text::write_word(out, at, b"tally full"),
     }
 }
 

@@ -1,6 +1,6 @@
 // `stacklog` reads a paper from standard input, marks it and prints its log as a person reads it: for each fragment a line for
 // each instruction met, and the verdict in words. No contract can speak of what a program writes: each line is written into
-// lent bytes by a function of `log_lines` or `lines`, which says which line it is.
+// lent bytes by a function of `log_rows`, `log_lines` or `lines`, which says which line it is.
 ghost use Prim.Native.Nat.{_+_, _*_, _≤_};
 ghost use lib.ListN.{length};
 use header::Dispatch;
@@ -11,7 +11,7 @@ fn print_row(fragment: &[u8], log: &[u16], j: usize)
     requires { ⌜ 3 * j + 3 ≤ length (now log) ⌝ }
 {
     let mut line = [0u8; 256];
-    let n = log_lines::write_row(&mut line, fragment, log, j);
+    let n = log_rows::write_row(&mut line, fragment, log, j);
     io::write_all(1, &line[..n]);
 }
 

@@ -1,4 +1,4 @@
-use Rattle.lines.proofs.Texts.{then-written}
+use Rattle.text.proofs.Texts.{then-written}
 use native.Mathlib.Omega.{arith}
 use borrow.Author.Needs.{needs}
 use Rattle.lines.proofs.write_line.Statement.{statement}

@@ -1,7 +1,7 @@
 use Prim.Native.Nat.{_≤_}
 use lib.ListN.{length}
 use Rattle.definition.specs.Lines.{refusedLine}
-use Rattle.lines.proofs.Texts.{then-written}
+use Rattle.text.proofs.Texts.{then-written}
 use native.Mathlib.Omega.{arith}
 use borrow.Author.Needs.{needs}
 use Rattle.lines.proofs.write_refused.Statement.{statement}

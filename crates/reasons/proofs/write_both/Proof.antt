@@ -2,7 +2,7 @@ use borrow.Author.Needs.{needs}
 use native.Mathlib.Omega.{arith}
 use Prim.Native.Nat.{_≤_}
 use lib.ListN.{length}
-use Rattle.lines.proofs.Texts.{then-written}
+use Rattle.text.proofs.Texts.{then-written}
 use Rattle.reasons.proofs.write_both.Statement.{statement}
 use Rattle.reasons.proofs.write_both.Tie as tie
 

@@ -1,0 +1,95 @@
+use borrow.Author.Needs.{needs}
+use native.Mathlib.Omega.{arith}
+use Rattle.log_rows.proofs.Texts.{row-written}
+use Rattle.log_rows.proofs.write_row.Statement.{statement}
+use Rattle.log_rows.proofs.write_row.Tie as tie
+
+mul-wide : tie.Need-mul-wide
+mul-wide c = search needs
+
+mul-wide-2 : tie.Need-mul-wide-2
+mul-wide-2 c = search needs
+
+shared-slice-read-wide : tie.Need-shared-slice-read-wide
+shared-slice-read-wide c = search needs
+
+wide-requires : tie.Need-wide-requires
+wide-requires c κs = search needs
+
+mul-wide-3 : tie.Need-mul-wide-3
+mul-wide-3 c = search needs
+
+add-wide : tie.Need-add-wide
+add-wide c = search needs
+
+mul-wide-4 : tie.Need-mul-wide-4
+mul-wide-4 c = search needs
+
+shared-slice-read-wide-2 : tie.Need-shared-slice-read-wide-2
+shared-slice-read-wide-2 c = search needs
+
+wide-requires-2 : tie.Need-wide-requires-2
+wide-requires-2 c κs = search needs
+
+mul-wide-5 : tie.Need-mul-wide-5
+mul-wide-5 c = search needs
+
+add-wide-2 : tie.Need-add-wide-2
+add-wide-2 c = search needs
+
+mul-wide-6 : tie.Need-mul-wide-6
+mul-wide-6 c = search needs
+
+shared-slice-read-wide-3 : tie.Need-shared-slice-read-wide-3
+shared-slice-read-wide-3 c = search needs
+
+wide-requires-3 : tie.Need-wide-requires-3
+wide-requires-3 c κs = search needs
+
+cast-display : tie.Need-cast-display
+cast-display c = search needs
+
+display-requires : tie.Need-display-requires
+display-requires c κs = search needs
+
+write-row-line-requires : tie.Need-write-row-line-requires
+write-row-line-requires c κs = search needs
+
+same-length : tie.Need-same-length
+same-length c = search needs
+
+returns : tie.Need-returns
+returns c =
+    let w = c .before .before in
+    let d = w .before .before in
+    let a = d .before in
+    let m = a .before .before in
+    let o = m .before .before in (
+      row-written _ _ _ (o .wide .ensures .0) (m .wide2 .ensures .0) (a .wide3 .ensures .0) (d .display .ensures)
+          (w .write-row-line .ensures .0),
+      w .write-row-line .ensures .1,
+    )
+
+pub write-row-spec : {M : Type 1} → statement M
+write-row-spec =
+    tie.close
+    (tie.spec
+    mul-wide
+    mul-wide-2
+    shared-slice-read-wide
+    wide-requires
+    mul-wide-3
+    add-wide
+    mul-wide-4
+    shared-slice-read-wide-2
+    wide-requires-2
+    mul-wide-5
+    add-wide-2
+    mul-wide-6
+    shared-slice-read-wide-3
+    wide-requires-3
+    cast-display
+    display-requires
+    write-row-line-requires
+    same-length
+    returns)

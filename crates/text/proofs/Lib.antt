@@ -1,0 +1,2 @@
+-- What is proved of texts for this crate's functions.
+pub mod Texts

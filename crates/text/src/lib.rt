@@ -1,0 +1,50 @@
+// Words and numbers written into lent bytes: each from an index on; the answer is the index after it.
+ghost use mathlib.Core.List.{[], _∷_, _++_};
+ghost use Prim.Native.Nat.{_+_, _≤_, _<_};
+ghost use lib.ListN.{length};
+ghost use Rattle.definition.specs.Lines.{decimal};
+ghost use Rattle.text.specs.View.{Written};
+
+// A word, byte by byte.
+pub fn write_word(out: &mut [u8], at: usize, word: &[u8]) -> usize
+    requires { ⌜ at + length (now word) ≤ length (now out) ⌝ }
+    ensures { λ r. ⌜ Written (now (out .entry)) at (now (word .entry)) (now (out .exit)) r ⌝ }
+{
+    let mut j = 0;
+    while j < word.len() {
+        out[at + j] = word[j];
+        j += 1;
+    }
+    at + j
+}
+
+// A digit.
+fn write_digit(out: &mut [u8], at: usize, d: u64) -> usize
+    requires { ⌜ (at < length (now out)) × (d < 10) ⌝ }
+    ensures { λ r. ⌜ Written (now (out .entry)) at ((48 + d) ∷ []) (now (out .exit)) r ⌝ }
+{
+    out[at] = 48 + d as u8;
+    at + 1
+}
+
+// A number in decimal: all digits but the last, and the last.
+pub fn write_number(out: &mut [u8], at: usize, n: u64) -> usize
+    requires { ⌜ at + length (decimal n) ≤ length (now out) ⌝ }
+    ensures { λ r. ⌜ Written (now (out .entry)) at (decimal n) (now (out .exit)) r ⌝ }
+{
+    if n < 10 {
+        return write_digit(out, at, n);
+    }
+    let next = write_number(out, at, n / 10);
+    write_digit(out, next, n % 10)
+}
+
+// A word and the number behind it, of at most 20 digits.
+pub fn write_labelled(out: &mut [u8], at: usize, word: &[u8], n: u64) -> usize
+    requires { ⌜ at + length (now word) + 20 ≤ length (now out) ⌝ }
+    ensures same { λ r. ⌜ Written (now (out .entry)) at (now (word .entry) ++ decimal n) (now (out .exit)) r ⌝ }
+    ensures short { λ r. ⌜ r ≤ at + length (now (word .entry)) + 20 ⌝ }
+{
+    let next = write_word(out, at, word);
+    write_number(out, next, n)
+}
