@@ -7,7 +7,7 @@
 --   data, record, x .f       a type by its cases; a type by its fields; the field f of x
 --   leb, ltb, eqb            tests: at most, below, equal; &&, ||, not: and, or, not
 --   length l, take n l, drop n l, replicate n x      how many; the first n; all but these; n times x
---   getD l n d, set l n x    element n, counted from 0, or d if there is none; l with x as element n
+--   getD l n d, sets l n m   element n, counted from 0, or d if there is none; l with the elements of m from element n on
 --   none, some x             no value; the value x
 --   a ≡ b, A × B, A ⊎ B, A ↔ B, A → ⊥, Unit {0}      equal; both; one of the two; exactly when; not A; true
 --   (x : A) → P, (x : A) × P                         for every x; there is an x

@@ -2,22 +2,22 @@
 -- (Walk) and a replay (Replay) share it: "A step does what section 3 says with real bytes" (Section 5).
 use mathlib.Core.List.{List, [], _∷_, _++_}
 use mathlib.Core.Option.{Option, none, some}
-use Prim.Native.Nat.{ℕ, _+_, _-_}
+use Prim.Native.Nat.{ℕ, zero, suc, _+_, _-_}
 use lib.Dec.{leb, eqb}
 use lib.ListN.{length, take, drop}
 use Rattle.definition.specs.Basics.{Bytes, pick}
 use Rattle.definition.specs.Decoding.{Instruction, serialize, plus, Index, notKnown, noNumber, negative, index, indexOf}
-use Rattle.definition.specs.Classes.{Class, Ordinary, unmodelled, push, nothing, TOALT, FROMALT, DEPTH, SIZE, NIP, TUCK, PICK, ROLL, ZK, copies, rotates, drops, makes, classOf}
+use Rattle.definition.specs.Classes.{Class, Ordinary, unmodelled, push, nothing, TOALT, FROMALT, DEPTH, SIZE, NIP, TUCK, PICK, ROLL, ZK, copies, rotates, classOf}
 use Rattle.definition.specs.Refusals.{Refusal, stacksFull, mainDry, altDry, badIndex, badTag, unmodelledOpcode}
 
 -- what the marker and a replay go by: the class of each opcode, and the limit of both stacks together
 pub record Rules : Type 0 where
-  pub classOf : ℕ → Class
+  pub classFor : ℕ → Class
   pub limit : ℕ
 
 -- the classes of Section 2, and "Main and alt hold at most 244 items together"
 abbrev pub builtIn : Rules
-builtIn = record { classOf = classOf; limit = 244 }
+builtIn = record { classFor = classOf; limit = 244 }
 
 -- a stack is a list, its top first
 pub record Stacks (A : Type 0) : Type 0 where
@@ -54,6 +54,10 @@ module _ {A : Type 0} where
   abbrev pub total : Stacks A → ℕ
   total s = length (s .main) + length (s .alt)
 
+  -- how many main holds, and alt
+  abbrev pub stackHeights : Stacks A → List ℕ
+  stackHeights s = length (s .main) ∷ length (s .alt) ∷ []
+
   -- the stacks with another main
   abbrev pub withMain : Stacks A → List A → Stacks A
   withMain s l = record { main = l; alt = s .alt }
@@ -66,10 +70,10 @@ module _ {A : Type 0} where
   abbrev pub room : ℕ → ℕ → Stacks A → Outcome A → Outcome A
   room limit k s outcome = pick (leb (total s + k) limit) outcome (refused (stacksFull (total s + k) limit))
 
-  -- one operation after another
-  abbrev pub andThen : Outcome A → (Stacks A → Outcome A) → Outcome A
-  andThen (done s) next = next s
-  andThen (refused r) next = refused r
+  -- on from an outcome: `stop` takes a refusal, `next` the changed stacks
+  abbrev pub onDone : {X : Type 0} → Outcome A → (Refusal → X) → (Stacks A → X) → X
+  onDone (done s) stop next = next s
+  onDone (refused r) stop next = stop r
 
   -- pushes x, which needs room for 1
   unfoldable pub pushItem : ℕ → A → Stacks A → Outcome A
@@ -84,21 +88,27 @@ module _ {A : Type 0} where
   abbrev pub pop : Stacks A → (A → Stacks A → Outcome A) → Outcome A
   pop s next = popFrom (s .main) (s .alt) next
 
+  -- needs 1, and goes on with the top, which stays where it is
+  abbrev pub look : Stacks A → (A → Outcome A) → Outcome A
+  look s next = pop s (λ top rest. next top)
+
   -- drops k items of main at once
   unfoldable pub dropItems : ℕ → Stacks A → Outcome A
   dropItems k s = needs k s (done (withMain s (drop k (s .main))))
 
-  -- "copy (depth, count): needs depth items, appends the lowest count of them"
+  -- "copy (depth, count): needs depth items, appends the lowest count of them". Of a b c d, a on top, (2,1) makes b a b c d:
+  -- the top 2 are a b, and without the first 2 - 1 of these b is left.
   unfoldable pub copyItems : ℕ → ℕ → ℕ → Stacks A → Outcome A
   copyItems limit depth count s =
       needs depth s (room limit count s (done (withMain s (drop (depth - count) (take depth (s .main)) ++ s .main))))
 
-  -- "Rotation: needs count, puts the lowest shift of them on top"
+  -- "Rotation: needs count, puts the lowest shift of them on top". Of a b c d, (3,1) makes c a b d: c from the top 3, then the
+  -- 3 - 1 above it, then what is below the 3.
   unfoldable pub rotateItems : ℕ → ℕ → Stacks A → Outcome A
   rotateItems count shift s =
       needs count s (done (withMain s (drop (count - shift) (take count (s .main)) ++ take (count - shift) (s .main) ++ drop count (s .main))))
 
-  -- "TUCK needs 1, then 2, then room; puts a copy of the top under the top two"
+  -- "TUCK needs 1, then 2, then room; puts a copy of the top under the top two". Of a b c d it makes a b a c d.
   unfoldable pub tuckTop : ℕ → Stacks A → Outcome A
   tuckTop limit s =
       needs 1 s (needs 2 s (room limit 1 s (done (withMain s (take 2 (s .main) ++ take 1 (s .main) ++ drop 2 (s .main))))))
@@ -138,15 +148,19 @@ module _ {A : Type 0} (I : Items A) where
 
   -- "It pushes 1", after dropping this many
   abbrev pub zkDrop : ℕ → ℕ → Stacks A → Outcome A
-  zkDrop limit n s = andThen (dropItems n s) (pushItem limit (numberItem 1))
+  zkDrop limit n s = onDone (dropItems n s) refused (pushItem limit (numberItem 1))
 
   -- "20 pops key, proof and a count read as an index, one by one, then drops that many; 21 drops 8"
   abbrev pub zkBy : ℕ → Tag → Stacks A → Outcome A
   zkBy limit noTag s = refused badTag
-  zkBy limit groth16 s = pop s (λ key t. pop t (λ proof u. popIndex u (λ n v. zkDrop limit n v)))
+  zkBy limit groth16 s =
+      pop s (λ key t.
+      pop t (λ proof u.
+      popIndex u (λ count v.
+      zkDrop limit count v)))
   zkBy limit r0Succinct s = zkDrop limit 8 s
 
-  -- what an instruction of an ordinary class does. SIZE looks at the top and leaves it: the push is onto s.
+  -- what an instruction of an ordinary class does
   unfoldable pub step : Rules → Instruction → Ordinary → Stacks A → Outcome A
   step R i unmodelled s = refused (unmodelledOpcode (i .opcode))
   step R i push s = pushItem (R .limit) (I .literal (i .literal)) s
@@ -154,13 +168,20 @@ module _ {A : Type 0} (I : Items A) where
   step R i TOALT s = moveToAlt s
   step R i FROMALT s = moveFromAlt s
   step R i DEPTH s = pushItem (R .limit) (numberItem (length (s .main))) s
-  step R i SIZE s = pop s (λ x t. pushItem (R .limit) (sizeItem (I .bytes x)) s)
+  step R i SIZE s = look s (λ top. pushItem (R .limit) (sizeItem (I .bytes top)) s)
   step R i NIP s = nipSecond s
   step R i TUCK s = tuckTop (R .limit) s
   step R i PICK s = popIndex s (λ n t. copyItems (R .limit) (n + 1) 1 t)
   step R i ROLL s = popIndex s (λ n t. rotateItems (n + 1) 1 t)
-  step R i ZK s = pop s (λ x t. zkBy (R .limit) (tagOf (I .bytes x)) t)
+  step R i ZK s = pop s (λ tag t. zkBy (R .limit) (tagOf (I .bytes tag)) t)
   step R i (copies depth count) s = copyItems (R .limit) depth count s
   step R i (rotates count shift) s = rotateItems count shift s
-  step R i (drops k) s = dropItems k s
-  step R i (makes k) s = andThen (dropItems k s) (pushItem (R .limit) (I .result))
+
+  -- "the plain classes push unknown items": none, or one
+  abbrev pub pushResults : ℕ → ℕ → Stacks A → Outcome A
+  pushResults limit zero s = done s
+  pushResults limit (suc n) s = pushItem limit (I .result) s
+
+  -- what an instruction of a plain class does
+  unfoldable pub plainStep : Rules → ℕ → ℕ → Stacks A → Outcome A
+  plainStep R pops pushes s = onDone (dropItems pops s) refused (pushResults (R .limit) pushes)

@@ -4,12 +4,13 @@ use mathlib.Core.List.{List, [], _∷_}
 use mathlib.Core.Option.{Option, none, some}
 use Prim.Native.Nat.{ℕ, _+_, _*_, max}
 use lib.Dec.{ltb, leb, eqb}
-use lib.ListN.{length, set, replicate}
+use lib.ListN.{length, replicate}
+use lib.Seq.{sets}
 use Rattle.definition.specs.Basics.{Bytes, pick}
 use Rattle.definition.specs.Decoding.{Instruction, Code, decode, instructions, malformedAt}
-use Rattle.definition.specs.Classes.{Class, IF, NOTIF, ELSE, ENDIF, RETURN, ordinary}
+use Rattle.definition.specs.Classes.{Class, IF, NOTIF, ELSE, ENDIF, RETURN, ordinary, plain}
 use Rattle.definition.specs.Refusals.{Refusal, Answer, accepted, refusedAt, longFragment, maxFragment, startTooLarge, malformedFragment, shortLog, nesting, maxOpen, armsDiffer, strayElse, secondElse, strayEndif, openIf, tallyFull}
-use Rattle.definition.specs.Stacks.{Rules, Stacks, Outcome, done, refused, Items, total, dropItems, step}
+use Rattle.definition.specs.Stacks.{Rules, Stacks, Outcome, done, refused, Items, total, stackHeights, onDone, dropItems, step, plainStep}
 
 -- What the marker knows of an item
 
@@ -39,14 +40,14 @@ pub data Arm : Type 0 where
   live : Stacks Item → Arm
 
 -- the first arm of an open conditional has not ended, or has ended at its ELSE
-pub data First : Type 0 where
-  notEnded : First
-  ended : Arm → First
+pub data FirstArm : Type 0 where
+  notEnded : FirstArm
+  ended : Arm → FirstArm
 
 -- an open conditional: where its second arm starts, and its first arm
 pub record Frame : Type 0 where
   pub start : Arm
-  pub first : First
+  pub first : FirstArm
 
 -- what an instruction does: the arm after it with the open conditionals, innermost first, or a refusal
 pub data Move : Type 0 where
@@ -79,73 +80,64 @@ joinStacks s t =
     (done (record { main = joinItems (s .main) (t .main); alt = joinItems (s .alt) (t .alt) }))
     (refused armsDiffer)
 
--- on from an outcome
-abbrev pub moved : Outcome Item → List Frame → Move
-moved (done s) fs = moves (live s) fs
-moved (refused r) fs = refuses r
+-- the arm goes on with what an operation yields
+abbrev pub onOutcome : Outcome Item → List Frame → Move
+onOutcome o fs = onDone o refuses (λ s. moves (live s) fs)
 
 -- "ENDIF joins: if one side is dead the other stands"
 abbrev pub join : Arm → Arm → List Frame → Move
 join dead b fs = moves b fs
 join (live s) dead fs = moves (live s) fs
-join (live s) (live t) fs = moved (joinStacks s t) fs
+join (live s) (live t) fs = onOutcome (joinStacks s t) fs
 
 -- a conditional opens: both of its arms start from here
 abbrev pub opens : Arm → List Frame → Move
 opens c fs = moves c (record { start = c; first = notEnded } ∷ fs)
 
--- it opens on an outcome
-abbrev pub opened : Outcome Item → List Frame → Move
-opened (done s) fs = opens (live s) fs
-opened (refused r) fs = refuses r
-
 -- "IF and NOTIF pop one item; the second arm, or the empty one if there is no ELSE, starts from there"
 abbrev pub onIf : Arm → List Frame → Move
 onIf dead fs = opens dead fs
-onIf (live s) fs = opened (dropItems 1 s) fs
+onIf (live s) fs = onDone (dropItems 1 s) refuses (λ t. opens (live t) fs)
 
 -- Section 7: "IF or NOTIF, live or dead, with 24 open"; "at 5 nothing is popped yet"
 abbrev pub conditional : Arm → List Frame → Move
 conditional c fs = pick (ltb (length fs) maxOpen) (onIf c fs) (refuses nesting)
 
 -- at ELSE the first arm, c, has ended, and the second starts where the conditional opened
-abbrev pub onElse : Arm → Arm → First → List Frame → Move
+abbrev pub onElse : Arm → Arm → FirstArm → List Frame → Move
 onElse c start notEnded fs = moves start (record { start = start; first = ended c } ∷ fs)
 onElse c start (ended a) fs = refuses secondElse
 
 -- at ENDIF the arm c joins the other one: the empty one "if there is no ELSE"
-abbrev pub onEndif : Arm → Arm → First → List Frame → Move
+abbrev pub onEndif : Arm → Arm → FirstArm → List Frame → Move
 onEndif c start notEnded fs = join c start fs
 onEndif c start (ended a) fs = join a c fs
 
 -- one instruction, by its class. "While dead, ordinary opcodes are skipped, unmodelled ones too, and conditionals are
 -- still matched."
-abbrev pub move : Rules → Instruction → Class → Arm → List Frame → Move
-move R i IF c fs = conditional c fs
-move R i NOTIF c fs = conditional c fs
-move R i ELSE c [] = refuses strayElse
-move R i ELSE c (f ∷ fs) = onElse c (f .start) (f .first) fs
-move R i ENDIF c [] = refuses strayEndif
-move R i ENDIF c (f ∷ fs) = onEndif c (f .start) (f .first) fs
-move R i RETURN c fs = moves dead fs
-move R i (ordinary o) dead fs = moves dead fs
-move R i (ordinary o) (live s) fs = moved (step marking R i o s) fs
+abbrev pub effect : Rules → Instruction → Class → Arm → List Frame → Move
+effect R i IF c fs = conditional c fs
+effect R i NOTIF c fs = conditional c fs
+effect R i ELSE c [] = refuses strayElse
+effect R i ELSE c (f ∷ fs) = onElse c (f .start) (f .first) fs
+effect R i ENDIF c [] = refuses strayEndif
+effect R i ENDIF c (f ∷ fs) = onEndif c (f .start) (f .first) fs
+effect R i RETURN c fs = moves dead fs
+effect R i (ordinary o) dead fs = moves dead fs
+effect R i (ordinary o) (live s) fs = onOutcome (step marking R i o s) fs
+effect R i (plain pops pushes) dead fs = moves dead fs
+effect R i (plain pops pushes) (live s) fs = onOutcome (plainStep marking R pops pushes s) fs
 
 -- The log
 
 -- "main height, alt height just before it, or 65,535 twice if dead"
-abbrev pub mainHeight : Arm → ℕ
-mainHeight dead = 65535
-mainHeight (live s) = length (s .main)
+abbrev pub heightsOf : Arm → List ℕ
+heightsOf dead = 65535 ∷ 65535 ∷ []
+heightsOf (live s) = stackHeights s
 
--- the same of alt
-abbrev pub altHeight : Arm → ℕ
-altHeight dead = 65535
-altHeight (live s) = length (s .alt)
-
--- "three to an instruction": row k of the log
+-- "three to an instruction": the log with the offset and these heights as row k, counted from 0
 unfoldable pub logRow : ℕ → ℕ → Arm → List ℕ → List ℕ
-logRow k offset c log = set (set (set log (3 * k) offset) (3 * k + 1) (mainHeight c)) (3 * k + 2) (altHeight c)
+logRow k offset c log = sets log (3 * k) (offset ∷ heightsOf c)
 
 -- The walk
 
@@ -205,7 +197,7 @@ atEnd (f ∷ fs) s = stopped openIf s
 -- the walk over these instructions
 unfoldable pub walk : Rules → List Instruction → State → Walked
 walk R [] s = atEnd (s .frames) s
-walk R (i ∷ is) s = follow (move R i (R .classOf (i .opcode)) (s .arm) (s .frames)) (met i s) (λ t. walk R is t)
+walk R (i ∷ is) s = follow (effect R i (R .classFor (i .opcode)) (s .arm) (s .frames)) (met i s) (λ t. walk R is t)
 
 -- The verdict
 
