@@ -1,17 +1,18 @@
--- The number form of Section 1: a number n of up to 63 bits, and n below zero, is read back from the bytes that are written
--- for it (`plusRead`, `minusRead`). Zero below zero is written, and read, as zero (`minusZero`). Five numbers by example.
-use mathlib.Core.Bool.{Bool, true, false, _&&_, or-true}
+-- The number form of Section 1, both ways. Whole numbers of up to 63 bits and a sign are read back from the bytes that are
+-- written for them (`plusRead`, `minusRead`; zero has one form, `minusZero`), and bytes that are read as a number are those
+-- that are written for it (`readWritten`). Five numbers are shown byte by byte (`numbersByExample`).
+use mathlib.Core.Bool.{Bool, true, false, _&&_, _||_, not, or-true, or-false}
 use mathlib.Core.Path.{_≡_, refl, ap}
 use mathlib.Core.List.{[], _∷_}
-use mathlib.Core.Option.{some}
+use mathlib.Core.Option.{none, some}
 use Prim.Native.Nat.{ℕ, zero, suc, _+_, _-_, _*_, _/_, _%_, _^_, _≤_, _<_}
 use native.Mathlib.Nat.{pow-succ', pow-le-pow-right}
 use native.Mathlib.Omega.{arith}
-use borrow.Author.Tests.{ltb-true, ltb-false, leb-true, leb-false, lt-ltb, le-ltb, le-leb, ne-eqb}
-use lib.Dec.{ltb, leb, lit<}
+use borrow.Author.Tests.{ltb-true, ltb-false, leb-true, leb-false, eqb-true, eqb-false, lt-ltb, le-ltb, le-leb, ne-eqb}
+use lib.Dec.{ltb, leb, eqb, lit<}
 use lib.ListN.{length}
 use Rattle.definition.specs.Basics.{Bytes, pick}
-use Rattle.definition.specs.Decoding.{number, plus, minus, digits, signed, serialize, last, minimal, value, deserialize}
+use Rattle.definition.specs.Decoding.{number, Integer, plus, minus, digits, signed, serialize, last, minimal, value, deserialize}
 use Rattle.definition.specs.Replay.{AreBytes}
 
 -- 00 or 80
@@ -45,7 +46,8 @@ form-one sign n s pos lt = by (ltb n 0x80) refl
           numbered = omega arith;
           sign-bit = omega arith;
           least = rw (ne-eqb (n + sign) 0x00 (λ q. omega arith), ne-eqb (n + sign) 0x80 (λ q. omega arith));
-          needed = omega arith }
+          needed = omega arith;
+        }
     by false e =
         let h : 0x80 ≤ n = ltb-false n 0x80 e in
         record {
@@ -55,7 +57,8 @@ form-one sign n s pos lt = by (ltb n 0x80) refl
           numbered = omega arith;
           sign-bit = omega arith;
           least = rw (le-leb 0x80 n h);
-          needed = omega arith }
+          needed = omega arith;
+        }
 
 least-more : (b c : ℕ) (l : Bytes) → minimal (c ∷ l) ≡ true → minimal (b ∷ c ∷ l) ≡ true
 least-more b c [] h = rw (h, or-true (leb 0x80 b))
@@ -73,7 +76,8 @@ form-byte sign n m b (c ∷ l) f lt e =
       numbered = rw p (omega arith);
       sign-bit = f .sign-bit;
       least = least-more b c l (f .least);
-      needed = omega arith }
+      needed = omega arith;
+    }
 
 -- one digit more, the lowest
 form-more : (sign n m b : ℕ) (l : Bytes) → NumberForm sign n (signed sign l) → b < 256 → m ≡ b + 256 * n → NumberForm sign m (signed sign (b ∷ l))
@@ -127,6 +131,14 @@ form-minus n l f h =
 
 -- What is written is read back
 
+-- what is written are bytes
+pub bytesWritten : (i : Integer) → AreBytes (serialize i)
+unfolding serialize
+bytesWritten (plus zero) = tt
+bytesWritten (plus (suc n)) = form-written 0x00 (suc n) (omega arith) (omega arith) .bytes
+bytesWritten (minus zero) = tt
+bytesWritten (minus (suc n)) = form-written 0x80 (suc n) (omega arith) (omega arith) .bytes
+
 pub plusRead : (n : ℕ) → n < 2 ^ 63 → deserialize (serialize (plus n)) ≡ some (plus n)
 unfolding serialize deserialize
 plusRead zero h = refl
@@ -144,3 +156,150 @@ minusRead n pos h =
 pub minusZero : (serialize (minus 0) ≡ []) × (deserialize [] ≡ some (plus 0))
 unfolding serialize deserialize
 minusZero = (refl, refl)
+
+-- What is read is what is written
+
+-- these bytes are written for a number above 0
+record Written (l : Bytes) : Type 0 where
+  sign : ℕ
+  n : ℕ
+  sign-is : Sign sign
+  above : 1 ≤ n
+  same : (most : ℕ) → n ≤ most → signed sign (digits most n) ≡ l
+
+digits-step : (most n : ℕ) → 1 ≤ n → digits (suc most) n ≡ n % 256 ∷ digits most (n / 256)
+digits-step most zero h = absurd (omega arith)
+digits-step most (suc n) h = refl
+
+signed-step : (sign b most n : ℕ) → 1 ≤ n → n ≤ most → signed sign (b ∷ digits most n) ≡ b ∷ signed sign (digits most n)
+signed-step sign b zero n pos h = absurd (omega arith)
+signed-step sign b (suc most) zero pos h = absurd (omega arith)
+signed-step sign b (suc most) (suc n) pos h = refl
+
+-- one digit
+written-one : (sign n : ℕ) (l : Bytes) → Sign sign → 1 ≤ n → n < 256 → signed sign (n ∷ []) ≡ l → Written l
+written-one sign n l s pos lt e = record { sign = sign; n = n; sign-is = s; above = pos; same = by }
+  where
+    by : (most : ℕ) → n ≤ most → signed sign (digits most n) ≡ l
+    by zero h = absurd (omega arith)
+    by (suc most) h =
+        let m : n % 256 ≡ n = omega arith in
+        let d : n / 256 ≡ 0 = omega arith in
+        rw (digits-step most n pos, m, d, digits-zero most) e
+
+-- one byte more, the lowest
+written-more : (b : ℕ) (l : Bytes) → b < 256 → Written l → Written (b ∷ l)
+written-more b l lt w = record { sign = w .sign; n = b + 256 * w .n; sign-is = w .sign-is; above = omega (arith, w .above); same = by }
+  where
+    by : (most : ℕ) → b + 256 * w .n ≤ most → signed (w .sign) (digits most (b + 256 * w .n)) ≡ b ∷ l
+    by zero h = absurd (omega (arith, w .above))
+    by (suc most) h =
+        let m : (b + 256 * w .n) % 256 ≡ b = omega arith in
+        let d : (b + 256 * w .n) / 256 ≡ w .n = omega arith in
+        rw (digits-step most (b + 256 * w .n) (omega (arith, w .above)), m, d, signed-step (w .sign) b most (w .n) (w .above) (omega (arith, w .above)), w .same most (omega (arith, w .above)))
+
+-- a byte that is 00 or 80, and one that is not
+sign-byte : (b : ℕ) → not (eqb b 0x00 || eqb b 0x80) ≡ false → Sign b
+sign-byte b = by (eqb b 0x00) (eqb b 0x80) refl refl
+  where
+    by : (x y : Bool) → eqb b 0x00 ≡ x → eqb b 0x80 ≡ y → not (x || y) ≡ false → Sign b
+    by true y p q h = let e : b ≡ 0x00 = eqb-true b 0x00 p in omega arith
+    by false true p q h = let e : b ≡ 0x80 = eqb-true b 0x80 q in omega arith
+    by false false p q h = let z : _≡_ {A = ℕ} 0 1 = cc in absurd (omega arith)
+
+no-sign-byte : (b : ℕ) → not (eqb b 0x00 || eqb b 0x80) ≡ true → (b ≡ 0x00 → ⊥) × (b ≡ 0x80 → ⊥)
+no-sign-byte b = by (eqb b 0x00) (eqb b 0x80) refl refl
+  where
+    by : (x y : Bool) → eqb b 0x00 ≡ x → eqb b 0x80 ≡ y → not (x || y) ≡ true → (b ≡ 0x00 → ⊥) × (b ≡ 0x80 → ⊥)
+    by true y p q h = let z : _≡_ {A = ℕ} 0 1 = cc in absurd (omega arith)
+    by false true p q h = let z : _≡_ {A = ℕ} 0 1 = cc in absurd (omega arith)
+    by false false p q h = (eqb-false b 0x00 p, eqb-false b 0x80 q)
+
+-- a last byte that is neither 00 nor 80
+written-last : (b : ℕ) → b < 256 → not (eqb b 0x00 || eqb b 0x80) ≡ true → Written (b ∷ [])
+written-last b lt m = by (ltb b 0x80) refl (no-sign-byte b m)
+  where
+    by : (t : Bool) → ltb b 0x80 ≡ t → (b ≡ 0x00 → ⊥) × (b ≡ 0x80 → ⊥) → Written (b ∷ [])
+    by true e n =
+        let z : b + 0x00 ≡ b = omega arith in
+        written-one 0x00 b (b ∷ []) (omega arith) (omega (arith, n .0)) lt (rw (e, z))
+    by false e n =
+        let h : 0x80 ≤ b = ltb-false b 0x80 e in
+        let z : b - 0x80 + 0x80 ≡ b = omega arith in
+        written-one 0x80 (b - 0x80) (b ∷ []) (omega arith) (omega (arith, n .1)) (omega arith) (rw (lt-ltb (b - 0x80) 0x80 (omega arith), z))
+
+-- 00 or 80, behind a byte with its top bit set
+written-sign : (b c : ℕ) → b < 256 → Sign c → leb 0x80 b ≡ true → Written (b ∷ c ∷ [])
+written-sign b c lt s h =
+    let g : 0x80 ≤ b = leb-true 0x80 b h in
+    written-one c b (b ∷ c ∷ []) s (omega arith) lt (rw (le-ltb b 0x80 g))
+
+written-least : (b : ℕ) (l : Bytes) → AreBytes (b ∷ l) → minimal (b ∷ l) ≡ true → Written (b ∷ l)
+written-least b [] bs m = written-last b (bs .0) m
+written-least b (c ∷ []) bs m = by (not (eqb c 0x00 || eqb c 0x80)) refl m
+  where
+    by : (t : Bool) → not (eqb c 0x00 || eqb c 0x80) ≡ t → (leb 0x80 b || t) ≡ true → Written (b ∷ c ∷ [])
+    by true e h = written-more b (c ∷ []) (bs .0) (written-last c (bs .1 .0) e)
+    by false e h = written-sign b c (bs .0) (sign-byte c e) (rw (← (or-false (leb 0x80 b))) h)
+written-least b (c ∷ d ∷ l) bs m = written-more b (c ∷ d ∷ l) (bs .0) (written-least c (d ∷ l) (bs .1) m)
+
+accepted : (s t : Bool) (x i : Integer) → pick (s && t) (some x) none ≡ some i → (s ≡ true) × (t ≡ true)
+accepted true true x i e = (refl, refl)
+accepted true false x i e = let z : _≡_ {A = ℕ} 0 1 = cc in absurd (omega arith)
+accepted false t x i e = let z : _≡_ {A = ℕ} 0 1 = cc in absurd (omega arith)
+
+same-plus : (l : Bytes) (n : ℕ) (i : Integer) → NumberForm 0x00 n l → signed 0x00 (digits n n) ≡ l → length l ≤ 8
+    → deserialize l ≡ some i → serialize i ≡ l
+unfolding serialize
+same-plus l n i f same h e = let q : plus n ≡ i = cc (form-plus n l f h) in rw (← q) same
+
+same-minus : (l : Bytes) (n : ℕ) (i : Integer) → NumberForm 0x80 n l → signed 0x80 (digits n n) ≡ l → length l ≤ 8
+    → deserialize l ≡ some i → serialize i ≡ l
+unfolding serialize
+same-minus l n i f same h e = let q : minus n ≡ i = cc (form-minus n l f h) in rw (← q) same
+
+same-written : (l : Bytes) (i : Integer) → Written l → length l ≤ 8 → deserialize l ≡ some i → serialize i ≡ l
+same-written l i w h e = by (ltb (w .sign) 0x80) refl
+  where
+    same : signed (w .sign) (digits (w .n) (w .n)) ≡ l
+    same = w .same (w .n) (omega arith)
+
+    f : NumberForm (w .sign) (w .n) l
+    f = rw (← same) (form-written (w .sign) (w .n) (w .sign-is) (w .above))
+
+    by : (t : Bool) → ltb (w .sign) 0x80 ≡ t → serialize i ≡ l
+    by true p =
+        let s : w .sign ≡ 0x00 = omega (arith, ltb-true (w .sign) 0x80 p, w .sign-is) in
+        same-plus l (w .n) i (rw s at f) (rw s at same) h e
+    by false p =
+        let s : w .sign ≡ 0x80 = omega (arith, ltb-false (w .sign) 0x80 p, w .sign-is) in
+        same-minus l (w .n) i (rw s at f) (rw s at same) h e
+
+pub readWritten : (l : Bytes) (i : Integer) → AreBytes l → deserialize l ≡ some i → serialize i ≡ l
+unfolding serialize deserialize
+readWritten [] i bs e = let q : plus 0 ≡ i = cc in rw (← q)
+readWritten (b ∷ l) i bs e =
+    let a : (leb (length (b ∷ l)) 8 ≡ true) × (minimal (b ∷ l) ≡ true)
+    = accepted (leb (length (b ∷ l)) 8) (minimal (b ∷ l)) (value (b ∷ l)) i e in
+    same-written (b ∷ l) i (written-least b l bs (a .1)) (leb-true (length (b ∷ l)) 8 (a .0)) e
+
+-- By example
+
+-- i is written as l, and l is read as i
+abbrev Form : Integer → Bytes → Type 0
+Form i l = (serialize i ≡ l) × (deserialize l ≡ some i)
+
+-- -1 is 81, -128 is 80 80, 128 is 80 00, 255 is ff 00, -255 is ff 80
+pub numbersByExample :
+    Form (minus 1) (0x81 ∷ []) ×
+    Form (minus 128) (0x80 ∷ 0x80 ∷ []) ×
+    Form (plus 128) (0x80 ∷ 0x00 ∷ []) ×
+    Form (plus 255) (0xff ∷ 0x00 ∷ []) ×
+    Form (minus 255) (0xff ∷ 0x80 ∷ [])
+unfolding serialize deserialize
+numbersByExample = ((refl, refl), (refl, refl), (refl, refl), (refl, refl), (refl, refl))
+
+-- 2 ^ 63 takes 9 bytes, and is not read
+pub nineBytes : (deserialize (serialize (plus (2 ^ 63))) ≡ none) × (deserialize (serialize (minus (2 ^ 63))) ≡ none)
+unfolding serialize deserialize
+nineBytes = (refl, refl)
