@@ -1,6 +1,6 @@
--- The number form of Section 1, both ways. Whole numbers of up to 63 bits and a sign are read back from the bytes that are
--- written for them (`plusRead`, `minusRead`; zero has one form, `minusZero`), and bytes that are read as a number are those
--- that are written for it (`readWritten`). Five numbers are shown byte by byte (`numbersByExample`).
+-- The number form of Section 1, both ways. For n below 2 ^ 63, n and -n are read back from the bytes that are written for
+-- them (`plusRead`, `minusRead`; zero has one form, `minusZero`). Bytes that are read as a number are those that are
+-- written for it (`readWritten`). Numbers and refusals by example: `numbersByExample`, `notRead`.
 use mathlib.Core.Bool.{Bool, true, false, _&&_, _||_, not, or-true, or-false}
 use mathlib.Core.Path.{_≡_, refl, ap}
 use mathlib.Core.List.{[], _∷_}
@@ -19,8 +19,8 @@ use Rattle.definition.specs.Replay.{AreBytes}
 abbrev Sign : ℕ → Type 0
 Sign sign = (sign ≤ 0x80) × (sign % 0x80 ≡ 0)
 
--- These bytes are n, which is above 0, in number form with this sign. The last of them is at `top`, counted from 0, and
--- with fewer there is no room for n and the sign.
+-- These bytes are n, which is above 0, in number form with this sign. The last of them is at `top`, counted from 0; fewer
+-- have no room for n and the sign.
 record NumberForm (sign n : ℕ) (l : Bytes) : Type 0 where
   top : ℕ
   top-last : length l ≡ suc top
@@ -88,7 +88,7 @@ digits-zero : (most : ℕ) → digits most 0 ≡ []
 digits-zero zero = refl
 digits-zero (suc most) = refl
 
--- the digits of n with a sign are in number form, whatever they are counted down from
+-- the digits of n with a sign are in number form, for any `most` that is enough
 form-digits : (sign most n : ℕ) → Sign sign → n ≤ most → 1 ≤ n → NumberForm sign n (signed sign (digits most n))
 form-digits sign zero n s h pos = absurd (omega arith)
 form-digits sign (suc most) zero s h pos = absurd (omega arith)
@@ -131,7 +131,7 @@ form-minus n l f h =
 
 -- What is written is read back
 
--- what is written are bytes
+-- what is written is bytes
 pub bytesWritten : (i : Integer) → AreBytes (serialize i)
 unfolding serialize
 bytesWritten (plus zero) = tt
@@ -139,6 +139,7 @@ bytesWritten (plus (suc n)) = form-written 0x00 (suc n) (omega arith) (omega ari
 bytesWritten (minus zero) = tt
 bytesWritten (minus (suc n)) = form-written 0x80 (suc n) (omega arith) (omega arith) .bytes
 
+-- n
 pub plusRead : (n : ℕ) → n < 2 ^ 63 → deserialize (serialize (plus n)) ≡ some (plus n)
 unfolding serialize deserialize
 plusRead zero h = refl
@@ -146,6 +147,7 @@ plusRead (suc n) h =
     let f : NumberForm 0x00 (suc n) (serialize (plus (suc n))) = form-written 0x00 (suc n) (omega arith) (omega arith) in
     form-plus (suc n) (serialize (plus (suc n))) f (form-short 0x00 (suc n) (serialize (plus (suc n))) f h)
 
+-- n below zero
 pub minusRead : (n : ℕ) → 1 ≤ n → n < 2 ^ 63 → deserialize (serialize (minus n)) ≡ some (minus n)
 unfolding serialize
 minusRead n pos h =
@@ -159,7 +161,7 @@ minusZero = (refl, refl)
 
 -- What is read is what is written
 
--- these bytes are written for a number above 0
+-- these bytes are what is written for n, which is above 0, with this sign
 record Written (l : Bytes) : Type 0 where
   sign : ℕ
   n : ℕ
@@ -167,9 +169,9 @@ record Written (l : Bytes) : Type 0 where
   above : 1 ≤ n
   same : (most : ℕ) → n ≤ most → signed sign (digits most n) ≡ l
 
-digits-step : (most n : ℕ) → 1 ≤ n → digits (suc most) n ≡ n % 256 ∷ digits most (n / 256)
-digits-step most zero h = absurd (omega arith)
-digits-step most (suc n) h = refl
+digits-step : (most m b n : ℕ) → 1 ≤ m → m % 256 ≡ b → m / 256 ≡ n → digits (suc most) m ≡ b ∷ digits most n
+digits-step most zero b n pos p q = absurd (omega arith)
+digits-step most (suc m) b n pos p q = rw (p, q)
 
 signed-step : (sign b most n : ℕ) → 1 ≤ n → n ≤ most → signed sign (b ∷ digits most n) ≡ b ∷ signed sign (digits most n)
 signed-step sign b zero n pos h = absurd (omega arith)
@@ -182,10 +184,7 @@ written-one sign n l s pos lt e = record { sign = sign; n = n; sign-is = s; abov
   where
     by : (most : ℕ) → n ≤ most → signed sign (digits most n) ≡ l
     by zero h = absurd (omega arith)
-    by (suc most) h =
-        let m : n % 256 ≡ n = omega arith in
-        let d : n / 256 ≡ 0 = omega arith in
-        rw (digits-step most n pos, m, d, digits-zero most) e
+    by (suc most) h = rw (digits-step most n n 0 pos (omega arith) (omega arith), digits-zero most) e
 
 -- one byte more, the lowest
 written-more : (b : ℕ) (l : Bytes) → b < 256 → Written l → Written (b ∷ l)
@@ -194,9 +193,10 @@ written-more b l lt w = record { sign = w .sign; n = b + 256 * w .n; sign-is = w
     by : (most : ℕ) → b + 256 * w .n ≤ most → signed (w .sign) (digits most (b + 256 * w .n)) ≡ b ∷ l
     by zero h = absurd (omega (arith, w .above))
     by (suc most) h =
-        let m : (b + 256 * w .n) % 256 ≡ b = omega arith in
-        let d : (b + 256 * w .n) / 256 ≡ w .n = omega arith in
-        rw (digits-step most (b + 256 * w .n) (omega (arith, w .above)), m, d, signed-step (w .sign) b most (w .n) (w .above) (omega (arith, w .above)), w .same most (omega (arith, w .above)))
+        let above : 1 ≤ w .n = w .above in
+        let fits : w .n ≤ most = omega arith in
+        let step : digits (suc most) (b + 256 * w .n) ≡ b ∷ digits most (w .n) = digits-step most (b + 256 * w .n) b (w .n) (omega arith) (omega arith) (omega arith) in
+        rw (step, signed-step (w .sign) b most (w .n) above fits, w .same most fits)
 
 -- a byte that is 00 or 80, and one that is not
 sign-byte : (b : ℕ) → not (eqb b 0x00 || eqb b 0x80) ≡ false → Sign b
@@ -278,28 +278,34 @@ same-written l i w h e = by (ltb (w .sign) 0x80) refl
 pub readWritten : (l : Bytes) (i : Integer) → AreBytes l → deserialize l ≡ some i → serialize i ≡ l
 unfolding serialize deserialize
 readWritten [] i bs e = let q : plus 0 ≡ i = cc in rw (← q)
-readWritten (b ∷ l) i bs e =
-    let a : (leb (length (b ∷ l)) 8 ≡ true) × (minimal (b ∷ l) ≡ true)
-    = accepted (leb (length (b ∷ l)) 8) (minimal (b ∷ l)) (value (b ∷ l)) i e in
-    same-written (b ∷ l) i (written-least b l bs (a .1)) (leb-true (length (b ∷ l)) 8 (a .0)) e
+readWritten (b ∷ l) i bs e = by (accepted (leb (length (b ∷ l)) 8) (minimal (b ∷ l)) (value (b ∷ l)) i e)
+  where
+    by : (leb (length (b ∷ l)) 8 ≡ true) × (minimal (b ∷ l) ≡ true) → serialize i ≡ b ∷ l
+    by a = same-written (b ∷ l) i (written-least b l bs (a .1)) (leb-true (length (b ∷ l)) 8 (a .0)) e
 
 -- By example
 
 -- i is written as l, and l is read as i
-abbrev Form : Integer → Bytes → Type 0
-Form i l = (serialize i ≡ l) × (deserialize l ≡ some i)
+abbrev BothWays : Integer → Bytes → Type 0
+BothWays i l = (serialize i ≡ l) × (deserialize l ≡ some i)
 
 -- -1 is 81, -128 is 80 80, 128 is 80 00, 255 is ff 00, -255 is ff 80
 pub numbersByExample :
-    Form (minus 1) (0x81 ∷ []) ×
-    Form (minus 128) (0x80 ∷ 0x80 ∷ []) ×
-    Form (plus 128) (0x80 ∷ 0x00 ∷ []) ×
-    Form (plus 255) (0xff ∷ 0x00 ∷ []) ×
-    Form (minus 255) (0xff ∷ 0x80 ∷ [])
+    BothWays (minus 1) (0x81 ∷ []) ×
+    BothWays (minus 128) (0x80 ∷ 0x80 ∷ []) ×
+    BothWays (plus 128) (0x80 ∷ 0x00 ∷ []) ×
+    BothWays (plus 255) (0xff ∷ 0x00 ∷ []) ×
+    BothWays (minus 255) (0xff ∷ 0x80 ∷ [])
 unfolding serialize deserialize
 numbersByExample = ((refl, refl), (refl, refl), (refl, refl), (refl, refl), (refl, refl))
 
--- 2 ^ 63 takes 9 bytes, and is not read
-pub nineBytes : (deserialize (serialize (plus (2 ^ 63))) ≡ none) × (deserialize (serialize (minus (2 ^ 63))) ≡ none)
+-- "Reading refuses over 8 bytes": 2 ^ 63 takes 9, above and below zero; "and a last byte of 00 or 80": 00, 80, 7f 00, 7f 80
+pub notRead :
+    (deserialize (serialize (plus (2 ^ 63))) ≡ none) ×
+    (deserialize (serialize (minus (2 ^ 63))) ≡ none) ×
+    (deserialize (0x00 ∷ []) ≡ none) ×
+    (deserialize (0x80 ∷ []) ≡ none) ×
+    (deserialize (0x7f ∷ 0x00 ∷ []) ≡ none) ×
+    (deserialize (0x7f ∷ 0x80 ∷ []) ≡ none)
 unfolding serialize deserialize
-nineBytes = (refl, refl)
+notRead = (refl, refl, refl, refl, refl, refl)
