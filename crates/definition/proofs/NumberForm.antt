@@ -1,6 +1,6 @@
 -- The number form of Section 1, both ways. For n below 2 ^ 63, n and -n are read back from the bytes that are written for
 -- them (`plusRead`, `minusRead`; zero has one form, `minusZero`). Bytes that are read as a number are those that are
--- written for it (`readWritten`). Numbers and refusals by example: `numbersByExample`, `notRead`.
+-- written for it (`readWritten`). First, numbers and refusals by example (`numbersByExample`, `notRead`).
 use mathlib.Core.Bool.{Bool, true, false, _&&_, _||_, not, or-true, or-false}
 use mathlib.Core.Path.{_≡_, refl, ap}
 use mathlib.Core.List.{[], _∷_}
@@ -14,6 +14,35 @@ use lib.ListN.{length}
 use Rattle.definition.specs.Basics.{Bytes, pick}
 use Rattle.definition.specs.Decoding.{number, Integer, plus, minus, digits, signed, serialize, last, minimal, value, deserialize}
 use Rattle.definition.specs.Replay.{AreBytes}
+
+-- By example
+
+-- i is written as l, and l is read as i
+abbrev BothWays : Integer → Bytes → Type 0
+BothWays i l = (serialize i ≡ l) × (deserialize l ≡ some i)
+
+-- -1 is 81, -128 is 80 80, 128 is 80 00, 255 is ff 00, -255 is ff 80
+pub numbersByExample :
+    BothWays (minus 1) (0x81 ∷ []) ×
+    BothWays (minus 128) (0x80 ∷ 0x80 ∷ []) ×
+    BothWays (plus 128) (0x80 ∷ 0x00 ∷ []) ×
+    BothWays (plus 255) (0xff ∷ 0x00 ∷ []) ×
+    BothWays (minus 255) (0xff ∷ 0x80 ∷ [])
+unfolding serialize deserialize
+numbersByExample = ((refl, refl), (refl, refl), (refl, refl), (refl, refl), (refl, refl))
+
+-- "Reading refuses over 8 bytes": 2 ^ 63 takes 9, above and below zero; "and a last byte of 00 or 80": 00, 80, 7f 00, 7f 80
+pub notRead :
+    (deserialize (serialize (plus (2 ^ 63))) ≡ none) ×
+    (deserialize (serialize (minus (2 ^ 63))) ≡ none) ×
+    (deserialize (0x00 ∷ []) ≡ none) ×
+    (deserialize (0x80 ∷ []) ≡ none) ×
+    (deserialize (0x7f ∷ 0x00 ∷ []) ≡ none) ×
+    (deserialize (0x7f ∷ 0x80 ∷ []) ≡ none)
+unfolding serialize deserialize
+notRead = (refl, refl, refl, refl, refl, refl)
+
+-- In number form
 
 -- 00 or 80
 abbrev Sign : ℕ → Type 0
@@ -282,30 +311,3 @@ readWritten (b ∷ l) i bs e = by (accepted (leb (length (b ∷ l)) 8) (minimal 
   where
     by : (leb (length (b ∷ l)) 8 ≡ true) × (minimal (b ∷ l) ≡ true) → serialize i ≡ b ∷ l
     by a = same-written (b ∷ l) i (written-least b l bs (a .1)) (leb-true (length (b ∷ l)) 8 (a .0)) e
-
--- By example
-
--- i is written as l, and l is read as i
-abbrev BothWays : Integer → Bytes → Type 0
-BothWays i l = (serialize i ≡ l) × (deserialize l ≡ some i)
-
--- -1 is 81, -128 is 80 80, 128 is 80 00, 255 is ff 00, -255 is ff 80
-pub numbersByExample :
-    BothWays (minus 1) (0x81 ∷ []) ×
-    BothWays (minus 128) (0x80 ∷ 0x80 ∷ []) ×
-    BothWays (plus 128) (0x80 ∷ 0x00 ∷ []) ×
-    BothWays (plus 255) (0xff ∷ 0x00 ∷ []) ×
-    BothWays (minus 255) (0xff ∷ 0x80 ∷ [])
-unfolding serialize deserialize
-numbersByExample = ((refl, refl), (refl, refl), (refl, refl), (refl, refl), (refl, refl))
-
--- "Reading refuses over 8 bytes": 2 ^ 63 takes 9, above and below zero; "and a last byte of 00 or 80": 00, 80, 7f 00, 7f 80
-pub notRead :
-    (deserialize (serialize (plus (2 ^ 63))) ≡ none) ×
-    (deserialize (serialize (minus (2 ^ 63))) ≡ none) ×
-    (deserialize (0x00 ∷ []) ≡ none) ×
-    (deserialize (0x80 ∷ []) ≡ none) ×
-    (deserialize (0x7f ∷ 0x00 ∷ []) ≡ none) ×
-    (deserialize (0x7f ∷ 0x80 ∷ []) ≡ none)
-unfolding serialize deserialize
-notRead = (refl, refl, refl, refl, refl, refl)
