@@ -163,7 +163,7 @@ module _ (R : Rules) where
   back i (ordinary o) dead fs = dead-back (ordinary o) dead fs (λ e n. refl)
   back i (ordinary o) (live s) fs = moved-back (ordinary o) ((λ choices. refl), (λ e n. refl)) s fs (step marking R i o s)
   back i (plain pops pushes) dead fs = dead-back (plain pops pushes) dead fs (λ e n. refl)
-  back i (plain pops pushes) (live s) fs = moved-back (plain pops pushes) ((λ choices. refl), (λ e n. refl)) s fs (plainStep marking R pops pushes s)
+  back i (plain pops pushes) (live s) fs = moved-back (plain pops pushes) ((λ choices. refl), (λ e n. refl)) s fs (plainStep marking (R .limit) pops pushes s)
 
   -- from a mode and choices that begin with those found, and end in the ones given
   abbrev Routed : List Instruction → Arm → List Frame → List Bool → ℕ → Type 0
@@ -203,7 +203,7 @@ carry-steers R i ELSE r = (refl, refl)
 carry-steers R i ENDIF r = (refl, refl)
 carry-steers R i RETURN r = tt
 carry-steers R i (ordinary o) r = carriedOut-steers (step (replaying (r .results)) R i o (r .stacks)) _ _ _
-carry-steers R i (plain pops pushes) r = carriedOut-steers (plainStep (replaying (r .results)) R pops pushes (r .stacks)) _ _ _
+carry-steers R i (plain pops pushes) r = carriedOut-steers (plainStep (replaying (r .results)) (R .limit) pops pushes (r .stacks)) _ _ _
 
 act-steers : (R : Rules) (i : Instruction) (k : Class) (m : Mode) (r : Replay) → Steers (act R i k m r) (steer k m (r .choices))
 act-steers R i k running r = carry-steers R i k r

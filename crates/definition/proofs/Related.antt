@@ -208,15 +208,15 @@ step-agrees v R i (copies depth count) h = copyItems-agrees h (R .limit) depth c
 step-agrees v R i (rotates count shift) h = rotateItems-agrees h count shift
 
 -- and whatever an instruction of a plain class does
-pub plainStep-agrees : (v : List Bytes) (R : Rules) (pops pushes : ℕ) {s : Stacks Item} {t : Stacks Bytes} → PairedStacks s t
-    → Agree (plainStep marking R pops pushes s) (plainStep (replaying v) R pops pushes t)
+pub plainStep-agrees : (v : List Bytes) (limit pops pushes : ℕ) {s : Stacks Item} {t : Stacks Bytes} → PairedStacks s t
+    → Agree (plainStep marking limit pops pushes s) (plainStep (replaying v) limit pops pushes t)
 unfolding plainStep
-plainStep-agrees v R pops pushes h = onDone-agrees _ _ (dropItems-agrees h pops) (λ s t g. results pushes g)
+plainStep-agrees v limit pops pushes h = onDone-agrees _ _ (dropItems-agrees h pops) (λ s t g. results pushes g)
   where
     results : (n : ℕ) {s : Stacks Item} {t : Stacks Bytes} → PairedStacks s t
-        → Agree (pushResults marking (R .limit) n s) (pushResults (replaying v) (R .limit) n t)
+        → Agree (pushResults marking limit n s) (pushResults (replaying v) limit n t)
     results zero g = agree g
-    results (suc n) g = pushItem-agrees g (R .limit) _ _ tt
+    results (suc n) g = pushItem-agrees g limit _ _ tt
 
 -- The limit
 
@@ -328,12 +328,12 @@ step-within I R i (copies depth count) s h = copyItems-within (R .limit) depth c
 step-within I R i (rotates count shift) s h = rotateItems-within (R .limit) count shift s h
 
 -- nor one of a plain class
-pub plainStep-within : {A : Type 0} (I : Items A) (R : Rules) (pops pushes : ℕ) (s : Stacks A) → total s ≤ R .limit
-    → Within (R .limit) (plainStep I R pops pushes s)
+pub plainStep-within : {A : Type 0} (I : Items A) (limit pops pushes : ℕ) (s : Stacks A) → total s ≤ limit
+    → Within limit (plainStep I limit pops pushes s)
 unfolding plainStep
-plainStep-within {A = A} I R pops pushes s h =
-    onDone-within (R .limit) (dropItems pops s) _ (dropItems-within (R .limit) pops s h) (λ t g. results pushes t g)
+plainStep-within {A = A} I limit pops pushes s h =
+    onDone-within limit (dropItems pops s) _ (dropItems-within limit pops s h) (λ t g. results pushes t g)
   where
-    results : (n : ℕ) (t : Stacks A) → total t ≤ R .limit → Within (R .limit) (pushResults I (R .limit) n t)
+    results : (n : ℕ) (t : Stacks A) → total t ≤ limit → Within limit (pushResults I limit n t)
     results zero t g = g
-    results (suc n) t g = pushItem-within (R .limit) _ t
+    results (suc n) t g = pushItem-within limit _ t

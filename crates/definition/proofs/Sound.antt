@@ -260,11 +260,11 @@ module _ (R : Rules) (i : Instruction) (r : Replay) where
   act-next (ordinary o) (jumping false n) (live s) fs h = moved-waits (jumping false n) (step marking R i o s) fs (λ c. h)
   act-next (plain pops pushes) running dead fs h = absurd h
   act-next (plain pops pushes) running (live s) fs h =
-      moved-next fs (drop pushes (r .results)) (plainStep-agrees (r .results) R pops pushes h)
+      moved-next fs (drop pushes (r .results)) (plainStep-agrees (r .results) (R .limit) pops pushes h)
   act-next (plain pops pushes) (jumping true n) dead fs h = h
-  act-next (plain pops pushes) (jumping true n) (live s) fs h = moved-waits (jumping true n) (plainStep marking R pops pushes s) fs (λ c. h)
+  act-next (plain pops pushes) (jumping true n) (live s) fs h = moved-waits (jumping true n) (plainStep marking (R .limit) pops pushes s) fs (λ c. h)
   act-next (plain pops pushes) (jumping false n) dead fs h = h
-  act-next (plain pops pushes) (jumping false n) (live s) fs h = moved-waits (jumping false n) (plainStep marking R pops pushes s) fs (λ c. h)
+  act-next (plain pops pushes) (jumping false n) (live s) fs h = moved-waits (jumping false n) (plainStep marking (R .limit) pops pushes s) fs (λ c. h)
 
 -- Whole replays
 
@@ -368,8 +368,8 @@ module _ (R : Rules) (x : ℕ) where
   carry-stays i (ordinary o) r h =
       carriedOut-stays (step (replaying (r .results)) R i o (r .stacks)) _ _ _ (step-within (replaying (r .results)) R i o (r .stacks) h)
   carry-stays i (plain pops pushes) r h =
-      carriedOut-stays (plainStep (replaying (r .results)) R pops pushes (r .stacks)) _ _ _
-      (plainStep-within (replaying (r .results)) R pops pushes (r .stacks) h)
+      carriedOut-stays (plainStep (replaying (r .results)) (R .limit) pops pushes (r .stacks)) _ _ _
+      (plainStep-within (replaying (r .results)) (R .limit) pops pushes (r .stacks) h)
 
   traced-stays : (a : Carried) (u : Stacks Bytes) (next : Mode → Replay → Trace) → total u ≤ R .limit → Stays a
       → ((m : Mode) (r : Replay) → total (r .stacks) ≤ R .limit → HasTotal x (next m r) → x ≤ R .limit) → HasTotal x (onCarried a u next) → x ≤ R .limit

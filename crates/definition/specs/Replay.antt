@@ -61,7 +61,7 @@ carry R i ENDIF r = goesOn running r
 carry R i RETURN r = halts
 carry R i (ordinary o) r = carriedOut (step (replaying (r .results)) R i o (r .stacks)) running (r .choices) (r .results)
 carry R i (plain pops pushes) r =
-    carriedOut (plainStep (replaying (r .results)) R pops pushes (r .stacks)) running (r .choices) (drop pushes (r .results))
+    carriedOut (plainStep (replaying (r .results)) (R .limit) pops pushes (r .stacks)) running (r .choices) (drop pushes (r .results))
 
 -- the mode after an instruction that is jumped over
 abbrev pub past : Class → Bool → ℕ → Mode

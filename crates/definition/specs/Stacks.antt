@@ -183,5 +183,5 @@ module _ {A : Type 0} (I : Items A) where
   pushResults limit (suc n) s = pushItem limit (I .result) s
 
   -- what an instruction of a plain class does
-  unfoldable pub plainStep : Rules → ℕ → ℕ → Stacks A → Outcome A
-  plainStep R pops pushes s = onDone (dropItems pops s) refused (pushResults (R .limit) pushes)
+  unfoldable pub plainStep : ℕ → ℕ → ℕ → Stacks A → Outcome A
+  plainStep limit pops pushes s = onDone (dropItems pops s) refused (pushResults limit pushes)

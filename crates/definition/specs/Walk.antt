@@ -126,7 +126,7 @@ effect R i RETURN c fs = moves dead fs
 effect R i (ordinary o) dead fs = moves dead fs
 effect R i (ordinary o) (live s) fs = onOutcome (step marking R i o s) fs
 effect R i (plain pops pushes) dead fs = moves dead fs
-effect R i (plain pops pushes) (live s) fs = onOutcome (plainStep marking R pops pushes s) fs
+effect R i (plain pops pushes) (live s) fs = onOutcome (plainStep marking (R .limit) pops pushes s) fs
 
 -- The log
 

@@ -13,7 +13,7 @@ use Rattle.definition.specs.Basics.{Bytes}
 use Rattle.definition.specs.Decoding.{Instruction, decode, instructions, malformedAt}
 use Rattle.definition.specs.Papers.{Fragment, field, partAt, bytesOf, entries, mostParameters, fragments}
 use Rattle.definition.specs.Stacks.{Rules, Stacks, builtIn}
-use Rattle.definition.specs.Walk.{Item, Move, moves, refuses, move, Frame, State, met, onward, follow, atEnd, walk, marked, begin, unknowns, tested, Marked, analysisOf, analysis}
+use Rattle.definition.specs.Walk.{Item, Move, moves, refuses, effect, Frame, State, met, onward, follow, atEnd, walk, marked, begin, unknowns, tested, Marked, analysisOf, analysis}
 use Rattle.stack_analysis.specs.View.{packedVerdict}
 use Rattle.stack_analysis.specs.declared.Verdict.{Verdict}
 use Rattle.header.specs.View.{fragmentAt}
@@ -30,7 +30,7 @@ module _ (R : Rules) where
   rows-walk : (is : List Instruction) (s : State) → marked (walk R is s) .verdict .rows ≤ s .rows + length is
   unfolding walk
   rows-walk [] s = omega (arith, rows-end (s .frames) s)
-  rows-walk (i ∷ is) s = by (λ t. rows-walk is t) (move R i (R .classOf (i .opcode)) (s .arm) (s .frames))
+  rows-walk (i ∷ is) s = by (λ t. rows-walk is t) (effect R i (R .classFor (i .opcode)) (s .arm) (s .frames))
     where
       by : ((t : State) → marked (walk R is t) .verdict .rows ≤ t .rows + length is) → (m : Move)
           → marked (follow m (met i s) (λ t. walk R is t)) .verdict .rows ≤ s .rows + suc (length is)

@@ -3,7 +3,7 @@ use mathlib.Core.List.{List, _++_, map, reverse}
 use mathlib.Core.Path.{_≡_}
 use Prim.Native.Nat.{ℕ, zero, suc, _+_, _-_, _≤_}
 use lib.ListN.{length, replicate}
-use Rattle.definition.specs.Classes.{Ordinary, drops, makes}
+use Rattle.definition.specs.Classes.{Ordinary}
 use Rattle.definition.specs.Decoding.{Instruction}
 use Rattle.definition.specs.Refusals as D
 use Rattle.definition.specs.Stacks as S
@@ -62,11 +62,6 @@ pub record Says (r : Stepped) (o : S.Outcome Item) : Type 0 where
 pub record Steps (r : Stepped) (limit : ℕ) (o : Ordinary) (s : S.Stacks Item) : Type 0 where
   pub fit : Fit (r .stacks)
   pub same : (R : S.Rules) (i : Instruction) → R .limit ≡ limit → outcome (r .answer) (view (r .stacks)) ≡ S.step marking R i o s
-
--- the plain class that pops so many, and pushes no item, or one
-abbrev pub plain : ℕ → ℕ → Ordinary
-plain pops zero = drops pops
-plain pops (suc pushes) = makes pops
 
 -- so many unknown items on each stack
 pub record Fresh (main alt : ℕ) (s : Stacks) : Type 0 where

@@ -3,12 +3,12 @@ ghost use mathlib.Core.Path.{_≡_};
 ghost use mathlib.Core.Bool.{true, false};
 ghost use Prim.Native.Nat.{_+_, _≤_};
 ghost use Rattle.definition.specs.Classes.{DEPTH, SIZE, PICK, ZK};
-ghost use Rattle.definition.specs.Stacks.{pushItem, dropItems, copyItems, rotateItems, tuckTop, nipSecond, moveToAlt, moveFromAlt, popIndex, zkDrop};
+ghost use Rattle.definition.specs.Stacks.{pushItem, dropItems, copyItems, rotateItems, tuckTop, nipSecond, moveToAlt, moveFromAlt, popIndex, zkDrop, plainStep};
 ghost use Rattle.definition.specs.Decoding.{indexOf};
 ghost use Rattle.definition.specs.Walk.{exact, bytesKnown, marking, joinStacks};
 ghost use Rattle.decode.specs.View.{lowBytes, itemOf, Held};
 ghost use Rattle.slots.specs.View.{slotItem, codeOf, sufficient};
-ghost use Rattle.stack.specs.View.{view, packed, plain, Fit, Fresh, Says, Steps};
+ghost use Rattle.stack.specs.View.{view, packed, Fit, Fresh, Says, Steps};
 ghost use Rattle.stack.specs.Parts.{countOf, Pops};
 use decode::Index;
 use decode::Value;
@@ -198,7 +198,7 @@ impl Stacks {
         requires { ⌜ Fit self ⌝ }
         requires { ⌜ pushes ≤ 1 ⌝ }
         requires { ⌜ limit ≤ 244 ⌝ }
-        ensures { λ r. ⌜ Steps r limit (plain pops pushes) (view self) ⌝ }
+        ensures { λ r. ⌜ Says r (plainStep marking limit pops pushes (view self)) ⌝ }
     {
         let m = self.mains;
         let a = self.alts;

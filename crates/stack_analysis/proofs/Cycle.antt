@@ -11,7 +11,7 @@ use Rattle.walk.proofs.Stop.{the-type}
 use Rattle.definition.specs.Basics.{Bytes}
 use Rattle.definition.specs.Decoding.{instructions}
 use Rattle.definition.specs.Stacks.{Rules, builtIn}
-use Rattle.definition.specs.Walk.{Arm, First, notEnded, ended, Frame}
+use Rattle.definition.specs.Walk.{Arm, FirstArm, notEnded, ended, Frame}
 use Rattle.decode.specs.View.{codeAt}
 use Rattle.stack.specs.View.{Fit}
 use Rattle.stack.specs.declared.Refusal.{Refusal}

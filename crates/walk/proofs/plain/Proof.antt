@@ -9,7 +9,7 @@ use Rattle.decode.proofs.Codes.{code-instruction, code-ends, code-malformed}
 use Rattle.stack.proofs.Values.{unknown-suffices, held-exact, code-wants, push-is-unknown, push-is-code, push-is-exact}
 use Rattle.walk.specs.declared.Stop.the-variants.{Running}
 use Rattle.walk.proofs.Rows.{row-written, high-of, not-live, is-live}
-use Rattle.walk.proofs.Loop.{walkOf, Walking, walking-none, runs-from, Met, was-refused, none-left, row-room, no-instruction, ready-running, nearer, class-left, met-copies, met-else, met-endif, met-from-alt, met-if, met-nip, met-nothing, met-notif, met-push, met-return, met-roll, met-rotates, met-skipped, met-steps, met-to-alt, met-tuck, met-unmodelled}
+use Rattle.walk.proofs.Loop.{walkOf, Walking, walking-none, runs-from, Met, was-refused, none-left, row-room, no-instruction, ready-running, nearer, class-left, met-copies, met-else, met-endif, met-from-alt, met-if, met-nip, met-nothing, met-notif, met-push, met-return, met-roll, met-rotates, met-skipped, met-steps, met-plain, met-to-alt, met-tuck, met-unmodelled}
 use Rattle.walk.proofs.plain.Statement.{statement}
 use Rattle.walk.proofs.plain.Tie as tie
 use Rattle.walk.proofs.plain.Reads as reads
@@ -368,7 +368,7 @@ loop-less-25 : tie.Need-loop-less-25 Inv-loop μ-loop
 loop-less-25 c = nearer (met (c .before .before .before .before .before))
 
 loop-again-25 : tie.Need-loop-again-25 Inv-loop μ-loop
-loop-again-25 c = met-steps (met (c .before .before .before .before .before)) (is-live _ (c .before .before .before .if1 .left)) (c .apply-effect .result) 26 _ (c .before .before .match4 .keys21) refl (c .apply-effect .ensures)
+loop-again-25 c = met-plain (met (c .before .before .before .before .before)) 26 1 0 (c .before .before .match4 .keys21) refl (is-live _ (c .before .before .before .if1 .left)) (c .apply-effect .result) (c .apply-effect .ensures)
 
 apply-effect-requires-2 : tie.Need-apply-effect-requires-2 Inv-loop μ-loop
 apply-effect-requires-2 c κs = search needs
@@ -377,7 +377,7 @@ loop-less-26 : tie.Need-loop-less-26 Inv-loop μ-loop
 loop-less-26 c = nearer (met (c .before .before .before .before .before))
 
 loop-again-26 : tie.Need-loop-again-26 Inv-loop μ-loop
-loop-again-26 c = met-steps (met (c .before .before .before .before .before)) (is-live _ (c .before .before .before .if1 .left)) (c .apply-effect2 .result) 27 _ (c .before .before .match4 .keys22) refl (c .apply-effect2 .ensures)
+loop-again-26 c = met-plain (met (c .before .before .before .before .before)) 27 2 0 (c .before .before .match4 .keys22) refl (is-live _ (c .before .before .before .if1 .left)) (c .apply-effect2 .result) (c .apply-effect2 .ensures)
 
 apply-effect-requires-3 : tie.Need-apply-effect-requires-3 Inv-loop μ-loop
 apply-effect-requires-3 c κs = search needs
@@ -386,7 +386,7 @@ loop-less-27 : tie.Need-loop-less-27 Inv-loop μ-loop
 loop-less-27 c = nearer (met (c .before .before .before .before .before))
 
 loop-again-27 : tie.Need-loop-again-27 Inv-loop μ-loop
-loop-again-27 c = met-steps (met (c .before .before .before .before .before)) (is-live _ (c .before .before .before .if1 .left)) (c .apply-effect3 .result) 28 _ (c .before .before .match4 .keys23) refl (c .apply-effect3 .ensures)
+loop-again-27 c = met-plain (met (c .before .before .before .before .before)) 28 0 1 (c .before .before .match4 .keys23) refl (is-live _ (c .before .before .before .if1 .left)) (c .apply-effect3 .result) (c .apply-effect3 .ensures)
 
 apply-effect-requires-4 : tie.Need-apply-effect-requires-4 Inv-loop μ-loop
 apply-effect-requires-4 c κs = search needs
@@ -395,7 +395,7 @@ loop-less-28 : tie.Need-loop-less-28 Inv-loop μ-loop
 loop-less-28 c = nearer (met (c .before .before .before .before .before))
 
 loop-again-28 : tie.Need-loop-again-28 Inv-loop μ-loop
-loop-again-28 c = met-steps (met (c .before .before .before .before .before)) (is-live _ (c .before .before .before .if1 .left)) (c .apply-effect4 .result) 29 _ (c .before .before .match4 .keys24) refl (c .apply-effect4 .ensures)
+loop-again-28 c = met-plain (met (c .before .before .before .before .before)) 29 1 1 (c .before .before .match4 .keys24) refl (is-live _ (c .before .before .before .if1 .left)) (c .apply-effect4 .result) (c .apply-effect4 .ensures)
 
 apply-effect-requires-5 : tie.Need-apply-effect-requires-5 Inv-loop μ-loop
 apply-effect-requires-5 c κs = search needs
@@ -404,7 +404,7 @@ loop-less-29 : tie.Need-loop-less-29 Inv-loop μ-loop
 loop-less-29 c = nearer (met (c .before .before .before .before .before))
 
 loop-again-29 : tie.Need-loop-again-29 Inv-loop μ-loop
-loop-again-29 c = met-steps (met (c .before .before .before .before .before)) (is-live _ (c .before .before .before .if1 .left)) (c .apply-effect5 .result) 30 _ (c .before .before .match4 .keys25) refl (c .apply-effect5 .ensures)
+loop-again-29 c = met-plain (met (c .before .before .before .before .before)) 30 3 1 (c .before .before .match4 .keys25) refl (is-live _ (c .before .before .before .if1 .left)) (c .apply-effect5 .result) (c .apply-effect5 .ensures)
 
 apply-effect-requires-6 : tie.Need-apply-effect-requires-6 Inv-loop μ-loop
 apply-effect-requires-6 c κs = search needs
@@ -413,7 +413,7 @@ loop-less-30 : tie.Need-loop-less-30 Inv-loop μ-loop
 loop-less-30 c = nearer (met (c .before .before .before .before .before))
 
 loop-again-30 : tie.Need-loop-again-30 Inv-loop μ-loop
-loop-again-30 c = met-steps (met (c .before .before .before .before .before)) (is-live _ (c .before .before .before .if1 .left)) (c .apply-effect6 .result) 31 _ (c .before .before .match4 .keys26) refl (c .apply-effect6 .ensures)
+loop-again-30 c = met-plain (met (c .before .before .before .before .before)) 31 2 1 (c .before .before .match4 .keys26) refl (is-live _ (c .before .before .before .if1 .left)) (c .apply-effect6 .result) (c .apply-effect6 .ensures)
 
 loop-less-31 : tie.Need-loop-less-31 Inv-loop μ-loop
 loop-less-31 c = nearer (met (c .before .before .before .before))
