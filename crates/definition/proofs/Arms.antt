@@ -11,7 +11,7 @@ use lib.ListN.{length, getD, set, length-set}
 use lib.Seq.{getD-set-same, getD-set-other, length-sets}
 use Rattle.definition.specs.Decoding.{Instruction}
 use Rattle.definition.specs.Stacks.{Rules, total}
-use Rattle.definition.specs.Walk.{Arm, dead, live, Frame, Move, moves, refuses, effect, heightsOf, logRow, State, met, totalOf, onward, Walked, passed, follow, atEnd, walk}
+use Rattle.definition.specs.Walk.{Arm, dead, live, Frame, Move, moves, refuses, effect, heightsOf, logRow, State, met, totalOf, onward, WalkEnd, passed, follow, atEnd, walk}
 
 -- a move that must lead on, and to what
 abbrev pub Goes : Move → (Arm → List Frame → Type 0) → Type 0
@@ -98,7 +98,7 @@ module _ (k offset : ℕ) (c : Arm) (log : List ℕ) where
   )
 
 module _ (R : Rules) (t : State) where
-  through : {P : Type 0} (mv : Move) (s : State) (next : State → Walked) → follow mv s next ≡ passed t
+  through : {P : Type 0} (mv : Move) (s : State) (next : State → WalkEnd) → follow mv s next ≡ passed t
       → ((c : Arm) (fs : List Frame) → mv ≡ moves c fs → next (onward c fs s) ≡ passed t → P) → P
   through (moves c fs) s next h f = f c fs refl h
   through (refuses r) s next h f = let z : _≡_ {A = ℕ} 0 1 = cc in absurd (omega arith)

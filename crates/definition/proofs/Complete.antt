@@ -14,7 +14,7 @@ use Rattle.definition.specs.Classes.{Class, IF, NOTIF, ELSE, ENDIF, RETU
 use Rattle.definition.specs.Refusals.{nesting, maxOpen}
 use Rattle.definition.specs.Stacks.{Rules, Stacks, Outcome, done, refused, dropItems, step, plainStep}
 use Rattle.definition.specs.Walk.{Item, unknown, exact, marking, Arm, dead, live, FirstArm, notEnded, ended, Frame, Move, moves, refuses, onOutcome, join, onIf, conditional, onElse, onEndif, effect}
-use Rattle.definition.specs.Replay.{Replay, replaying, Mode, running, jumping, Carried, goesOn, halts, fails, carriedOut, chosen, branches, carry, past, Trace, visit, onCarried, replay, wholeReplay, ShowsAll, ShowsStacks, AreStrings, ReplayOf}
+use Rattle.definition.specs.Replay.{Replay, replaying, Mode, running, jumping, Carried, goesOn, halts, fails, carriedOut, chosen, branches, carry, past, Trace, visit, onCarried, replayFrom, wholeReplay, ShowsAll, ShowsStacks, AreStrings, ReplayOf}
 use Rattle.definition.proofs.Related.{pairedStacks}
 use Rattle.definition.proofs.Arms.{Goes, Accepts, after, armAt, Alive}
 use Rattle.definition.proofs.Sound.{Leads, opened, LiveAs, Joins, join-leads, Waits, Inv, Next, act, act-next}
@@ -213,13 +213,13 @@ act-steers R i k (jumping toElse n) r = (refl, refl)
 module _ (R : Rules) (P : Trace → Type 0) (earlier : (k : ℕ) (u : Stacks Bytes) (t : Trace) → P t → P (visit k u t)) where
   -- P holds of each replay that comes to the instruction j places on, there at place x, with stacks that its arm shows
   abbrev There : List Instruction → Arm → ℕ → ℕ → Type 0
-  There is c j x = (r : Replay) → LiveAs c (r .stacks) → P (replay R (drop j is) x running r)
+  There is c j x = (r : Replay) → LiveAs c (r .stacks) → P (replayFrom R (drop j is) x running r)
 
   traced-follows : (is : List Instruction) (k : ℕ) (u : Stacks Bytes) (j x : ℕ) (mv : Move) (a : Carried) (w : Turn) → Next mv a → Steers a w
       → Goes mv (λ c fs. Accepts R is c fs) → Then w (λ m choices. Route R is m choices j) → There is (after mv (λ c fs. armAt R is c fs j)) j x
       → ((c : Arm) (fs : List Frame) (m : Mode) (r : Replay) → Accepts R is c fs → Inv m (r .stacks) c fs → Route R is m (r .choices) j
-      → There is (armAt R is c fs j) j x → P (replay R is (k + 1) m r))
-      → P (onCarried a u (λ m r. replay R is (k + 1) m r))
+      → There is (armAt R is c fs j) j x → P (replayFrom R is (k + 1) m r))
+      → P (onCarried a u (λ m r. replayFrom R is (k + 1) m r))
   traced-follows is k u j x (moves c fs) (goesOn m r) (turn m′ choices) h s g p q f = f c fs m r g h (rw (s .0, s .1) p) q
   traced-follows is k u j x (moves c fs) (goesOn m r) over h s g p q f = absurd s
   traced-follows is k u j x (moves c fs) halts (turn m choices) h s g p q f = absurd s
@@ -228,8 +228,8 @@ module _ (R : Rules) (P : Trace → Type 0) (earlier : (k : ℕ) (u : Stacks Byt
   traced-follows is k u j x (refuses y) a w h s g p q f = absurd g
 
   follows : (is : List Instruction) (k : ℕ) (c : Arm) (fs : List Frame) (m : Mode) (r : Replay) (j x : ℕ) → Accepts R is c fs → Inv m (r .stacks) c fs
-      → Route R is m (r .choices) j → k + j ≡ x → There is (armAt R is c fs j) j x → P (replay R is k m r)
-  unfolding replay
+      → Route R is m (r .choices) j → k + j ≡ x → There is (armAt R is c fs j) j x → P (replayFrom R is k m r)
+  unfolding replayFrom
   follows is k c fs m r zero x g h p e q =
       let z : k ≡ x = omega arith in
       rw (p, z) (q r (rw p at h))
@@ -239,7 +239,7 @@ module _ (R : Rules) (P : Trace → Type 0) (earlier : (k : ℕ) (u : Stacks Byt
       (steer (R .classFor (i .opcode)) m (r .choices)) (act-next R i r (R .classFor (i .opcode)) m c fs h) (act-steers R i (R .classFor (i .opcode)) m r) g p q
       (λ c fs m r g h p q. follows is (k + 1) c fs m r j x g h p (omega arith) q))
     where
-      onto : (m : Mode) → P (onCarried (act R i (R .classFor (i .opcode)) m r) (r .stacks) (λ m r. replay R is (k + 1) m r)) → P (replay R (i ∷ is) k m r)
+      onto : (m : Mode) → P (onCarried (act R i (R .classFor (i .opcode)) m r) (r .stacks) (λ m r. replayFrom R is (k + 1) m r)) → P (replayFrom R (i ∷ is) k m r)
       onto running t = earlier k (r .stacks) _ t
       onto (jumping toElse n) t = t
 

@@ -13,7 +13,7 @@ use Rattle.definition.specs.Basics.{Bytes, pick}
 use Rattle.definition.specs.Decoding.{Instruction, Index, notKnown, noNumber, negative, index, indexOf, serialize, plus}
 use Rattle.definition.specs.Classes.{Ordinary, unmodelled, push, nothing, TOALT, FROMALT, DEPTH, SIZE, NIP, TUCK, PICK, ROLL, ZK, copies, rotates}
 use Rattle.definition.specs.Refusals.{Refusal, mainDry, stacksFull, altDry}
-use Rattle.definition.specs.Stacks.{Rules, Stacks, Outcome, done, refused, Items, Tag, noTag, groth16, r0Succinct, tagOf, total, needs, room, onDone, pushItem, popFrom, dropItems, copyItems, rotateItems, tuckTop, nipSecond, moveToAlt, moveFromAlt, sizeItem, readable, popIndex, zkDrop, zkBy, step, pushResults, plainStep}
+use Rattle.definition.specs.Stacks.{Rules, Stacks, Outcome, done, refused, ItemOps, Tag, noTag, groth16, r0Succinct, tagOf, total, needs, room, onDone, pushItem, popFrom, dropItems, copyItems, rotateItems, tuckTop, nipSecond, moveToAlt, moveFromAlt, sizeItem, readable, popIndex, zkDrop, zkBy, step, pushResults, plainStep}
 use Rattle.definition.specs.Walk.{Item, unknown, exact, known, bytesKnown, marking}
 use Rattle.definition.specs.Replay.{replaying, Shows, ShowsAll, ShowsStacks}
 
@@ -287,7 +287,7 @@ module _ {A : Type 0} (limit : ℕ) where
   popFrom-within [] a f h n = tt
   popFrom-within (x ∷ l) a f h n = n x (record { main = l; alt = a }) (omega arith)
 
-  module _ (I : Items A) where
+  module _ (I : ItemOps A) where
     popIndex-within : (s : Stacks A) (f : ℕ → Stacks A → Outcome A) → total s ≤ limit
         → ((n : ℕ) (t : Stacks A) → total t ≤ limit → Within limit (f n t)) → Within limit (popIndex I s f)
     popIndex-within s f h n = popFrom-within (s .main) (s .alt) _ h (λ x t k. read (indexOf (I .bytes x)) t k)
@@ -309,7 +309,7 @@ module _ {A : Type 0} (limit : ℕ) where
     zkBy-within r0Succinct s h = zkDrop-within 8 s h
 
 -- no ordinary instruction leads over the limit
-pub step-within : {A : Type 0} (I : Items A) (R : Rules) (i : Instruction) (o : Ordinary) (s : Stacks A) → total s ≤ R .limit
+pub step-within : {A : Type 0} (I : ItemOps A) (R : Rules) (i : Instruction) (o : Ordinary) (s : Stacks A) → total s ≤ R .limit
     → Within (R .limit) (step I R i o s)
 unfolding step
 step-within I R i unmodelled s h = tt
@@ -328,7 +328,7 @@ step-within I R i (copies depth count) s h = copyItems-within (R .limit) depth c
 step-within I R i (rotates count shift) s h = rotateItems-within (R .limit) count shift s h
 
 -- nor one of a plain class
-pub plainStep-within : {A : Type 0} (I : Items A) (limit pops pushes : ℕ) (s : Stacks A) → total s ≤ limit
+pub plainStep-within : {A : Type 0} (I : ItemOps A) (limit pops pushes : ℕ) (s : Stacks A) → total s ≤ limit
     → Within limit (plainStep I limit pops pushes s)
 unfolding plainStep
 plainStep-within {A = A} I limit pops pushes s h =

@@ -8,7 +8,7 @@ use Rattle.definition.specs.Basics.{Bytes}
 use Rattle.definition.specs.Decoding.{front, decode, serialize, deserialize, instructions}
 use Rattle.definition.specs.Classes.{classNumber, classOf}
 use Rattle.definition.specs.Stacks.{builtIn, pushItem, dropItems, copyItems, rotateItems, tuckTop, nipSecond, moveToAlt, moveFromAlt, step, plainStep}
-use Rattle.definition.specs.Replay.{Trace, visit, offEnd, returned, faulted, replay, wholeReplay}
+use Rattle.definition.specs.Replay.{Trace, visit, offEnd, returned, faulted, replayFrom, wholeReplay}
 
 -- a fragment, the start items of main (top first), the choices, the given byte strings
 pub record Run : Type 0 where
@@ -63,5 +63,5 @@ pub replays : map ran runs ≡
     ((0 ∷ []) ∷ (102 ∷ []) ∷ []) ∷
     ((0 ∷ []) ∷ (1 ∷ []) ∷ (102 ∷ []) ∷ []) ∷
     ((0 ∷ []) ∷ (102 ∷ []) ∷ []) ∷ [])
-unfolding runs replay step plainStep pushItem dropItems copyItems rotateItems tuckTop nipSecond moveToAlt moveFromAlt classOf classNumber decode front serialize deserialize
+unfolding runs replayFrom step plainStep pushItem dropItems copyItems rotateItems tuckTop nipSecond moveToAlt moveFromAlt classOf classNumber decode front serialize deserialize
 replays = refl

@@ -15,7 +15,7 @@ use Rattle.definition.specs.Classes.{Class, IF, NOTIF, ELSE, ENDIF, RETU
 use Rattle.definition.specs.Refusals.{maxOpen, nesting, armsDiffer}
 use Rattle.definition.specs.Stacks.{Rules, Stacks, Outcome, done, refused, total, onDone, dropItems, step, plainStep}
 use Rattle.definition.specs.Walk.{Item, unknown, exact, marking, Arm, dead, live, FirstArm, notEnded, ended, Frame, Move, moves, refuses, sameBytes, joinItem, joinItems, joinStacks, onOutcome, join, opens, onIf, conditional, onElse, onEndif, effect}
-use Rattle.definition.specs.Replay.{Replay, replaying, Mode, running, jumping, Carried, goesOn, halts, fails, carriedOut, chosen, branches, carry, past, Trace, visit, offEnd, returned, faulted, onCarried, replay, ReachedAt, EndsInFault, RunsOffWith, HasTotal, Shows}
+use Rattle.definition.specs.Replay.{Replay, replaying, Mode, running, jumping, Carried, goesOn, halts, fails, carriedOut, chosen, branches, carry, past, Trace, visit, offEnd, returned, faulted, onCarried, replayFrom, ReachedAt, EndsInFault, RunsOffWith, HasTotal, Shows}
 use Rattle.definition.proofs.Related.{Paired, bottom, above, PairedStacks, Agree, agree, stops, dropItems-agrees, step-agrees, plainStep-agrees, Within, dropItems-within, step-within, plainStep-within}
 use Rattle.definition.proofs.Arms.{Goes, Accepts, after, armAt, Alive}
 
@@ -284,11 +284,11 @@ module _ (R : Rules) (A : ℕ → Arm) (n : ℕ) where
   -- what holds of the rest of the replay, wherever the marker moves on to
   abbrev Rest : List Instruction → ℕ → Type 0
   Rest is k = (c : Arm) (fs : List Frame) (m : Mode) (r : Replay) → ((j : ℕ) → A (k + j) ≡ armAt R is c fs j) → Accepts R is c fs → Inv m (r .stacks) c fs
-      → Good (replay R is k m r)
+      → Good (replayFrom R is k m r)
 
   traced-good : (is : List Instruction) (k : ℕ) (u : Stacks Bytes) (mv : Move) (a : Carried) → Next mv a → Goes mv (λ c fs. Accepts R is c fs)
       → ((j : ℕ) → A (k + suc j) ≡ after mv (λ c fs. armAt R is c fs j)) → (a ≡ halts → (k ≤ n) × (LiveAs (A k) u)) → Rest is (k + 1)
-      → Good (onCarried a u (λ m r. replay R is (k + 1) m r))
+      → Good (onCarried a u (λ m r. replayFrom R is (k + 1) m r))
   traced-good is k u (moves c fs) (goesOn m r) h g e l f = f c fs m r (λ j. ap A (omega arith) ∙ e j) g h
   traced-good is k u (moves c fs) halts h g e l f = (k, l refl .0, l refl .1)
   traced-good is k u (moves c fs) fails h g e l f = absurd h
@@ -298,15 +298,15 @@ module _ (R : Rules) (A : ℕ → Arm) (n : ℕ) where
   act-good : (i : Instruction) (is : List Instruction) (k : ℕ) (c : Arm) (fs : List Frame) (m : Mode) (r : Replay)
       → ((j : ℕ) → A (k + j) ≡ armAt R (i ∷ is) c fs j) → Accepts R (i ∷ is) c fs → Inv m (r .stacks) c fs
       → (act R i (R .classFor (i .opcode)) m r ≡ halts → (k ≤ n) × (LiveAs (A k) (r .stacks))) → Rest is (k + 1)
-      → Good (onCarried (act R i (R .classFor (i .opcode)) m r) (r .stacks) (λ m r. replay R is (k + 1) m r))
+      → Good (onCarried (act R i (R .classFor (i .opcode)) m r) (r .stacks) (λ m r. replayFrom R is (k + 1) m r))
   act-good i is k c fs m r e g h l f =
       traced-good is k (r .stacks) (effect R i (R .classFor (i .opcode)) c fs) (act R i (R .classFor (i .opcode)) m r)
       (act-next R i r (R .classFor (i .opcode)) m c fs h) g (λ j. e (suc j)) l f
 
   -- a replay that agrees with the marker, where the rest of the walk is accepted, goes on as the marker does
   pub sound : (is : List Instruction) (k : ℕ) (c : Arm) (fs : List Frame) (m : Mode) (r : Replay)
-      → ((j : ℕ) → A (k + j) ≡ armAt R is c fs j) → k + length is ≡ n → Accepts R is c fs → Inv m (r .stacks) c fs → Good (replay R is k m r)
-  unfolding replay
+      → ((j : ℕ) → A (k + j) ≡ armAt R is c fs j) → k + length is ≡ n → Accepts R is c fs → Inv m (r .stacks) c fs → Good (replayFrom R is k m r)
+  unfolding replayFrom
   sound [] k c fs m r e l g h = subst (λ a. LiveAs a (r .stacks)) (sym (e 0) ∙ ap A l) (no-mode-waits m (r .stacks) c fs g h)
   sound (i ∷ is) k c fs running r e l g h =
       let here : LiveAs (A k) (r .stacks) = subst (λ a. LiveAs a (r .stacks)) (sym (e 0) ∙ ap A (omega arith)) h in (
@@ -378,11 +378,11 @@ module _ (R : Rules) (x : ℕ) where
   traced-stays fails u next h s f p = absurd p
 
   -- a replay that starts within the limit stays within it
-  pub stays-within : (is : List Instruction) (k : ℕ) (m : Mode) (r : Replay) → total (r .stacks) ≤ R .limit → HasTotal x (replay R is k m r) → x ≤ R .limit
-  unfolding replay
+  pub stays-within : (is : List Instruction) (k : ℕ) (m : Mode) (r : Replay) → total (r .stacks) ≤ R .limit → HasTotal x (replayFrom R is k m r) → x ≤ R .limit
+  unfolding replayFrom
   stays-within [] k m r h p = rw (← p) h
   stays-within (i ∷ is) k running r h p =
       ⊎-elim (λ e. rw (← e) h)
-      (λ q. traced-stays (carry R i (R .classFor (i .opcode)) r) (r .stacks) (λ m t. replay R is (k + 1) m t) h (carry-stays i (R .classFor (i .opcode)) r h)
+      (λ q. traced-stays (carry R i (R .classFor (i .opcode)) r) (r .stacks) (λ m t. replayFrom R is (k + 1) m t) h (carry-stays i (R .classFor (i .opcode)) r h)
       (λ m t g q. stays-within is (k + 1) m t g q) q) p
   stays-within (i ∷ is) k (jumping toElse n) r h p = stays-within is (k + 1) (past (R .classFor (i .opcode)) toElse n) r h p

@@ -14,8 +14,8 @@ use Rattle.definition.specs.Basics.{Bytes, pick}
 use Rattle.definition.specs.Decoding.{Instruction, Code, decode, instructions, malformedAt}
 use Rattle.definition.specs.Refusals.{Refusal, malformedFragment, nesting, altDry, badIndex, badTag, armsDiffer, strayElse, secondElse, strayEndif, openIf, badHeader, tallyFull, longFragment, unmodelledOpcode, opcodeCount, scriptSize, longPaper, startTooLarge, shortLog, stacksFull, mainDry, dispatchTooLarge, maxFragment, refusedAt}
 use Rattle.definition.specs.Stacks.{Rules, builtIn, Stacks, total, stackHeights}
-use Rattle.definition.specs.Walk.{Item, unknown, Arm, dead, live, heightsOf, State, totalOf, Walked, passed, stopped, walk, Marked, refusedEarly, marked, begin, tested, analysisOf, unknowns, analysis}
-use Rattle.definition.specs.Replay.{Replay, running, Trace, visit, offEnd, returned, faulted, replay, wholeReplay, ReachedAt, RunsOffWith, HasTotal, TotalsWithin, ShowsArm, AreStrings, ReplayOf, EveryReplay, SomeReplay, heightsAt, LiveRow, SomeReplayReaches, Demand3, TrueOfEveryReplay}
+use Rattle.definition.specs.Walk.{Item, unknown, Arm, dead, live, heightsOf, State, totalOf, WalkEnd, passed, stopped, walk, Marked, refusedEarly, answered, begin, tested, analysisOf, unknowns, analysis}
+use Rattle.definition.specs.Replay.{Replay, running, Trace, visit, offEnd, returned, faulted, replayFrom, wholeReplay, ReachedAt, RunsOffWith, HasTotal, TotalsWithin, ShowsArm, AreStrings, ReplayOf, EveryReplay, SomeReplay, heightsAt, LiveRow, SomeReplayReaches, Demand3, TrueOfEveryReplay}
 use Rattle.definition.proofs.Related.{pairedStacks, shownStacks, paired-length, paired-total}
 use Rattle.definition.proofs.Arms.{Accepts, armAt, Alive, mainHeight, altHeight, both-heights, Row, Tops, accepts, end-at, log-length, row-at, peak-over, peak-at}
 use Rattle.definition.proofs.Sound.{LiveAs, Good, sound, good-faults, good-reaches, good-runsOff, good-total, stays-within}
@@ -67,18 +67,18 @@ reaches-total k u (returned v) h = absurd h
 reaches-total k u faulted h = absurd h
 
 module _ (R : Rules) (k : ℕ) (r : Replay) where
-  first-reached : (is : List Instruction) → 0 < length is → ReachedAt k (r .stacks) (replay R is k running r)
-  unfolding replay
+  first-reached : (is : List Instruction) → 0 < length is → ReachedAt k (r .stacks) (replayFrom R is k running r)
+  unfolding replayFrom
   first-reached [] h = absurd (omega arith)
   first-reached (i ∷ is) h = inl (refl, refl)
 
-  nothing-left : (is : List Instruction) → length is ≡ 0 → RunsOffWith (r .stacks) (replay R is k running r)
-  unfolding replay
+  nothing-left : (is : List Instruction) → length is ≡ 0 → RunsOffWith (r .stacks) (replayFrom R is k running r)
+  unfolding replayFrom
   nothing-left [] h = refl
   nothing-left (i ∷ is) h = absurd (omega arith)
 
-  total-here : (is : List Instruction) → HasTotal (total (r .stacks)) (replay R is k running r)
-  unfolding replay
+  total-here : (is : List Instruction) → HasTotal (total (r .stacks)) (replayFrom R is k running r)
+  unfolding replayFrom
   total-here [] = refl
   total-here (i ∷ is) = inl refl
 
@@ -155,10 +155,10 @@ module _ (R : Rules) (is : List Instruction) (s : Stacks Item) (log : List ℕ) 
   peaked =
       let p = peak-place in
       comes R is s exacts moves-on (p .0) (p .1 .0) (λ z. HasTotal (t .peak) z) (λ j v z q. inr q)
-      (λ r l. subst (λ n. HasTotal n (replay R (drop (p .0) is) (p .0) running r)) (sym (live-heights (A (p .0)) (r .stacks) l .1) ∙ sym (p .1 .1))
+      (λ r l. subst (λ n. HasTotal n (replayFrom R (drop (p .0) is) (p .0) running r)) (sym (live-heights (A (p .0)) (r .stacks) l .1) ∙ sym (p .1 .1))
       (total-here R (p .0) r (drop (p .0) is)))
 
-  pub trueOfWalk : Demand3 R is s (marked (passed t))
+  pub trueOfWalk : Demand3 R is s (answered (passed t))
   trueOfWalk = record {
     noFault = λ r p h. good-faults R A (length is) (wholeReplay R is r) (follows r p) h;
     withinLimit = within;
@@ -201,7 +201,7 @@ refused-number at (dispatchTooLarge n m) h = omega (arith, h)
 module _ (R : Rules) (P : Marked → Type 0) where
   ofCode : (code : Code) (s : Stacks Item) (log : List ℕ)
       → ((t : State) → 3 * length (instructions code) ≤ length log → walk R (instructions code) (begin s log) ≡ passed t
-      → P (marked (passed t)))
+      → P (answered (passed t)))
       → analysisOf R code s log .verdict .answer .number ≡ 0 → P (analysisOf R code s log)
   unfolding analysisOf
   ofCode code s log f h = whole (malformedAt code) h
@@ -209,14 +209,14 @@ module _ (R : Rules) (P : Marked → Type 0) where
       is : List Instruction
       is = instructions code
 
-      ended : 3 * length is ≤ length log → (w : Walked) → walk R is (begin s log) ≡ w → marked w .verdict .answer .number ≡ 0
-          → P (marked w)
+      ended : 3 * length is ≤ length log → (w : WalkEnd) → walk R is (begin s log) ≡ w → answered w .verdict .answer .number ≡ 0
+          → P (answered w)
       ended l (passed t) e h = f t l e
       ended l (stopped r t) e h = absurd (refused-number (t .offset) r h)
 
       lent : (b : Bool) → leb (3 * length is) (length log) ≡ b
-          → pick b (marked (walk R is (begin s log))) (refusedEarly 0 (shortLog (3 * length is) (length log)) log) .verdict .answer .number ≡ 0
-          → P (pick b (marked (walk R is (begin s log))) (refusedEarly 0 (shortLog (3 * length is) (length log)) log))
+          → pick b (answered (walk R is (begin s log))) (refusedEarly 0 (shortLog (3 * length is) (length log)) log) .verdict .answer .number ≡ 0
+          → P (pick b (answered (walk R is (begin s log))) (refusedEarly 0 (shortLog (3 * length is) (length log)) log))
       lent true e h = ended (leb-true (3 * length is) (length log) e) (walk R is (begin s log)) refl h
       lent false e h = absurd (omega (arith, h))
 
@@ -226,7 +226,7 @@ module _ (R : Rules) (P : Marked → Type 0) where
 
   pub ofAnalysis : (fragment : Bytes) (main alt : ℕ) (log : List ℕ)
       → (main + alt ≤ R .limit → (t : State) → 3 * length (instructions (decode fragment)) ≤ length log
-      → walk R (instructions (decode fragment)) (begin (unknowns main alt) log) ≡ passed t → P (marked (passed t)))
+      → walk R (instructions (decode fragment)) (begin (unknowns main alt) log) ≡ passed t → P (answered (passed t)))
       → analysis R fragment main alt log .verdict .answer .number ≡ 0 → P (analysis R fragment main alt log)
   unfolding analysis
   ofAnalysis fragment main alt log f h = long (ltb maxFragment (length fragment)) h

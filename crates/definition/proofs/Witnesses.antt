@@ -12,7 +12,7 @@ use Rattle.definition.specs.Classes.{classNumber, classOf}
 use Rattle.definition.specs.Refusals.{accepted, answer}
 use Rattle.definition.specs.Stacks.{builtIn, Stacks, pushItem, dropItems, copyItems, step, plainStep}
 use Rattle.definition.specs.Walk.{live, unknown, joinStacks, logRow, walk, analysisOf, unknowns, analysis}
-use Rattle.definition.specs.Replay.{Replay, visit, offEnd, returned, faulted, replay, wholeReplay, EndsInFault, ShowsAll, ReplayOf, Demand3}
+use Rattle.definition.specs.Replay.{Replay, visit, offEnd, returned, faulted, replayFrom, wholeReplay, EndsInFault, ShowsAll, ReplayOf, Demand3}
 use Rattle.definition.proofs.Complete.{no-bytes}
 use Rattle.definition.proofs.TrueOfEveryReplay.{trueOfEveryReplay}
 
@@ -65,7 +65,7 @@ pub inner : (ReplayOf (instructions (decode nested)) (unknowns 2 0) (from items 
     ≡ visit 0 (on items) (visit 1 (on ((1 ∷ []) ∷ items)) (visit 2 (on items) (visit 3 (on ((8 ∷ 9 ∷ []) ∷ []))
     (visit 4 (on ([] ∷ (8 ∷ 9 ∷ []) ∷ [])) (visit 9 (on ([] ∷ (8 ∷ 9 ∷ []) ∷ [])) (visit 13 (on ([] ∷ (8 ∷ 9 ∷ []) ∷ []))
     (offEnd (on ((8 ∷ 9 ∷ []) ∷ (8 ∷ 9 ∷ []) ∷ []))))))))))
-unfolding nested replay step plainStep pushItem dropItems copyItems classOf classNumber decode front serialize deserialize
+unfolding nested replayFrom step plainStep pushItem dropItems copyItems classOf classNumber decode front serialize deserialize
 inner = (nestedReplay (replicate 14 true) refl, refl)
 
 -- past the outer ELSE, over the inner conditional: it meets the outer ENDIF
@@ -74,7 +74,7 @@ pub outer : (ReplayOf (instructions (decode nested)) (unknowns 2 0) (from items 
     ≡ visit 0 (on items) (visit 1 (on ((1 ∷ []) ∷ items)) (visit 10 (on items) (visit 11 (on ((8 ∷ 9 ∷ []) ∷ []))
     (visit 12 (on ([] ∷ (8 ∷ 9 ∷ []) ∷ [])) (visit 13 (on ([] ∷ (8 ∷ 9 ∷ []) ∷ []))
     (offEnd (on ((8 ∷ 9 ∷ []) ∷ (8 ∷ 9 ∷ []) ∷ [])))))))))
-unfolding nested replay step plainStep pushItem dropItems copyItems classOf classNumber decode front serialize deserialize
+unfolding nested replayFrom step plainStep pushItem dropItems copyItems classOf classNumber decode front serialize deserialize
 outer = (nestedReplay (false ∷ replicate 13 true) refl, refl)
 
 -- into the outer first arm and past the inner ELSE: it ends at RETURN
@@ -82,7 +82,7 @@ pub returns : (ReplayOf (instructions (decode nested)) (unknowns 2 0) (from item
     × (wholeReplay builtIn (instructions (decode nested)) (from items (true ∷ false ∷ replicate 12 true))
     ≡ visit 0 (on items) (visit 1 (on ((1 ∷ []) ∷ items)) (visit 2 (on items) (visit 5 (on ((8 ∷ 9 ∷ []) ∷ []))
     (visit 6 (on ((2 ∷ []) ∷ (8 ∷ 9 ∷ []) ∷ [])) (returned (on ((2 ∷ []) ∷ (8 ∷ 9 ∷ []) ∷ []))))))))
-unfolding nested replay step plainStep pushItem dropItems copyItems classOf classNumber decode front serialize deserialize
+unfolding nested replayFrom step plainStep pushItem dropItems copyItems classOf classNumber decode front serialize deserialize
 returns = (nestedReplay (true ∷ false ∷ replicate 12 true) refl, refl)
 
 -- 63 51 79 68 from (1, 0) is refused, 7 at 2: PICK at index 1 needs two items and has none
@@ -97,7 +97,7 @@ dryMarked = refl
 pub faulty : (ReplayOf (instructions (decode dry)) (unknowns 1 0) (from ([] ∷ []) (replicate 4 true)))
     × (wholeReplay builtIn (instructions (decode dry)) (from ([] ∷ []) (replicate 4 true))
     ≡ visit 0 (on ([] ∷ [])) (visit 1 (on []) (visit 2 (on ((1 ∷ []) ∷ [])) faulted)))
-unfolding dry replay step plainStep pushItem dropItems copyItems classOf classNumber decode front serialize deserialize
+unfolding dry replayFrom step plainStep pushItem dropItems copyItems classOf classNumber decode front serialize deserialize
 faulty = (
   record {
     start = record { main = (tt, tt); alt = tt };
@@ -121,7 +121,7 @@ cautiousMarked = refl
 -- .. and no replay of it faults: PICK finds its item at 1 and at 2
 picks : (main alt : List Bytes) (choices : List Bool) (results : List Bytes) → ShowsAll (replicate 3 unknown) main → ShowsAll [] alt
     → EndsInFault (wholeReplay builtIn (instructions (decode cautious)) (record { stacks = record { main = main; alt = alt }; choices = choices; results = results })) → ⊥
-unfolding cautious replay step plainStep pushItem dropItems copyItems classOf classNumber decode front serialize deserialize
+unfolding cautious replayFrom step plainStep pushItem dropItems copyItems classOf classNumber decode front serialize deserialize
 picks [] alt choices results m a h = m
 picks (x ∷ []) alt choices results m a h = m .1
 picks (x ∷ y ∷ []) alt choices results m a h = m .1 .1

@@ -62,7 +62,8 @@ abbrev pub onFront : Front → ℕ → ℕ → (ℕ → Code) → Code
 onFront (whole after literal) opcode offset rest = then (record { opcode = opcode; offset = offset; literal = literal }) (rest after)
 onFront short opcode offset rest = malformed offset
 
--- the code of these bytes, the first of them at `offset`; `passing` of them belong to the instruction before
+-- The code of these bytes, the first of them at `offset`; `passing` of them belong to the instruction before. Of 02 aa bb 51 at
+-- 0, 02 is an instruction with the literal aa bb, after which 2 bytes are passed, aa and bb; at 3 stands 51; then the code ends.
 abbrev pub decodeFrom : ℕ → ℕ → Bytes → Code
 decodeFrom passing offset [] = ends
 decodeFrom zero offset (b ∷ rest) = onFront (front b rest) b offset (λ after. decodeFrom after (offset + 1) rest)
@@ -121,7 +122,7 @@ minimal (b ∷ []) = not (eqb b 0x00 || eqb b 0x80)
 minimal (b ∷ c ∷ []) = leb 0x80 b || not (eqb c 0x00 || eqb c 0x80)
 minimal (b ∷ c ∷ d ∷ l) = minimal (c ∷ d ∷ l)
 
--- what these bytes, in number form, stand for; the sign bit, 80 in the last byte, is taken off
+-- What these bytes, in number form, stand for; the sign bit, 80 in the last byte, is taken off: 85 is minus 5, 85 - 80 being 5.
 abbrev pub value : Bytes → Integer
 value l = pick (ltb (last l) 0x80) (plus (number l)) (minus (number l - 0x80 * 256 ^ (length l - 1)))
 

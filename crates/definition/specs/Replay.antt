@@ -9,7 +9,7 @@ use lib.ListN.{length, getD, take, drop}
 use Rattle.definition.specs.Basics.{Bytes}
 use Rattle.definition.specs.Decoding.{Instruction, instructions, decode}
 use Rattle.definition.specs.Classes.{Class, IF, NOTIF, ELSE, ENDIF, RETURN, ordinary, plain}
-use Rattle.definition.specs.Stacks.{Rules, Stacks, Outcome, Items, total, stackHeights, onDone, dropItems, step, plainStep}
+use Rattle.definition.specs.Stacks.{Rules, Stacks, Outcome, ItemOps, total, stackHeights, onDone, dropItems, step, plainStep}
 use Rattle.definition.specs.Walk.{Item, unknown, exact, Arm, dead, live, heightsOf, Marked, unknowns, analysis}
 
 -- The replay
@@ -22,7 +22,7 @@ pub record Replay : Type 0 where
 
 -- "with real bytes, .. a literal is pushed whole, SIZE pushes the real length, an unknown result of a plain class is the next of
 -- the given byte strings"
-abbrev pub replaying : List Bytes → Items Bytes
+abbrev pub replaying : List Bytes → ItemOps Bytes
 replaying results = record { literal = λ l. l; bytes = some; result = getD results 0 [] }
 
 -- It carries instructions out, or jumps over them: past the ENDIF, or past the ELSE if there is one (`true`). The number
@@ -91,15 +91,15 @@ onCarried halts s next = returned s
 onCarried fails s next = faulted
 
 -- the replay from the instruction at place k on
-unfoldable pub replay : Rules → List Instruction → ℕ → Mode → Replay → Trace
-replay R [] k m r = offEnd (r .stacks)
-replay R (i ∷ is) k running r =
-    visit k (r .stacks) (onCarried (carry R i (R .classFor (i .opcode)) r) (r .stacks) (λ m t. replay R is (k + 1) m t))
-replay R (i ∷ is) k (jumping toElse n) r = replay R is (k + 1) (past (R .classFor (i .opcode)) toElse n) r
+unfoldable pub replayFrom : Rules → List Instruction → ℕ → Mode → Replay → Trace
+replayFrom R [] k m r = offEnd (r .stacks)
+replayFrom R (i ∷ is) k running r =
+    visit k (r .stacks) (onCarried (carry R i (R .classFor (i .opcode)) r) (r .stacks) (λ m t. replayFrom R is (k + 1) m t))
+replayFrom R (i ∷ is) k (jumping toElse n) r = replayFrom R is (k + 1) (past (R .classFor (i .opcode)) toElse n) r
 
 -- the whole replay
 abbrev pub wholeReplay : Rules → List Instruction → Replay → Trace
-wholeReplay R is r = replay R is 0 running r
+wholeReplay R is r = replayFrom R is 0 running r
 
 -- What is said of a trace
 

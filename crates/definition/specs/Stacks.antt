@@ -30,7 +30,7 @@ pub data Outcome (A : Type 0) : Type 0 where
   refused : Refusal → Outcome A
 
 -- what the operations ask of items of type A
-pub record Items (A : Type 0) : Type 0 where
+pub record ItemOps (A : Type 0) : Type 0 where
   -- the item of these bytes
   pub literal : Bytes → A
   -- what is known of an item's bytes
@@ -125,7 +125,7 @@ module _ {A : Type 0} where
   moveFromAlt s =
       pick (leb 1 (length (s .alt))) (done (record { main = take 1 (s .alt) ++ s .main; alt = drop 1 (s .alt) })) (refused altDry)
 
-module _ {A : Type 0} (I : Items A) where
+module _ {A : Type 0} (I : ItemOps A) where
   -- DEPTH, SIZE and ZK push a number
   abbrev pub numberItem : ℕ → A
   numberItem n = I .literal (serialize (plus n))

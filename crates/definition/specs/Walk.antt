@@ -10,7 +10,7 @@ use Rattle.definition.specs.Basics.{Bytes, pick}
 use Rattle.definition.specs.Decoding.{Instruction, Code, decode, instructions, malformedAt}
 use Rattle.definition.specs.Classes.{Class, IF, NOTIF, ELSE, ENDIF, RETURN, ordinary, plain}
 use Rattle.definition.specs.Refusals.{Refusal, Answer, accepted, refusedAt, longFragment, maxFragment, startTooLarge, malformedFragment, shortLog, nesting, maxOpen, armsDiffer, strayElse, secondElse, strayEndif, openIf, tallyFull}
-use Rattle.definition.specs.Stacks.{Rules, Stacks, Outcome, done, refused, Items, total, stackHeights, onDone, dropItems, step, plainStep}
+use Rattle.definition.specs.Stacks.{Rules, Stacks, Outcome, done, refused, ItemOps, total, stackHeights, onDone, dropItems, step, plainStep}
 
 -- What the marker knows of an item
 
@@ -29,7 +29,7 @@ bytesKnown unknown = none
 bytesKnown (exact l) = some l
 
 -- Section 3, "the plain classes push unknown items"
-abbrev pub marking : Items Item
+abbrev pub marking : ItemOps Item
 marking = record { literal = known; bytes = bytesKnown; result = unknown }
 
 -- Arms and conditionals
@@ -39,7 +39,7 @@ pub data Arm : Type 0 where
   dead : Arm
   live : Stacks Item → Arm
 
--- the first arm of an open conditional has not ended, or has ended at its ELSE
+-- the first arm of an open conditional: it has not ended, or has ended so at its ELSE
 pub data FirstArm : Type 0 where
   notEnded : FirstArm
   ended : Arm → FirstArm
@@ -89,6 +89,14 @@ abbrev pub join : Arm → Arm → List Frame → Move
 join dead b fs = moves b fs
 join (live s) dead fs = moves (live s) fs
 join (live s) (live t) fs = onOutcome (joinStacks s t) fs
+
+-- What a conditional does to the arm c and to its frame, the innermost:
+--
+--   instruction         arm afterwards          frame before             frame afterwards
+--   IF, NOTIF           c without its top       none                     start: c without its top; first arm not ended
+--   ELSE                start                   first arm not ended      start as before; first arm ended as c
+--   ENDIF, no ELSE      c joined with start     first arm not ended      none
+--   ENDIF after ELSE    a joined with c         first arm ended as a     none
 
 -- a conditional opens: both of its arms start from here
 abbrev pub opens : Arm → List Frame → Move
@@ -180,22 +188,22 @@ onward c fs s = record {
 }
 
 -- how a walk ends: accepted or refused, with the state that it has then
-pub data Walked : Type 0 where
-  passed : State → Walked
-  stopped : Refusal → State → Walked
+pub data WalkEnd : Type 0 where
+  passed : State → WalkEnd
+  stopped : Refusal → State → WalkEnd
 
 -- after the move of the instruction met last
-abbrev pub follow : Move → State → (State → Walked) → Walked
+abbrev pub follow : Move → State → (State → WalkEnd) → WalkEnd
 follow (moves c fs) s next = next (onward c fs s)
 follow (refuses r) s next = stopped r s
 
 -- past the last instruction: Section 7, 16, "open IF", given "at the last instruction"
-abbrev pub atEnd : List Frame → State → Walked
+abbrev pub atEnd : List Frame → State → WalkEnd
 atEnd [] s = passed s
 atEnd (f ∷ fs) s = stopped openIf s
 
 -- the walk over these instructions
-unfoldable pub walk : Rules → List Instruction → State → Walked
+unfoldable pub walk : Rules → List Instruction → State → WalkEnd
 walk R [] s = atEnd (s .frames) s
 walk R (i ∷ is) s = follow (effect R i (R .classFor (i .opcode)) (s .arm) (s .frames)) (met i s) (λ t. walk R is t)
 
@@ -223,9 +231,9 @@ refusedEarly offset r log = record { verdict = refusedVerdict offset r 0; log = 
 
 -- Section 7, "5 to 16 leave rows up to and with the refused instruction, the rest as lent; acceptance leaves a row for every
 -- instruction, the rest as lent"
-abbrev pub marked : Walked → Marked
-marked (passed s) = record { verdict = record { answer = accepted; rows = s .rows; peak = s .peak; end = s .arm }; log = s .log }
-marked (stopped r s) = record { verdict = refusedVerdict (s .offset) r (s .rows); log = s .log }
+abbrev pub answered : WalkEnd → Marked
+answered (passed s) = record { verdict = record { answer = accepted; rows = s .rows; peak = s .peak; end = s .arm }; log = s .log }
+answered (stopped r s) = record { verdict = refusedVerdict (s .offset) r (s .rows); log = s .log }
 
 -- the walk's beginning, from any stacks
 abbrev pub begin : Stacks Item → List ℕ → State
@@ -235,7 +243,7 @@ begin s log = record { arm = live s; frames = []; offset = 0; rows = 0; peak = t
 abbrev pub tested : Rules → Option ℕ → List Instruction → Stacks Item → List ℕ → Marked
 tested R (some offset) is s log = refusedEarly offset malformedFragment log
 tested R none is s log =
-    pick (leb (3 * length is) (length log)) (marked (walk R is (begin s log))) (refusedEarly 0 (shortLog (3 * length is) (length log)) log)
+    pick (leb (3 * length is) (length log)) (answered (walk R is (begin s log))) (refusedEarly 0 (shortLog (3 * length is) (length log)) log)
 
 -- the analysis of decoded code, from any stacks
 unfoldable pub analysisOf : Rules → Code → Stacks Item → List ℕ → Marked
@@ -262,13 +270,13 @@ pub record Tally : Type 0 where
   pub peak : ℕ
 
 -- the answer, 0 or 22, and the tally afterwards
-pub record Tallied : Type 0 where
+pub record TallyAnswer : Type 0 where
   pub answer : Answer
   pub tally : Tally
 
 -- the tally with one verdict more, of which `accepts`, 0 or 1, are accepted
-abbrev pub gained : Tally → ℕ → ℕ → ℕ → Tally
-gained t accepts rows peak = record {
+abbrev pub oneMore : Tally → ℕ → ℕ → ℕ → Tally
+oneMore t accepts rows peak = record {
   fragments = t .fragments + 1;
   accepts = t .accepts + accepts;
   rows = t .rows + rows;
@@ -280,7 +288,7 @@ abbrev pub fits : Tally → Bool
 fits t = leb (t .fragments) 4294967295 && leb (t .accepts) 4294967295 && leb (t .rows) 4294967295
 
 -- "gains one verdict a call"; Section 7, "22 leaves the tally unchanged"
-unfoldable pub tally : Tally → Verdict → Tallied
-tally t v =
-    let new : Tally = gained t (pick (eqb (v .answer .number) 0) 1 0) (v .rows) (v .peak) in
+unfoldable pub gain : Tally → Verdict → TallyAnswer
+gain t v =
+    let new : Tally = oneMore t (pick (eqb (v .answer .number) 0) 1 0) (v .rows) (v .peak) in
     pick (fits new) (record { answer = accepted; tally = new }) (record { answer = refusedAt 0 tallyFull; tally = t })

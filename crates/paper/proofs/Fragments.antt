@@ -13,7 +13,7 @@ use Rattle.definition.specs.Basics.{Bytes}
 use Rattle.definition.specs.Decoding.{Instruction, decode, instructions, malformedAt}
 use Rattle.definition.specs.Papers.{Fragment, field, partAt, bytesOf, entries, mostParameters, fragments}
 use Rattle.definition.specs.Stacks.{Rules, Stacks, builtIn}
-use Rattle.definition.specs.Walk.{Item, Move, moves, refuses, effect, Frame, State, met, onward, follow, atEnd, walk, marked, begin, unknowns, tested, Marked, analysisOf, analysis}
+use Rattle.definition.specs.Walk.{Item, Move, moves, refuses, effect, Frame, State, met, onward, follow, atEnd, walk, answered, begin, unknowns, tested, Marked, analysisOf, analysis}
 use Rattle.stack_analysis.specs.View.{packedVerdict}
 use Rattle.stack_analysis.specs.declared.Verdict.{Verdict}
 use Rattle.header.specs.View.{fragmentAt}
@@ -23,17 +23,17 @@ use Rattle.paper.specs.View.{fragmentMarked, Marks}
 -- The rows that an analysis writes
 
 module _ (R : Rules) where
-  rows-end : (fs : List Frame) (s : State) → marked (atEnd fs s) .verdict .rows ≡ s .rows
+  rows-end : (fs : List Frame) (s : State) → answered (atEnd fs s) .verdict .rows ≡ s .rows
   rows-end [] s = refl
   rows-end (f ∷ fs) s = refl
 
-  rows-walk : (is : List Instruction) (s : State) → marked (walk R is s) .verdict .rows ≤ s .rows + length is
+  rows-walk : (is : List Instruction) (s : State) → answered (walk R is s) .verdict .rows ≤ s .rows + length is
   unfolding walk
   rows-walk [] s = omega (arith, rows-end (s .frames) s)
   rows-walk (i ∷ is) s = by (λ t. rows-walk is t) (effect R i (R .classFor (i .opcode)) (s .arm) (s .frames))
     where
-      by : ((t : State) → marked (walk R is t) .verdict .rows ≤ t .rows + length is) → (m : Move)
-          → marked (follow m (met i s) (λ t. walk R is t)) .verdict .rows ≤ s .rows + suc (length is)
+      by : ((t : State) → answered (walk R is t) .verdict .rows ≤ t .rows + length is) → (m : Move)
+          → answered (follow m (met i s) (λ t. walk R is t)) .verdict .rows ≤ s .rows + suc (length is)
       by h (moves c fs) = omega (arith, h (onward c fs (met i s)))
       by h (refuses r) = omega arith
 

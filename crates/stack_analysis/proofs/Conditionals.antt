@@ -12,7 +12,7 @@ use Rattle.definition.specs.Decoding.{instructions}
 use Rattle.definition.specs.Stacks as S
 use Rattle.definition.specs.Stacks.{Rules, Outcome, dropItems}
 use Rattle.definition.proofs.Sound.{opened}
-use Rattle.definition.specs.Walk.{Item, unknown, exact, Arm, dead, live, FirstArm, notEnded, ended, Frame, Move, moves, refuses, sameBytes, joinItem, joinItems, joinStacks, onOutcome, join, opens, onIf, conditional, follow, atEnd, walk, marked}
+use Rattle.definition.specs.Walk.{Item, unknown, exact, Arm, dead, live, FirstArm, notEnded, ended, Frame, Move, moves, refuses, sameBytes, joinItem, joinItems, joinStacks, onOutcome, join, opens, onIf, conditional, follow, atEnd, walk, answered}
 use Rattle.stack.specs.View.{view, outcome, refusalOf, Fit, Says}
 use Rattle.stack.specs.declared.Stacks.{Stacks}
 use Rattle.stack.specs.declared.Stepped.{Stepped}
@@ -136,7 +136,7 @@ module _ (R : Rules) (s : Bytes) where
     }
       where
         by : (a : Answer) (fs : List Frame) (log : List ℕ)
-            → marked (follow (opened (outcome a (view (p .stacks))) fs) (stateOf (turned w (w .stacks) true Running) (w .peak) fs log) (λ t. from R s (w .at) t))
+            → answered (follow (opened (outcome a (view (p .stacks))) fs) (stateOf (turned w (w .stacks) true Running) (w .peak) fs log) (λ t. from R s (w .at) t))
             ≡ enteredBy R s (stopOf a) (turned w (p .stacks) true (stopOf a)) fs log
         by A.Done fs log = refl
         by (A.Refused r) fs log = refl
@@ -167,7 +167,7 @@ module _ (R : Rules) (s : Bytes) where
     }
       where
         by : (a : Answer) (fs : List Frame) (log : List ℕ)
-            → marked (follow (onOutcome (outcome a (view (j .stacks))) fs) (stateOf (turned w (w .stacks) true Running) (w .peak) fs log) (λ t. from R s (w .at) t))
+            → answered (follow (onOutcome (outcome a (view (j .stacks))) fs) (stateOf (turned w (w .stacks) true Running) (w .peak) fs log) (λ t. from R s (w .at) t))
             ≡ resume R s (turned w (j .stacks) true (stopOf a)) fs log
         by A.Done fs log = refl
         by (A.Refused r) fs log = refl

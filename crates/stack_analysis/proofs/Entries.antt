@@ -12,7 +12,7 @@ use Rattle.definition.specs.Decoding.{decode, instructions, malformedAt}
 use Rattle.definition.specs.Refusals as D
 use Rattle.definition.specs.Replay.{Demand3}
 use Rattle.definition.specs.Stacks.{Rules, builtIn}
-use Rattle.definition.specs.Walk.{Arm, dead, live, Marked, marked, begin, walk, unknowns, analysisOf, analysis, refusedEarly, refusedVerdict, tested}
+use Rattle.definition.specs.Walk.{Arm, dead, live, Marked, answered, begin, walk, unknowns, analysisOf, analysis, refusedEarly, refusedVerdict, tested}
 use Rattle.definition.specs.Walk as W
 use Rattle.definition.proofs.TrueOfEveryReplay.{trueOfEveryReplay}
 use Rattle.decode.specs.View.{codeAt, countedOf}
@@ -34,7 +34,7 @@ use Rattle.stack_analysis.proofs.Answers.{concluded-is}
 -- a walk from main and alt unknown items
 module _ (s : Bytes) (main alt : ℕ) (log : List ℕ) where
   abbrev pub walked : Marked
-  walked = marked (walk builtIn (instructions (decode s)) (begin (unknowns main alt) log))
+  walked = answered (walk builtIn (instructions (decode s)) (begin (unknowns main alt) log))
 
   started : (v : Walk) → v .stop ≡ Running → v .live ≡ true → v .at ≡ 0 → v .last ≡ 0 → v .rows ≡ 0 → v .peak ≡ main + alt → Fresh main alt (v .stacks)
       → resume builtIn s v [] log ≡ walked

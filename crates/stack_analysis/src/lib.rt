@@ -8,7 +8,7 @@ ghost use Rattle.definition.specs.Basics.{Bytes};
 ghost use Rattle.definition.specs.Decoding.{decode, instructions};
 ghost use Rattle.definition.specs.Refusals.{answer, refusedAt};
 ghost use Rattle.definition.specs.Replay.{Demand3};
-ghost use Rattle.definition.specs.Walk.{dead, unknowns, begin, walk, marked, analysis, refusedVerdict};
+ghost use Rattle.definition.specs.Walk.{dead, unknowns, begin, walk, answered, analysis, refusedVerdict};
 ghost use Rattle.stack.specs.View.{refusalOf};
 ghost use Rattle.walk.specs.Runs.{armOf, arm, stopOf, Ready};
 ghost use Rattle.stack_analysis.specs.View.{verdictOf, packedVerdict};
@@ -433,7 +433,7 @@ fn walk_all(fragment: &[u8], main: u32, alt: u32, log: &mut [u16]) -> Verdict
         Marks
         r
         (now (log .exit))
-        (marked
+        (answered
         (walk
         builtIn
         (instructions (decode (now (fragment .entry))))

@@ -10,7 +10,7 @@ use Rattle.definition.specs.Decoding.{instructions, Code}
 use Rattle.definition.specs.Decoding as D
 use Rattle.definition.specs.Classes.{Class, IF, NOTIF, ELSE, ENDIF, RETURN}
 use Rattle.definition.specs.Stacks.{Rules, Outcome}
-use Rattle.definition.specs.Walk.{Item, marking, Arm, dead, live, Frame, Move, moves, refuses, onOutcome, effect, State, met, logRow, totalOf, Walked, follow, atEnd, walk, marked}
+use Rattle.definition.specs.Walk.{Item, marking, Arm, dead, live, Frame, Move, moves, refuses, onOutcome, effect, State, met, logRow, totalOf, WalkEnd, follow, atEnd, walk, answered}
 use Rattle.decode.specs.View.{codeAt}
 use Rattle.decode.proofs.Codes.{InstructionAt}
 use Rattle.decode.specs.declared.Instruction.{Instruction}
@@ -50,7 +50,7 @@ module _ (R : Rules) (s : Bytes) where
         (row : new ≡ logRow (w .rows) p (arm w) log) (high : peak ≡ max (w .peak) (totalOf (arm w))) where
       -- by the class of the instruction
       by-class : (c : Class) → R .classFor (i .opcode) ≡ c → (fs : List Frame)
-          → resume R s w fs log ≡ marked (follow (effect R met-there c (arm w) fs) (stateOf (past w i peak (w .stacks) (w .live) Running) peak fs new) (λ u. from R s (i .next) u))
+          → resume R s w fs log ≡ answered (follow (effect R met-there c (arm w) fs) (stateOf (past w i peak (w .stacks) (w .live) Running) peak fs new) (λ u. from R s (i .next) u))
       by-class c e fs = rw (run, here, walk-one _, e, high, row)
 
       one-more : (t : Stacks) (alive : Bool) (stop : Stop) → Fit t
@@ -97,7 +97,7 @@ module _ (R : Rules) (s : Bytes) where
       stepped k o e m l r says = one-more (r .stacks) true (stopOf (r .answer)) (says .fit) (λ fs. by-class k e fs ∙ rw (l, m fs, ← (says .same)) (by (r .answer) fs))
         where
           by : (a : Answer) (fs : List Frame)
-              → marked (follow (onOutcome (outcome a (view (r .stacks))) fs) (stateOf (past w i peak (w .stacks) true Running) peak fs new) (λ u. from R s (i .next) u))
+              → answered (follow (onOutcome (outcome a (view (r .stacks))) fs) (stateOf (past w i peak (w .stacks) true Running) peak fs new) (λ u. from R s (i .next) u))
               ≡ resumeBy R s (stopOf a) (past w i peak (r .stacks) true (stopOf a)) fs new
           by A.Done fs = refl
           by (A.Refused x) fs = refl
