@@ -173,11 +173,14 @@ pub fn most_parameters(paper: &[u8]) -> u32
     most
 }
 
-// The bytes of the part whose offset and length stand at `at`, as far as the paper has them.
+// The bytes of the part whose offset and length stand at `at`, as far as the paper has them. At the paper's end and past it
+// both are 0, and the part is empty.
 pub fn part<'a>(paper: &'a [u8], at: usize) -> &'a [u8]
-    requires { ⌜ at ≤ lastPart ⌝ }
     ensures { λ r. ⌜ now r ≡ bytesOf (now (paper .entry)) (partAt (now (paper .entry)) at) ⌝ }
 {
+    if paper.len() <= at {
+        return &paper[0..0];
+    }
     let offset = field(paper, at) as usize;
     let size = field(paper, at + 2) as usize;
     if paper.len() <= offset {

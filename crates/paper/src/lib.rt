@@ -8,7 +8,6 @@ ghost use Rattle.definition.specs.Stacks.{builtIn};
 ghost use Rattle.definition.specs.Refusals.{answer};
 ghost use Rattle.definition.specs.Walk.{analysis, dead};
 ghost use Rattle.stack_analysis.specs.View.{packedVerdict};
-ghost use Rattle.header.specs.View.{lastPart};
 ghost use Rattle.paper.specs.View.{fragmentMarked, Marks, paperOf};
 use header::Dispatch;
 use stack_analysis::Verdict;
@@ -28,7 +27,7 @@ pub struct PaperVerdict {
 // The part whose offset and length stand at `at`, analysed from these heights; its rows are written from row `rows` on,
 // and 4 weighs it against what the log has left there.
 fn mark_part(paper: &[u8], at: usize, main: u32, alt: u32, rows: usize, log: &mut [u16]) -> Verdict
-    requires { ⌜ (at ≤ lastPart) × (3 * rows ≤ length (now log)) ⌝ }
+    requires { ⌜ 3 * rows ≤ length (now log) ⌝ }
     ensures { λ r.
         ⌜
         Marks

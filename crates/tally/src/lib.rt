@@ -50,8 +50,8 @@ fn full(t: Tally) -> Tallied
     }
 }
 
-// The tally with one verdict more, of this number, rows and peak, or 22 with the tally as it was. The work of `gain`.
-pub fn gained(t: Tally, number: u32, rows: u32, peak: u32) -> Tallied
+// `gained` of rows that fit 32 bits.
+fn counted(t: Tally, number: u32, rows: u32, peak: u32) -> Tallied
     ensures { λ r. ⌜ ((v : Verdict) → Gives v number rows peak → r ≡ talliedOf (tally (tallyOf t) v)) ⌝ }
 {
     let accepts = accepted(number);
@@ -76,9 +76,20 @@ pub fn gained(t: Tally, number: u32, rows: u32, peak: u32) -> Tallied
     }
 }
 
+// The tally with one verdict more, of this number, rows and peak, or 22 with the tally as it was. The work of `gain`. Rows
+// over 4,294,967,295 pass it alone.
+pub fn gained(t: Tally, number: u32, rows: usize, peak: u32) -> Tallied
+    ensures { λ r. ⌜ ((v : Verdict) → Gives v number rows peak → r ≡ talliedOf (tally (tallyOf t) v)) ⌝ }
+{
+    if rows > 0xffffffff {
+        return full(t);
+    }
+    counted(t, number, rows as u32, peak)
+}
+
 // The tally lent by the caller gains one verdict, of this number, rows and peak. The answer is 0 or 22; 22 leaves the tally
 // unchanged.
-pub fn gain(t: &mut Tally, number: u32, rows: u32, peak: u32) -> u32
+pub fn gain(t: &mut Tally, number: u32, rows: usize, peak: u32) -> u32
     ensures { λ r. ⌜ ((v : Verdict) → Gives v number rows peak → tallied (now (t .exit)) r ≡ talliedOf (tally (tallyOf (now (t .entry))) v)) ⌝ }
 {
     let r = gained(*t, number, rows, peak);

@@ -37,7 +37,7 @@ returns c =
     let z = c .before .before .analyze in
     let b = c .before .before .before .before in
     let a = b .before .before .before in
-    marks-part (b .part .result .now) (a .args .main) (a .args .alt) (a .args .rows) (a .args .log .now) _ (z .last .1 .1 .1 .0) (z .result) (b .part .ensures) (a .pre .1) (z .ensures .0) (z .ensures .1 .0)
+    marks-part (b .part .result .now) (a .args .main) (a .args .alt) (a .args .rows) (a .args .log .now) _ (z .last .1 .1 .1 .0) (z .result) (b .part .ensures) (a .pre) (z .ensures .0) (z .ensures .1 .0)
 
 pub mark-part-spec : {M : Type 1} → statement M
 mark-part-spec =
