@@ -8,7 +8,8 @@
 ghost use mathlib.Core.Path.{_≡_};
 ghost use Prim.Native.Nat.{_+_, _≤_};
 ghost use lib.ListN.{length};
-ghost use Rattle.definition.specs.Walk.{Verdict, tally};
+ghost use Rattle.definition.specs.Walk as Walk;
+ghost use Rattle.definition.specs.Walk.{Verdict};
 ghost use Rattle.tally.specs.View.{tallyOf, talliedOf, Gives};
 ghost use Rattle.vectors.specs.Ranges.{WrittenWithin, Held, StillHeld};
 use cases::Count;
@@ -343,7 +344,7 @@ fn displayed(line: &[u8], from: usize, code: &mut [u8], out: &mut [u8], used: us
 // The tally with one verdict more, of this number, rows and peak, or 22 with the tally as it was: `gain`, on a tally that
 // is lent to it.
 fn gain_once(t: tally::Tally, number: u32, rows: usize, peak: u32) -> tally::Tallied
-    ensures { λ r. ⌜ ((v : Verdict) → Gives v number rows peak → r ≡ talliedOf (tally (tallyOf t) v)) ⌝ }
+    ensures { λ r. ⌜ ((v : Verdict) → Gives v number rows peak → r ≡ talliedOf (Walk.gain (tallyOf t) v)) ⌝ }
 {
     let mut lent = t;
     let answer = tally::gain(&mut lent, number, rows, peak);

@@ -39,7 +39,8 @@ use denote.Triple.Clauses.{ensured, lasts}
 use denote.Triple.Table.{entered, cited}
 use denote.Triple.Walked.{says, Stays, stay-ref, stay-none, walkOf, AllGo, goes-none, goes-ref, Walks, ends-at, walked, walk-meets}
 use denote.Exit.{yes}
-use Rattle.definition.specs.Walk.{Verdict, tally}
+use Rattle.definition.specs.Walk as Walk
+use Rattle.definition.specs.Walk.{Verdict}
 use Rattle.tally.specs.View.{tallyOf, talliedOf, Gives}
 use Rattle.tally.specs.declared.Tally.{Tally}
 use Rattle.tally.specs.declared.Tallied.{Tallied}
@@ -64,7 +65,7 @@ Numbers = ℕ × (ℕ × (ℕ × Unit {0}))
 
 -- what `gained` ensures
 abbrev Is-gained : Tally → ℕ → ℕ → ℕ → Tallied → Type 0
-Is-gained h n k p r = (v : Verdict) → Gives v n k p → r ≡ talliedOf (tally (tallyOf h) v)
+Is-gained h n k p r = (v : Verdict) → Gives v n k p → r ≡ talliedOf (Walk.gain (tallyOf h) v)
 
 module _ {M : Type 1} (𝓤 : URA M) (H : Heap 𝓤) (A : Atoms 𝓤) (mem : Memory → SProp 𝓤) (run : Routine → Fun 𝓤) where
   -- the contract that the proof cites

@@ -40,7 +40,8 @@ use denote.Triple.Clauses.{Lasts, ensured, lasts}
 use denote.Triple.Table.{entered, cited}
 use denote.Triple.Walked.{says, Stays, stay-none, walkOf, AllGo, goes-none, Walks, ends-at, walked, walk-meets}
 use denote.Exit.{yes}
-use Rattle.definition.specs.Walk.{Verdict, tally}
+use Rattle.definition.specs.Walk as Walk
+use Rattle.definition.specs.Walk.{Verdict}
 use Rattle.tally.specs.View.{tallyOf, tallied, talliedOf, Gives}
 use Rattle.tally.specs.declared.Tally.{Tally}
 use Rattle.tally.specs.declared.Tallied.{Tallied}
@@ -62,7 +63,7 @@ stayed = (stay-none (λ _. T.the-row) yes, (stay-none (λ _. u32) yes, (stay-non
 
 -- what `gain` ensures of the tally afterwards and the answer
 abbrev Is-gained : Tally → ℕ → ℕ → ℕ → Tallied → Type 0
-Is-gained h n k p r = (v : Verdict) → Gives v n k p → r ≡ talliedOf (tally (tallyOf h) v)
+Is-gained h n k p r = (v : Verdict) → Gives v n k p → r ≡ talliedOf (Walk.gain (tallyOf h) v)
 
 -- the machine value of a tally, and that of one with its answer
 abbrev val : Tally → Val
