@@ -290,7 +290,7 @@ module _ {A : Type 0} (limit : ℕ) where
   module _ (I : ItemOps A) where
     popIndex-within : (s : Stacks A) (f : ℕ → Stacks A → Outcome A) → total s ≤ limit
         → ((n : ℕ) (t : Stacks A) → total t ≤ limit → Within limit (f n t)) → Within limit (popIndex I s f)
-    popIndex-within s f h n = popFrom-within (s .main) (s .alt) _ h (λ x t k. read (indexOf (I .bytes x)) t k)
+    popIndex-within s f h n = popFrom-within (s .main) (s .alt) _ h (λ x t k. read (indexOf (I .toBytes x)) t k)
       where
         read : (i : Index) (t : Stacks A) → total t ≤ limit → Within limit (readable I i (λ j. f j t))
         read notKnown t k = tt
@@ -323,7 +323,7 @@ step-within I R i NIP s h = nipSecond-within (R .limit) s h
 step-within I R i TUCK s h = tuckTop-within (R .limit) s
 step-within I R i PICK s h = popIndex-within (R .limit) I s _ h (λ n t k. copyItems-within (R .limit) _ 1 t)
 step-within I R i ROLL s h = popIndex-within (R .limit) I s _ h (λ n t k. rotateItems-within (R .limit) _ 1 t k)
-step-within I R i ZK s h = popFrom-within (R .limit) (s .main) (s .alt) _ h (λ x t k. zkBy-within (R .limit) I (tagOf (I .bytes x)) t k)
+step-within I R i ZK s h = popFrom-within (R .limit) (s .main) (s .alt) _ h (λ x t k. zkBy-within (R .limit) I (tagOf (I .toBytes x)) t k)
 step-within I R i (copies depth count) s h = copyItems-within (R .limit) depth count s
 step-within I R i (rotates count shift) s h = rotateItems-within (R .limit) count shift s h
 

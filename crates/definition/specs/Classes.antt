@@ -6,7 +6,7 @@ use lib.Dec.{leb}
 use lib.ListN.{getD}
 use Rattle.definition.specs.Basics.{pick}
 
--- what an ordinary opcode does to the stacks (Section 3)
+-- what an ordinary opcode, other than the plain ones, does to the stacks (Section 3)
 pub data Ordinary : Type 0 where
   unmodelled push nothing TOALT FROMALT DEPTH SIZE NIP TUCK PICK ROLL ZK : Ordinary
   -- depth and count; count and shift
@@ -16,10 +16,11 @@ pub data Ordinary : Type 0 where
 pub data Class : Type 0 where
   IF NOTIF ELSE ENDIF RETURN : Class
   ordinary : Ordinary → Class
-  -- the ordinary ones that section 2 gives by what they pop and push: `plain 2 1` is "2 and 1"
+  -- ordinary too, and given by how many items it pops and pushes: `plain 2 1` is "2 and 1". None pushes more than one.
   plain : (pops pushes : ℕ) → Class
 
--- "Class numbers: unmodelled 0, push 1, nothing 2, then IF 3 to (2 and 1) 31 as listed": the class at its number
+-- "Class numbers: unmodelled 0, push 1, nothing 2, then IF 3 to (2 and 1) 31 as listed; in lines two and three each opcode is a
+-- class": the class at its number
 abbrev pub classes : List Class
 classes =
     ordinary unmodelled ∷ ordinary push ∷ ordinary nothing ∷
@@ -33,7 +34,7 @@ classes =
 abbrev pub classAt : ℕ → Class
 classAt n = getD classes n (ordinary unmodelled)
 
--- codes from .. to are of class
+-- the codes from `from` to `to` have this class number
 pub data Range : Type 0 where
   range : (from to class : ℕ) → Range
 

@@ -14,16 +14,17 @@ use Rattle.definition.specs.Walk.{Item, unknown, exact, Arm, dead, live,
 
 -- The replay
 
--- what a replay has: its stacks, and what is left of the choices and of the given byte strings
+-- What a replay has between two steps: its stacks, and what is left of the choices and of the given byte strings. "Items are byte
+-- strings of any length."
 pub record Replay : Type 0 where
   pub stacks : Stacks Bytes
   pub choices : List Bool
   pub results : List Bytes
 
--- "with real bytes, .. a literal is pushed whole, SIZE pushes the real length, an unknown result of a plain class is the next of
--- the given byte strings"
+-- "A step does what section 3 says with real bytes, .. a literal is pushed whole, SIZE pushes the real length, an unknown result
+-- of a plain class is the next of the given byte strings". (`ReplayOf` sees to it that one is left, and so for the choices.)
 abbrev pub replaying : List Bytes → ItemOps Bytes
-replaying results = record { literal = λ l. l; bytes = some; result = getD results 0 [] }
+replaying results = record { fromBytes = λ l. l; toBytes = some; result = getD results 0 [] }
 
 -- It carries instructions out, or jumps over them: past the ENDIF, or past the ELSE if there is one (`true`). The number
 -- counts the conditionals opened since the jump began.
@@ -37,7 +38,8 @@ pub data Carried : Type 0 where
   halts : Carried
   fails : Carried
 
--- on in this mode with what an operation yields; a refusal is a fault
+-- On in this mode with what an operation yields. A refusal is a fault: "It faults on a missing item, no room, an unreadable or
+-- negative index, a bad tag, an unmodelled opcode", which are all that Stacks can refuse.
 abbrev pub carriedOut : Outcome Bytes → Mode → List Bool → List Bytes → Carried
 carriedOut o mode choices results =
     onDone o (λ r. fails) (λ s. goesOn mode (record { stacks = s; choices = choices; results = results }))
@@ -52,7 +54,7 @@ abbrev pub branches : Replay → Carried
 branches r = carriedOut (dropItems 1 (r .stacks)) (chosen (getD (r .choices) 0 true)) (drop 1 (r .choices)) (r .results)
 
 -- One instruction carried out, by its class. "A replay that meets ELSE jumps past the ENDIF; ENDIF itself does nothing. RETURN
--- ends it." A plain class uses up as many byte strings as it pushes.
+-- ends it." A plain class that pushes uses up one byte string.
 abbrev pub carry : Rules → Instruction → Class → Replay → Carried
 carry R i IF r = branches r
 carry R i NOTIF r = branches r
@@ -77,7 +79,8 @@ past (ordinary o) toElse n = jumping toElse n
 past (plain pops pushes) toElse n = jumping toElse n
 
 -- What a replay did: the instructions that it reached, each by its place in the fragment, counted from 0, with the stacks
--- just before it, and how it ended: past the last instruction, at RETURN, or with a fault.
+-- just before it, and how it ended: past the last instruction, at RETURN, or with a fault. "A replay reaches an instruction that
+-- it carries out or faults on, not one that it jumps over."
 pub data Trace : Type 0 where
   visit : ℕ → Stacks Bytes → Trace → Trace
   offEnd : Stacks Bytes → Trace
@@ -117,7 +120,8 @@ EndsInFault (offEnd u) = ⊥
 EndsInFault (returned u) = ⊥
 EndsInFault faulted = Unit {0}
 
--- it runs off the end, with these stacks
+-- it runs off the end, with these stacks: "when it comes past the last instruction, never at RETURN, at once on the empty
+-- fragment"
 abbrev pub RunsOffWith : Stacks Bytes → Trace → Type 0
 RunsOffWith s (visit j u t) = RunsOffWith s t
 RunsOffWith s (offEnd u) = u ≡ s
@@ -170,7 +174,7 @@ AreStrings [] = Unit {0}
 AreStrings (b ∷ l) = AreBytes b × AreStrings l
 
 -- A replay of these instructions from stacks that s shows. "Choices and byte strings are two lists, each at least as long as
--- the fragment has instructions."
+-- the fragment has instructions; what is left over goes unused."
 pub record ReplayOf (is : List Instruction) (s : Stacks Item) (r : Replay) : Type 0 where
   pub start : ShowsStacks s (r .stacks)
   pub main : AreStrings (r .stacks .main)
@@ -179,46 +183,50 @@ pub record ReplayOf (is : List Instruction) (s : Stacks Item) (r : Replay) : Typ
   pub enoughChoices : length is ≤ length (r .choices)
   pub enoughResults : length is ≤ length (r .results)
 
--- what every replay does is as P says; some replay does as P says
+-- what every replay does is as P says
 abbrev pub EveryReplay : Rules → List Instruction → Stacks Item → (Trace → Type 0) → Type 0
 EveryReplay R is s P = (r : Replay) → ReplayOf is s r → P (wholeReplay R is r)
 
+-- some replay does as P says
 abbrev pub SomeReplay : Rules → List Instruction → Stacks Item → (Trace → Type 0) → Type 0
 SomeReplay R is s P = (r : Replay) × (ReplayOf is s r) × (P (wholeReplay R is r))
 
 -- Demand 3
 
--- the two heights in the row of the instruction at place k; fewer than two numbers where the log has no such row
+-- the two heights in the row of the instruction at place k, of 0 2 0 1 1 0 those of place 1 are 1 0; fewer than two numbers where
+-- the log has no such row
 abbrev pub heightsAt : ℕ → List ℕ → List ℕ
 heightsAt k log = take 2 (drop (3 * k + 1) log)
 
--- the row of place k is live, not 65,535 twice; and some replay comes to that place
+-- the row of place k is live, not 65,535 twice
 abbrev pub LiveRow : ℕ → List ℕ → Type 0
 LiveRow k log = heightsAt k log ≡ heightsOf dead → ⊥
 
+-- some replay comes to place k
 abbrev pub SomeReplayReaches : Rules → List Instruction → Stacks Item → ℕ → Type 0
 SomeReplayReaches R is s k = SomeReplay R is s (λ t. (u : Stacks Bytes) × (ReachedAt k u t))
 
 -- what the marker answered for these instructions from the stacks s is true of every replay
 pub record Demand3 (R : Rules) (is : List Instruction) (s : Stacks Item) (m : Marked) : Type 0 where
-  -- "no fault"
+  -- no replay faults
   pub noFault : EveryReplay R is s (λ t. EndsInFault t → ⊥)
-  -- "the limit": never over 244 items
+  -- none ever holds more items than the limit, 244
   pub withinLimit : EveryReplay R is s (λ t. TotalsWithin (R .limit) t)
-  -- "the logged heights", at each instruction reached
+  -- at each instruction reached the heights are the logged ones
   pub heights : EveryReplay R is s (λ t. (k : ℕ) (u : Stacks Bytes) → ReachedAt k u t → heightsAt k (m .log) ≡ stackHeights u)
-  -- "the end": where it runs off the end it has the marker's end stacks, their heights and the bytes of each exact item
+  -- one that runs off the end has the marker's end stacks: their heights, and the bytes of each exact item
   pub ending : EveryReplay R is s (λ t. (u : Stacks Bytes) → RunsOffWith u t → ShowsArm (m .verdict .end) u)
-  -- "live exactly where reached"
+  -- a row is live exactly where some replay comes
   pub liveness : (k : ℕ) → k < length is → (LiveRow k (m .log) ↔ SomeReplayReaches R is s k)
-  -- "no end exactly when none" runs off the end
+  -- there are no end stacks exactly when no replay runs off the end
   pub noEnd : (m .verdict .end ≡ dead) ↔ EveryReplay R is s (λ t. (u : Stacks Bytes) → RunsOffWith u t → ⊥)
-  -- "the peak exact": no total of any replay is over it, and one replay comes to it
+  -- the peak is exact: no total of any replay is over it, and one replay comes to it
   pub peakBounds : EveryReplay R is s (λ t. TotalsWithin (m .verdict .peak) t)
   pub peakReached : SomeReplay R is s (λ t. HasTotal (m .verdict .peak) t)
 
--- Demand 3 as one claim: where the analysis accepts a fragment from these heights, what it answers is true of every replay
+-- "Demand 3 is one claim about whole replays": of `builtIn` and of every fragment, all start heights and every log, where the
+-- analysis accepts, what it answers is true of every replay.
 abbrev pub TrueOfEveryReplay : Rules → Bytes → ℕ → ℕ → List ℕ → Type 0
 TrueOfEveryReplay R fragment main alt log =
-    analysis R fragment main alt log .verdict .answer .number ≡ 0
+    (analysis R fragment main alt log) .verdict .answer .number ≡ 0
     → Demand3 R (instructions (decode fragment)) (unknowns main alt) (analysis R fragment main alt log)

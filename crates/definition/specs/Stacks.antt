@@ -10,7 +10,8 @@ use Rattle.definition.specs.Decoding.{Instruction, serialize, plus, Inde
 use Rattle.definition.specs.Classes.{Class, Ordinary, unmodelled, push, nothing, TOALT, FROMALT, DEPTH, SIZE, NIP, TUCK, PICK, ROLL, ZK, copies, rotates, classOf}
 use Rattle.definition.specs.Refusals.{Refusal, stacksFull, mainDry, altDry, badIndex, badTag, unmodelledOpcode}
 
--- what the marker and a replay go by: the class of each opcode, and the limit of both stacks together
+-- What the marker and a replay go by: the class of each opcode, and the limit of both stacks together. Document 01 has one such,
+-- `builtIn`.
 pub record Rules : Type 0 where
   pub classFor : ℕ → Class
   pub limit : ℕ
@@ -32,10 +33,10 @@ pub data Outcome (A : Type 0) : Type 0 where
 -- what the operations ask of items of type A
 pub record ItemOps (A : Type 0) : Type 0 where
   -- the item of these bytes
-  pub literal : Bytes → A
+  pub fromBytes : Bytes → A
   -- what is known of an item's bytes
-  pub bytes : A → Option Bytes
-  -- the result of a plain class
+  pub toBytes : A → Option Bytes
+  -- the result of a plain class; to the marker also the length of an unknown item
   pub result : A
 
 -- "ZK pops a tag, one exact byte": 20 or 21
@@ -62,11 +63,12 @@ module _ {A : Type 0} where
   abbrev pub withMain : Stacks A → List A → Stacks A
   withMain s l = record { main = l; alt = s .alt }
 
-  -- the outcome, where main has k items
+  -- the outcome where main has k items, else 7. "Missing items are judged before room, and popped items are gone before room is
+  -- judged": each operation below tests in this order.
   abbrev pub needs : ℕ → Stacks A → Outcome A → Outcome A
   needs k s outcome = pick (leb k (length (s .main))) outcome (refused (mainDry k (length (s .main))))
 
-  -- the outcome, where there is room for k items more
+  -- the outcome where there is room for k items more, else 6
   abbrev pub room : ℕ → ℕ → Stacks A → Outcome A → Outcome A
   room limit k s outcome = pick (leb (total s + k) limit) outcome (refused (stacksFull (total s + k) limit))
 
@@ -97,7 +99,7 @@ module _ {A : Type 0} where
   dropItems k s = needs k s (done (withMain s (drop k (s .main))))
 
   -- "copy (depth, count): needs depth items, appends the lowest count of them". Of a b c d, a on top, (2,1) makes b a b c d:
-  -- the top 2 are a b, and without the first 2 - 1 of these b is left.
+  -- the top 2 are a b, and without the first 2 - 1 of these b is left. Room is wanted for all copies at once.
   unfoldable pub copyItems : ℕ → ℕ → ℕ → Stacks A → Outcome A
   copyItems limit depth count s =
       needs depth s (room limit count s (done (withMain s (drop (depth - count) (take depth (s .main)) ++ s .main))))
@@ -113,14 +115,15 @@ module _ {A : Type 0} where
   tuckTop limit s =
       needs 1 s (needs 2 s (room limit 1 s (done (withMain s (take 2 (s .main) ++ take 1 (s .main) ++ drop 2 (s .main))))))
 
-  -- "NIP removes the second, needs 2"
+  -- "NIP removes the second, needs 2". Of a b c it makes a c.
   unfoldable pub nipSecond : Stacks A → Outcome A
   nipSecond s = needs 2 s (done (withMain s (take 1 (s .main) ++ drop 2 (s .main))))
 
-  -- to alt and from alt: "Alt transfers need no room"
+  -- to alt: main a b and alt x become b and a x. "Alt transfers need no room"
   unfoldable pub moveToAlt : Stacks A → Outcome A
   moveToAlt s = needs 1 s (done (record { main = drop 1 (s .main); alt = take 1 (s .main) ++ s .alt }))
 
+  -- from alt: main b and alt a x become a b and x
   unfoldable pub moveFromAlt : Stacks A → Outcome A
   moveFromAlt s =
       pick (leb 1 (length (s .alt))) (done (record { main = take 1 (s .alt) ++ s .main; alt = drop 1 (s .alt) })) (refused altDry)
@@ -128,7 +131,7 @@ module _ {A : Type 0} where
 module _ {A : Type 0} (I : ItemOps A) where
   -- DEPTH, SIZE and ZK push a number
   abbrev pub numberItem : ℕ → A
-  numberItem n = I .literal (serialize (plus n))
+  numberItem n = I .fromBytes (serialize (plus n))
 
   -- "pushes the top's length if exact, else unknown"
   abbrev pub sizeItem : Option Bytes → A
@@ -144,7 +147,7 @@ module _ {A : Type 0} (I : ItemOps A) where
 
   -- pops an index and goes on with it
   abbrev pub popIndex : Stacks A → (ℕ → Stacks A → Outcome A) → Outcome A
-  popIndex s next = pop s (λ x t. readable (indexOf (I .bytes x)) (λ n. next n t))
+  popIndex s next = pop s (λ x t. readable (indexOf (I .toBytes x)) (λ n. next n t))
 
   -- "It pushes 1", after dropping this many
   abbrev pub zkDrop : ℕ → ℕ → Stacks A → Outcome A
@@ -160,20 +163,22 @@ module _ {A : Type 0} (I : ItemOps A) where
       zkDrop limit count v)))
   zkBy limit r0Succinct s = zkDrop limit 8 s
 
-  -- what an instruction of an ordinary class does
+  -- What an instruction of an ordinary class does. "DEPTH pushes main's height. SIZE needs 1, pushes the top's length". "PICK and
+  -- ROLL pop an index .., then need index + 1; PICK copies that item to the top, ROLL moves it": with 1 over a b c, PICK makes
+  -- b a b c and ROLL b a c.
   unfoldable pub step : Rules → Instruction → Ordinary → Stacks A → Outcome A
   step R i unmodelled s = refused (unmodelledOpcode (i .opcode))
-  step R i push s = pushItem (R .limit) (I .literal (i .literal)) s
+  step R i push s = pushItem (R .limit) (I .fromBytes (i .literal)) s
   step R i nothing s = done s
   step R i TOALT s = moveToAlt s
   step R i FROMALT s = moveFromAlt s
   step R i DEPTH s = pushItem (R .limit) (numberItem (length (s .main))) s
-  step R i SIZE s = look s (λ top. pushItem (R .limit) (sizeItem (I .bytes top)) s)
+  step R i SIZE s = look s (λ top. pushItem (R .limit) (sizeItem (I .toBytes top)) s)
   step R i NIP s = nipSecond s
   step R i TUCK s = tuckTop (R .limit) s
   step R i PICK s = popIndex s (λ n t. copyItems (R .limit) (n + 1) 1 t)
   step R i ROLL s = popIndex s (λ n t. rotateItems (n + 1) 1 t)
-  step R i ZK s = pop s (λ tag t. zkBy (R .limit) (tagOf (I .bytes tag)) t)
+  step R i ZK s = pop s (λ tag t. zkBy (R .limit) (tagOf (I .toBytes tag)) t)
   step R i (copies depth count) s = copyItems (R .limit) depth count s
   step R i (rotates count shift) s = rotateItems count shift s
 

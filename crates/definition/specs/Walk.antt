@@ -30,16 +30,16 @@ bytesKnown (exact l) = some l
 
 -- Section 3, "the plain classes push unknown items"
 abbrev pub marking : ItemOps Item
-marking = record { literal = known; bytes = bytesKnown; result = unknown }
+marking = record { fromBytes = known; toBytes = bytesKnown; result = unknown }
 
 -- Arms and conditionals
 
--- an arm: dead, or live with its stacks
+-- "An arm may hold conditionals, and each conditional holds one or two arms". An arm: dead, or live with its stacks.
 pub data Arm : Type 0 where
   dead : Arm
   live : Stacks Item → Arm
 
--- the first arm of an open conditional: it has not ended, or has ended so at its ELSE
+-- the first arm of an open conditional: it has not ended, or it ended at its ELSE, as this arm
 pub data FirstArm : Type 0 where
   notEnded : FirstArm
   ended : Arm → FirstArm
@@ -90,7 +90,7 @@ join dead b fs = moves b fs
 join (live s) dead fs = moves (live s) fs
 join (live s) (live t) fs = onOutcome (joinStacks s t) fs
 
--- What a conditional does to the arm c and to its frame, the innermost:
+-- What a conditional does to the arm c and to its frame, the innermost (a dead c stays dead):
 --
 --   instruction         arm afterwards          frame before             frame afterwards
 --   IF, NOTIF           c without its top       none                     start: c without its top; first arm not ended
@@ -121,8 +121,8 @@ abbrev pub onEndif : Arm → Arm → FirstArm → List Frame → Move
 onEndif c start notEnded fs = join c start fs
 onEndif c start (ended a) fs = join a c fs
 
--- one instruction, by its class. "While dead, ordinary opcodes are skipped, unmodelled ones too, and conditionals are
--- still matched."
+-- One instruction, by its class. "RETURN makes the arm dead until its ELSE or ENDIF. While dead, ordinary opcodes are skipped,
+-- unmodelled ones too, and conditionals are still matched."
 abbrev pub effect : Rules → Instruction → Class → Arm → List Frame → Move
 effect R i IF c fs = conditional c fs
 effect R i NOTIF c fs = conditional c fs
@@ -143,7 +143,8 @@ abbrev pub heightsOf : Arm → List ℕ
 heightsOf dead = 65535 ∷ 65535 ∷ []
 heightsOf (live s) = stackHeights s
 
--- "three to an instruction": the log with the offset and these heights as row k, counted from 0
+-- "three to an instruction": the log with the offset and these heights as row k, counted from 0; row 1 is elements 3, 4 and 5.
+-- Offsets below 10,000, heights up to 244 and 65,535 are u16 numbers.
 unfoldable pub logRow : ℕ → ℕ → Arm → List ℕ → List ℕ
 logRow k offset c log = sets log (3 * k) (offset ∷ heightsOf c)
 
@@ -175,7 +176,7 @@ abbrev pub totalOf : Arm → ℕ
 totalOf dead = 0
 totalOf (live s) = total s
 
--- It leads on to the arm c. "peak (greatest total at the start or after any live instruction)": what stands after a live
+-- The instruction leads on to the arm c. "peak (greatest total at the start or after any live instruction)": what stands after a live
 -- RETURN, ELSE or ENDIF was counted before.
 abbrev pub onward : Arm → List Frame → State → State
 onward c fs s = record {
@@ -269,7 +270,7 @@ pub record Tally : Type 0 where
   pub rows : ℕ
   pub peak : ℕ
 
--- the answer, 0 or 22, and the tally afterwards
+-- "the answer is 0 or 22", and the tally afterwards
 pub record TallyAnswer : Type 0 where
   pub answer : Answer
   pub tally : Tally
@@ -283,7 +284,7 @@ oneMore t accepts rows peak = record {
   peak = max (t .peak) peak;
 }
 
--- no sum passes 4,294,967,295
+-- no sum passes 4,294,967,295; the peak is no sum
 abbrev pub fits : Tally → Bool
 fits t = leb (t .fragments) 4294967295 && leb (t .accepts) 4294967295 && leb (t .rows) 4294967295
 
