@@ -1,4 +1,4 @@
-/* Marks the sample paper of document 01, section 6, and analyses a fragment that is refused. */
+/* Marks the sample paper of document 01, section 6, prints its lines, analyses a fragment that is refused, and keeps a tally. */
 #include <inttypes.h>
 #include <stdio.h>
 
@@ -15,9 +15,21 @@ int main(void) {
         printf("refused %" PRIu64 " at %" PRIu64 " %" PRIu64 " %" PRIu64 " %" PRIu64 "\n", p[0], p[1], p[2], p[3], p[4]);
     }
 
+    uint8_t text[LISTOCHUR_LINES_BYTES];
+    uint64_t size;
+    listochur_mark_lines(paper, sizeof paper, log, 24000, text, sizeof text, &size, LISTOCHUR_LINES_PLACES);
+    fwrite(text, 1, size, stdout);
+
     const uint8_t fragment[] = {0x51, 0x79};
     uint64_t v[LISTOCHUR_VERDICT_PLACES];
     listochur_analyze(fragment, sizeof fragment, 1, 0, log, 24000, v, LISTOCHUR_VERDICT_PLACES);
     printf("%" PRIu64 " at %" PRIu64 ", %" PRIu64 ", %" PRIu64 "\n", v[0], v[1], v[2], v[3]);
+
+    /* the paper has one fragment, so its verdict is that fragment's */
+    uint32_t tally[4] = {0};
+    listochur_gain(tally, (uint32_t)p[0], p[5], (uint32_t)p[6]);
+    listochur_gain(tally, (uint32_t)v[0], v[4], (uint32_t)v[5]);
+    printf("%" PRIu32 " fragments, %" PRIu32 " accepted, %" PRIu32 " rows, peak %" PRIu32 "\n", tally[0], tally[1], tally[2],
+           tally[3]);
     return 0;
 }

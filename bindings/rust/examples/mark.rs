@@ -1,6 +1,7 @@
-//! Marks the sample paper of document 01, section 6, and analyses a fragment that is refused.
+//! Marks the sample paper of document 01, section 6, prints its lines, analyses a fragment that is refused, and keeps a tally.
+use std::io::{self, Write};
 
-fn main() {
+fn main() -> io::Result<()> {
     let paper = [1, 0, 1, 0, 0x0e, 0, 0, 0, 1, 0, 0x0e, 0, 6, 0, 0x63, 0x51, 0x67, 0x52, 0x68, 0x75];
     let mut log = [0; 24_000];
     let p = listochur::mark_paper(&paper, &mut log);
@@ -10,6 +11,17 @@ fn main() {
         println!("refused {} at {} {} {} {}", p.number, p.entry, p.offset, p.first, p.second);
     }
 
+    let mut text = [0; listochur::LINES_BYTES];
+    let lines = listochur::mark_lines(&paper, &mut log, &mut text);
+    io::stdout().write_all(&text[..lines.size])?;
+
     let v = listochur::analyze(&[0x51, 0x79], 1, 0, &mut log);
     println!("{} at {}, {}, {}", v.number, v.offset, v.first, v.second);
+
+    // The paper has one fragment, so its verdict is that fragment's.
+    let mut tally = listochur::Tally::default();
+    listochur::gain(&mut tally, p.number, p.rows, p.peak);
+    listochur::gain(&mut tally, v.number, v.rows, v.peak);
+    println!("{} fragments, {} accepted, {} rows, peak {}", tally.fragments, tally.accepted, tally.rows, tally.peak);
+    Ok(())
 }

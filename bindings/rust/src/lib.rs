@@ -1,13 +1,13 @@
-//! A proved stack marker for Kaspa script: analyse a fragment, check limits, mark a paper, display.
+//! A proved stack marker for Kaspa script: analyse a fragment, check limits, mark a paper, display, print, keep a tally.
 //!
-//! The four functions hand their slices and numbers to the proved ones of the crate `export` and read the numbers that come
+//! The functions hand their slices and numbers to the proved ones of the crate `export` and read the numbers that come
 //! back. They test nothing. A fragment that is too long, heights over the limit, a short log, a bad header or a mark that is
 //! neither 0 nor 1 reach the callee as they are: it takes every input and has refused them, with a number of document 01,
 //! section 7, before anything here could. Nothing panics and nothing is allocated.
 //!
 //! What is proved is that the answer and the log are those of document 01, for every input. This crate and the compilers are
-//! not: here are four calls, the numbers that they leave, and the part that the display's two numbers cut out. A call uses up
-//! to 512 KiB of stack.
+//! not: here are a call for each function, the numbers that it leaves, and the part that the display's two numbers cut out. A
+//! call uses up to 512 KiB of stack.
 //!
 //! ```
 //! let mut log = [0u16; 6];
@@ -49,11 +49,26 @@ mod callee {
             out: *mut u64,
             out_len: usize,
         ) -> usize;
+        pub fn listochur_mark_lines(
+            paper: *const u8,
+            paper_len: usize,
+            log: *mut u16,
+            log_len: usize,
+            text: *mut u8,
+            text_len: usize,
+            out: *mut u64,
+            out_len: usize,
+        ) -> u32;
+        // Four counters, with no length.
+        pub fn listochur_gain(tally: *mut u32, number: u32, rows: u64, peak: u32) -> u32;
     }
 }
 
 /// A height in the log where the row is dead.
 pub const DEAD: u16 = 65_535;
+
+/// Room for the lines of any paper.
+pub const LINES_BYTES: usize = 4_096;
 
 /// The verdict on a fragment.
 #[derive(Clone, Copy, Debug, PartialEq, Eq)]
@@ -112,6 +127,28 @@ pub struct PaperVerdict {
     /// How many rows of the log are written, those of all fragments together.
     pub rows: usize,
     /// The greatest peak of the fragments; 0 if the paper is refused.
+    pub peak: u32,
+}
+
+/// What [`mark_lines`] answers.
+#[derive(Clone, Copy, Debug, PartialEq, Eq)]
+pub struct Lines {
+    /// 0 for accepted, else why the paper is refused.
+    pub number: u32,
+    /// How many bytes the lines take, at most [`LINES_BYTES`].
+    pub size: usize,
+}
+
+/// The bench tally.
+#[derive(Clone, Copy, Debug, Default, PartialEq, Eq)]
+pub struct Tally {
+    /// Verdicts gained.
+    pub fragments: u32,
+    /// Those with number 0.
+    pub accepted: u32,
+    /// Their rows together.
+    pub rows: u32,
+    /// The greatest of their peaks.
     pub peak: u32,
 }
 
@@ -188,4 +225,41 @@ pub fn display<'a>(body: &'a [u8], init: &'a [u8], offset: usize, mark: u32) -> 
     // SAFETY: proved of the callee: start + size is at most the length of the fragment that the mark names, and both are 0
     // for a mark that names none.
     unsafe { fragment.get_unchecked(start..start + size) }
+}
+
+/// What `stackmark` prints of a paper: a line for each fragment accepted, then `accepted` or `refused N at K O A B`, each ended
+/// by a newline. The lines are written to the start of `text` where it has room for all of them, else none is; the rest of it
+/// stays as lent. The rows of all fragments are written to `log`, as by [`mark_paper`], whatever room `text` has.
+///
+/// Tests nothing: a paper that is refused has its lines too.
+pub fn mark_lines(paper: &[u8], log: &mut [u16], text: &mut [u8]) -> Lines {
+    let mut out = [0; 1];
+    // SAFETY: each slice is passed whole, with its own length, and the borrows keep `log`, `text` and `out` apart from the rest.
+    let number = unsafe {
+        callee::listochur_mark_lines(
+            paper.as_ptr(),
+            paper.len(),
+            log.as_mut_ptr(),
+            log.len(),
+            text.as_mut_ptr(),
+            text.len(),
+            out.as_mut_ptr(),
+            out.len(),
+        )
+    };
+    let [size] = out;
+    Lines { number, size: size as usize }
+}
+
+/// The tally gains one verdict, of this number, rows and peak. Answers 0, or 22 where a sum would pass 4,294,967,295, with the
+/// tally as it was.
+///
+/// Tests nothing: rows of any size are the callee's to refuse.
+pub fn gain(tally: &mut Tally, number: u32, rows: usize, peak: u32) -> u32 {
+    let mut counters = [tally.fragments, tally.accepted, tally.rows, tally.peak];
+    // SAFETY: the pointer is to four counters, which nothing else refers to.
+    let answer = unsafe { callee::listochur_gain(counters.as_mut_ptr(), number, rows as u64, peak) };
+    let [fragments, accepted, rows, peak] = counters;
+    *tally = Tally { fragments, accepted, rows, peak };
+    answer
 }

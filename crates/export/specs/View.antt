@@ -3,10 +3,11 @@ use mathlib.Core.Bool.{Bool, true, false}
 use mathlib.Core.List.{List, [], _∷_, _++_}
 use Prim.Native.Nat.{ℕ, min}
 use lib.Dec.{ltb}
-use lib.ListN.{length, drop}
+use lib.ListN.{length, drop, getD}
 use Rattle.definition.specs.Basics.{Bytes, pick}
 use Rattle.definition.specs.Papers.{PaperVerdict, byMark, display}
 use Rattle.definition.specs.Refusals.{Answer}
+use Rattle.definition.specs.Walk.{Tally}
 use Rattle.stack_analysis.specs.declared.Verdict.{Verdict}
 
 abbrev pub flag : Bool → ℕ
@@ -31,6 +32,14 @@ abbrev pub paperNumbers : PaperVerdict → List ℕ
 paperNumbers p =
     p .verdict .answer .number ∷ p .entry ∷ p .verdict .answer .offset ∷ p .verdict .answer .first ∷ p .verdict .answer .second
     ∷ p .verdict .rows ∷ p .verdict .peak ∷ []
+
+-- the tally of four counters: fragments, accepted, rows, greatest peak
+abbrev pub tallyFrom : List ℕ → Tally
+tallyFrom l = record { fragments = getD l 0 0; accepts = getD l 1 0; rows = getD l 2 0; peak = getD l 3 0 }
+
+-- the four counters of a tally
+abbrev pub tallyNumbers : Tally → List ℕ
+tallyNumbers t = t .fragments ∷ t .accepts ∷ t .rows ∷ t .peak ∷ []
 
 -- where the part that is displayed starts in its fragment: at the offset, or at the end if the offset is past it
 unfoldable pub displayStart : Bytes → Bytes → ℕ → ℕ → ℕ

@@ -1,19 +1,23 @@
-// The functions for C and Rust callers. Numbers pass as themselves, a slice as a pointer and then a length. Nothing is
-// asked of the caller beyond that: bad input is refused with a number of document 01.
+// The functions for C and Rust callers. Numbers pass as themselves, a slice as a pointer and then a length, an array as a
+// pointer. Nothing is asked of the caller beyond that: bad input is refused with a number of document 01.
 ghost use mathlib.Core.List.{[], _∷_};
 ghost use mathlib.Core.Path.{_≡_};
 ghost use Prim.Native.Nat.{_+_, _≤_, min};
 ghost use lib.ListN.{length, take, drop};
+ghost use Rattle.definition.specs.Lines.{printed};
 ghost use Rattle.definition.specs.Papers.{limitCheck, markPaper, byMark, display};
 ghost use Rattle.definition.specs.Stacks.{builtIn};
-ghost use Rattle.definition.specs.Walk.{analysis};
+ghost use Rattle.definition.specs.Walk.{analysis, tally};
+ghost use Rattle.definition.specs.Walk as W;
 ghost use Rattle.limits.specs.View.{answerOf};
 ghost use Rattle.paper.specs.View.{paperOf};
 ghost use Rattle.stack_analysis.specs.View.{packedVerdict};
-ghost use Rattle.export.specs.View.{flag, written, verdictNumbers, answerNumbers, paperNumbers, displayStart, partNumbers};
+ghost use Rattle.tally.specs.View.{tallyOf, Gives};
+ghost use Rattle.export.specs.View.{flag, written, verdictNumbers, answerNumbers, paperNumbers, displayStart, partNumbers, tallyFrom, tallyNumbers};
 use limits::Answer;
 use paper::PaperVerdict;
 use stack_analysis::Verdict;
+use tally::Tally;
 
 fn flag(b: bool) -> u64
     ensures { λ r. ⌜ r ≡ flag b ⌝ }
@@ -91,6 +95,38 @@ fn smaller(a: usize, b: usize) -> usize
         return a;
     }
     b
+}
+
+// A text into the lent bytes, where they have room for it.
+fn write_text(from: &[u8], text: &mut [u8])
+    ensures { λ _. ⌜ now (text .exit) ≡ written (now (from .entry)) (now (text .entry)) ⌝ }
+{
+    if text.len() < from.len() {
+        return;
+    }
+    text::write_word(text, 0, from);
+}
+
+// A text's size into the lent places, where there is one.
+fn write_size(size: usize, out: &mut [u64])
+    ensures { λ _. ⌜ now (out .exit) ≡ written (size ∷ []) (now (out .entry)) ⌝ }
+{
+    if out.len() < 1 {
+        return;
+    }
+    out[0] = size as u64;
+}
+
+// The tally of four counters: fragments, accepted, rows, greatest peak.
+fn tally_from(counters: &[u32; 4]) -> Tally
+    ensures { λ r. ⌜ tallyOf r ≡ tallyFrom (now (counters .entry)) ⌝ }
+{
+    Tally {
+        fragments: counters[0],
+        accepts: counters[1],
+        rows: counters[2],
+        peak: counters[3],
+    }
 }
 
 // Where the part that is displayed starts in its fragment.
@@ -222,4 +258,73 @@ pub extern "C" fn listochur_display<'a>(
     let start = display_start(body, init, offset, mark);
     write_part(start, size, out);
     size
+}
+
+// What `stackmark` prints of a paper, in `text` where it has room: the verdict's number, the size of the text in `out`, and
+// the rows of all fragments in `log`.
+#[no_mangle]
+pub extern "C" fn listochur_mark_lines(
+    paper: &[u8],
+    log: &mut [u16],
+    text: &mut [u8],
+    out: &mut [u64],
+) -> u32
+    ensures number { λ r.
+        ⌜
+        r
+        ≡ markPaper builtIn (now (paper .entry)) (now (log .entry)) .paper .verdict .answer .number
+        ⌝ }
+    ensures logged { λ r.
+        ⌜ now (log .exit) ≡ markPaper builtIn (now (paper .entry)) (now (log .entry)) .log ⌝ }
+    ensures printed { λ r.
+        ⌜
+        now (text .exit)
+        ≡ written
+        (printed builtIn (now (paper .entry)) (now (log .entry)))
+        (now (text .entry))
+        ⌝ }
+    ensures written { λ r.
+        ⌜
+        now (out .exit)
+        ≡ written
+        (length (printed builtIn (now (paper .entry)) (now (log .entry))) ∷ [])
+        (now (out .entry))
+        ⌝ }
+    ensures short { λ r.
+        ⌜ length (printed builtIn (now (paper .entry)) (now (log .entry))) ≤ 4096 ⌝ }
+{
+    let l = lines::mark_lines(paper, log);
+    let bytes = l.bytes;
+    let size = l.size;
+    let number = l.number;
+    write_text(&bytes[..size], text);
+    write_size(size, out);
+    number
+}
+
+// The tally of these counters, fragments, accepted, rows and greatest peak, gains one verdict, of this number, rows and
+// peak: 0 or 22, which leaves the counters unchanged.
+#[no_mangle]
+pub extern "C" fn listochur_gain(counters: &mut [u32; 4], number: u32, rows: u64, peak: u32) -> u32
+    ensures answer { λ r.
+        ⌜
+        ((v : W.Verdict)
+        → Gives v number rows peak
+        → r ≡ tally (tallyFrom (now (counters .entry))) v .answer .number)
+        ⌝ }
+    ensures gained { λ r.
+        ⌜
+        ((v : W.Verdict)
+        → Gives v number rows peak
+        → now (counters .exit) ≡ tallyNumbers (tally (tallyFrom (now (counters .entry))) v .tally))
+        ⌝ }
+{
+    let r = tally::gained(tally_from(counters), number, rows as usize, peak);
+    *counters = [
+        r.tally.fragments,
+        r.tally.accepts,
+        r.tally.rows,
+        r.tally.peak,
+    ];
+    r.answer
 }

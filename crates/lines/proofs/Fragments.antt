@@ -22,6 +22,7 @@ use Rattle.paper.specs.declared.PaperVerdict.{PaperVerdict}
 use Rattle.paper.proofs.Markings.{Marking, Answers, marking-none, marking-more, marking-stops, marking-end, onto, told}
 use Rattle.text.specs.View.{Written}
 use Rattle.lines.specs.View.{endText, lineText, Prints}
+use Rattle.lines.specs.declared.Told.{Told}
 use Rattle.text.proofs.Texts.{then-written}
 
 -- The parts of a line
@@ -90,31 +91,33 @@ module _ (p : Bytes) (lent : List ℕ) (lentOut : Bytes) where
     -- the last line behind those written
     ended : (r : PaperVerdict) (new : List ℕ) → Answers r new (markFrom builtIn 0 0 0 (fragments p) lent)
         → markFrom builtIn k rows (i .peak) (drop k (fragments p)) log .verdicts ≡ [] → {t : Bytes} → lastLine (paperOf r) ≡ t
-        → {out′ : Bytes} {at′ : ℕ} → Written out at t out′ at′ → Prints (entryCount p) (markFrom builtIn 0 0 0 (fragments p) lent) lentOut out′ at′ new
-    ended r new a none {t} e {out′} {at′} w =
+        → {out′ : Bytes} {told : Told} → Written out at t out′ (told .next) → told .number ≡ r .number → Prints (entryCount p) (markFrom builtIn 0 0 0 (fragments p) lent) lentOut out′ told new
+    unfolding paperOf
+    ended r new a none {t} e {out′} {told} w n =
         let s : lines (entryCount p) 0 (markFrom builtIn 0 0 0 (fragments p) lent .verdicts) ≡ i .text =
         i .printed ∙ ap (λ (vs : List W.Verdict). i .text ++ lines (entryCount p) k vs) none ∙ append-nil (i .text) in
         let l : lastLine (markFrom builtIn 0 0 0 (fragments p) lent .paper) ≡ t = ap lastLine (sym (a .same)) ∙ e in
         record {
-          printed = subst (λ (u : Bytes). Written lentOut 0 u out′ at′) (sym (ap (λ (u : Bytes). u ++ lastLine (markFrom builtIn 0 0 0 (fragments p) lent .paper)) s ∙ ap (λ (u : Bytes). i .text ++ u) l)) (then-written (omega arith) (i .written) w);
+          printed = subst (λ (u : Bytes). Written lentOut 0 u out′ (told .next)) (sym (ap (λ (u : Bytes). u ++ lastLine (markFrom builtIn 0 0 0 (fragments p) lent .paper)) s ∙ ap (λ (u : Bytes). i .text ++ u) l)) (then-written (omega arith) (i .written) w);
+          numbered = n ∙ ap (λ (u : P.PaperVerdict). u .verdict .answer .number) (a .same);
           logged = a .logged;
         }
 
-    pub printing-end : length (fragments p) ≤ k → {out′ : Bytes} {at′ : ℕ} → Written out at (text "accepted\n") out′ at′
-        → Prints (entryCount p) (markFrom builtIn 0 0 0 (fragments p) lent) lentOut out′ at′ log
+    pub printing-end : length (fragments p) ≤ k → {out′ : Bytes} {told : Told} → Written out at (text "accepted\n") out′ (told .next) → told .number ≡ 0
+        → Prints (entryCount p) (markFrom builtIn 0 0 0 (fragments p) lent) lentOut out′ told log
     unfolding markFrom lastLine paperOf
-    printing-end h w =
+    printing-end h w n =
         ended _ _ (marking-end p lent k rows (i .peak) log (i .marking) h)
-        (ap (λ fs. markFrom builtIn k rows (i .peak) fs log .verdicts) (drop-of-length-le (fragments p) h)) refl w
+        (ap (λ fs. markFrom builtIn k rows (i .peak) fs log .verdicts) (drop-of-length-le (fragments p) h)) refl w n
 
     module _ (more : k < length (fragments p)) (v : Verdict) (new : List ℕ) (m : Marks (fragmentMarked p k rows log) rows log v new) where
-      pub printing-stops : (v .number ≡ 0 → ⊥) → {out′ : Bytes} {at′ : ℕ}
-          → Written out at (refusedLine k (answer (v .number) (v .offset) (v .first) (v .second))) out′ at′
-          → Prints (entryCount p) (markFrom builtIn 0 0 0 (fragments p) lent) lentOut out′ at′ new
-      printing-stops z w =
+      pub printing-stops : (v .number ≡ 0 → ⊥) → {out′ : Bytes} {told : Told}
+          → Written out at (refusedLine k (answer (v .number) (v .offset) (v .first) (v .second))) out′ (told .next) → told .number ≡ v .number
+          → Prints (entryCount p) (markFrom builtIn 0 0 0 (fragments p) lent) lentOut out′ told new
+      printing-stops z w n =
           ended _ _ (marking-stops p lent k rows (i .peak) log (i .marking) more v new m z)
           (ap (λ (x : PaperMarked). x .verdicts) (told p lent k rows (i .peak) log (i .marking) more v new m z))
-          (last-refused _ z) w
+          (last-refused _ z) w n
 
       pub printing-more : length new ≡ length log → v .number ≡ 0 → (entries : ℕ) → entries ≡ entryCount p → {out′ : Bytes} {at′ : ℕ}
           → Written out at (lineText entries k (v .peak) (endText (v .ended) (v .end .mains) (v .end .alts))) out′ at′ → at′ ≤ at + 100

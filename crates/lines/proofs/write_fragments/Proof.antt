@@ -44,8 +44,8 @@ mark-fragment-requires c κs = search needs
 add-rows : tie.Need-add-rows Inv-loop μ-loop
 add-rows c = search needs
 
-write-refused-requires : tie.Need-write-refused-requires Inv-loop μ-loop
-write-refused-requires c κs = search needs
+refuse-requires : tie.Need-refuse-requires Inv-loop μ-loop
+refuse-requires c κs = search needs
 
 same-length : tie.Need-same-length Inv-loop μ-loop
 same-length c = search needs
@@ -59,8 +59,8 @@ returns c =
     let b = w .before .before .before .before .before .before .before in
     let l = b .before .before .before in
     let s = l .before .before .before .before .before .before in (
-      printing-stops (s .args .paper .now) (s .args .log .now) (s .args .out .now) (l .loop .k) (l .loop .rows) (l .loop .log) (l .loop .out) (l .loop .at) (l .loop .inv) (more b) (b .mark-fragment .result) _ (marked b) (w .before .before .if1 .taken) (w .write-refused .ensures .0),
-      omega (arith, w .write-refused .ensures .1, l .loop .inv .short, more b, s .pre),
+      printing-stops (s .args .paper .now) (s .args .log .now) (s .args .out .now) (l .loop .k) (l .loop .rows) (l .loop .log) (l .loop .out) (l .loop .at) (l .loop .inv) (more b) (b .mark-fragment .result) _ (marked b) (w .before .before .if1 .taken) (w .refuse .ensures .0) (w .refuse .ensures .1 .1),
+      omega (arith, w .refuse .ensures .1 .0, l .loop .inv .short, more b, s .pre),
     )
 
 write-line-requires : tie.Need-write-line-requires Inv-loop μ-loop
@@ -81,8 +81,8 @@ loop-again c =
     let s = f .before .before .before .before in
     printing-more (s .args .paper .now) (s .args .log .now) (s .args .out .now) (l .loop .k) (l .loop .rows) (l .loop .log) (l .loop .out) (l .loop .at) (l .loop .inv) (more b) (b .mark-fragment .result) _ (marked b) (b .mark-fragment .kept .1 .1 .1 .0) (w .before .before .if1 .left) (f .field .result) (f .field .ensures .0) (w .write-line .ensures .0) (w .write-line .ensures .1) (w .write-line .kept .0)
 
-write-accepted-requires : tie.Need-write-accepted-requires Inv-loop μ-loop
-write-accepted-requires c κs = search needs
+accept-requires : tie.Need-accept-requires Inv-loop μ-loop
+accept-requires c κs = search needs
 
 same-length-3 : tie.Need-same-length-3 Inv-loop μ-loop
 same-length-3 c = search needs
@@ -95,8 +95,8 @@ returns-2 c =
     let w = c .before .before in
     let l = w .before .before .before in
     let s = l .before .before .before .before .before .before in (
-      printing-end (s .args .paper .now) (s .args .log .now) (s .args .out .now) (l .loop .k) (l .loop .rows) (l .loop .log) (l .loop .out) (l .loop .at) (l .loop .inv) (omega (arith, w .before .before .loop-test .left, l .before .fragment-count .ensures)) (w .write-accepted .ensures .0),
-      omega (arith, w .write-accepted .ensures .1, l .loop .inv .short, l .loop .inv .reached, s .pre),
+      printing-end (s .args .paper .now) (s .args .log .now) (s .args .out .now) (l .loop .k) (l .loop .rows) (l .loop .log) (l .loop .out) (l .loop .at) (l .loop .inv) (omega (arith, w .before .before .loop-test .left, l .before .fragment-count .ensures)) (w .accept .ensures .0) (w .accept .ensures .1 .1),
+      omega (arith, w .accept .ensures .1 .0, l .loop .inv .short, l .loop .inv .reached, s .pre),
     )
 
 pub write-fragments-spec : {M : Type 1} → statement M
@@ -111,7 +111,7 @@ write-fragments-spec =
     loop-holds
     mark-fragment-requires
     add-rows
-    write-refused-requires
+    refuse-requires
     same-length
     same-length-2
     returns
@@ -119,7 +119,7 @@ write-fragments-spec =
     add-k
     loop-less
     loop-again
-    write-accepted-requires
+    accept-requires
     same-length-3
     same-length-4
     returns-2)
