@@ -11,17 +11,17 @@ use Rattle.export.specs.View.{tallyFrom, tallyNumbers}
 
 -- t is the tally of the lent counters, r the tally and the answer after one verdict more
 module _ (lent : List ℕ) (t : Tally) (e : tallyOf t ≡ tallyFrom lent) (number rows peak : ℕ) (r : Tallied)
-    (h : (v : W.Verdict) → Gives v number rows peak → r ≡ talliedOf (W.tally (tallyOf t) v)) (v : W.Verdict) (g : Gives v number rows peak) where
-  gains : r ≡ talliedOf (W.tally (tallyFrom lent) v)
-  gains = h v g ∙ ap (λ (w : W.Tally). talliedOf (W.tally w v)) e
+    (h : (v : W.Verdict) → Gives v number rows peak → r ≡ talliedOf (W.gain (tallyOf t) v)) (v : W.Verdict) (g : Gives v number rows peak) where
+  gains : r ≡ talliedOf (W.gain (tallyFrom lent) v)
+  gains = h v g ∙ ap (λ (w : W.Tally). talliedOf (W.gain w v)) e
 
-  pub gain-answer : r .answer ≡ W.tally (tallyFrom lent) v .answer .number
+  pub gain-answer : r .answer ≡ W.gain (tallyFrom lent) v .answer .number
   gain-answer = ap (λ (x : Tallied). x .answer) gains
 
-  pub gain-counters : (r .tally .fragments ∷ r .tally .accepts ∷ r .tally .rows ∷ r .tally .peak ∷ []) ≡ tallyNumbers (W.tally (tallyFrom lent) v .tally)
+  pub gain-counters : (r .tally .fragments ∷ r .tally .accepts ∷ r .tally .rows ∷ r .tally .peak ∷ []) ≡ tallyNumbers (W.gain (tallyFrom lent) v .tally)
   gain-counters = ap (λ (x : Tallied). x .tally .fragments ∷ x .tally .accepts ∷ x .tally .rows ∷ x .tally .peak ∷ []) gains
 
 -- "22 leaves the tally unchanged": so does what the contract of `listochur_gain` says
 pub gain-as-lent : (fragments accepts rows peak : ℕ) (v : W.Verdict) → let lent = fragments ∷ accepts ∷ rows ∷ peak ∷ [] in
-    W.tally (tallyFrom lent) v .answer .number ≡ 22 → tallyNumbers (W.tally (tallyFrom lent) v .tally) ≡ lent
+    W.gain (tallyFrom lent) v .answer .number ≡ 22 → tallyNumbers (W.gain (tallyFrom lent) v .tally) ≡ lent
 gain-as-lent fragments accepts rows peak v h = ap tallyNumbers (unchanged _ v h)

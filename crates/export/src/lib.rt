@@ -7,8 +7,8 @@ ghost use lib.ListN.{length, take, drop};
 ghost use Rattle.definition.specs.Lines.{printed};
 ghost use Rattle.definition.specs.Papers.{limitCheck, markPaper, byMark, display};
 ghost use Rattle.definition.specs.Stacks.{builtIn};
-ghost use Rattle.definition.specs.Walk.{analysis, tally};
-ghost use Rattle.definition.specs.Walk as W;
+ghost use Rattle.definition.specs.Walk.{analysis};
+ghost use Rattle.definition.specs.Walk as Walk;
 ghost use Rattle.limits.specs.View.{answerOf};
 ghost use Rattle.paper.specs.View.{paperOf};
 ghost use Rattle.stack_analysis.specs.View.{packedVerdict};
@@ -308,15 +308,15 @@ pub extern "C" fn listochur_mark_lines(
 pub extern "C" fn listochur_gain(counters: &mut [u32; 4], number: u32, rows: u64, peak: u32) -> u32
     ensures answer { λ r.
         ⌜
-        ((v : W.Verdict)
+        ((v : Walk.Verdict)
         → Gives v number rows peak
-        → r ≡ tally (tallyFrom (now (counters .entry))) v .answer .number)
+        → r ≡ Walk.gain (tallyFrom (now (counters .entry))) v .answer .number)
         ⌝ }
     ensures gained { λ r.
         ⌜
-        ((v : W.Verdict)
+        ((v : Walk.Verdict)
         → Gives v number rows peak
-        → now (counters .exit) ≡ tallyNumbers (tally (tallyFrom (now (counters .entry))) v .tally))
+        → now (counters .exit) ≡ tallyNumbers (Walk.gain (tallyFrom (now (counters .entry))) v .tally))
         ⌝ }
 {
     let r = tally::gained(tally_from(counters), number, rows as usize, peak);
