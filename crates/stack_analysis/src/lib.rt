@@ -203,30 +203,31 @@ fn finish(w: Walk, other: Stacks, alive: bool) -> Walk
     }
 }
 
-// Walks the rest of an arm from its conditional at whose IF or NOTIF start stands, with depth conditionals open around the
-// arm, to the end, or to the ELSE or ENDIF of the innermost.
+// Walks an arm from start, with depth conditionals open around it, to the end, or to the ELSE or ENDIF of the innermost:
+// "An arm may hold conditionals".
 fn arm(code: &[u8], log: &mut [u16], start: Walk, depth: u32) -> Walk
-    requires { ⌜ (Ready (now code) (now log) start) × (start .stop ≡ Stop.Conditional) ⌝ }
+    requires { ⌜ (Ready (now code) (now log) start) × (start .stop ≡ Stop.Running) ⌝ }
     requires { ⌜ depth ≤ 24 ⌝ }
     ensures { λ r.
         ⌜ Walks builtIn (now (code .entry)) depth start (now (log .entry)) r (now (log .exit)) ⌝ }
 {
     let mut w = start;
     loop {
-        let v = conditional(code, log, w, depth);
-        let went = v.stop;
-        if let Stop::Refused(_) = went {
+        let p = walk::plain(code, log, w);
+        let met = p.stop;
+        let Stop::Conditional = met else {
+            return p;
+        };
+        let v = conditional(code, log, p, depth);
+        let closed = v.stop;
+        if let Stop::Refused(_) = closed {
             return v;
         }
-        w = walk::plain(code, log, v);
-        let stop = w.stop;
-        let Stop::Conditional = stop else {
-            return w;
-        };
+        w = v;
     }
 }
 
-// Walks the conditional at whose IF or NOTIF w stands, up to and with its ENDIF.
+// Walks the conditional at whose IF or NOTIF w stands, up to and with its ENDIF: "each conditional holds one or two arms".
 fn conditional(code: &[u8], log: &mut [u16], w: Walk, depth: u32) -> Walk
     requires { ⌜ (Ready (now code) (now log) w) × (w .stop ≡ Stop.Conditional) ⌝ }
     requires { ⌜ depth ≤ 24 ⌝ }
@@ -239,11 +240,7 @@ fn conditional(code: &[u8], log: &mut [u16], w: Walk, depth: u32) -> Walk
     }
     let start = v.stacks;
     let live = v.live;
-    let mut first = walk::plain(code, log, v);
-    let met = first.stop;
-    if let Stop::Conditional = met {
-        first = arm(code, log, first, depth + 1);
-    }
+    let first = arm(code, log, v, depth + 1);
     let stop = first.stop;
     if let Stop::Else = stop {
         let s = first.stacks;
@@ -252,12 +249,8 @@ fn conditional(code: &[u8], log: &mut [u16], w: Walk, depth: u32) -> Walk
         v.last = first.last;
         v.rows = first.rows;
         v.peak = first.peak;
-        let mut other = walk::plain(code, log, v);
-        let met = other.stop;
-        if let Stop::Conditional = met {
-            other = arm(code, log, other, depth + 1);
-        }
-        return finish(other, s, first.live);
+        v = arm(code, log, v, depth + 1);
+        return finish(v, s, first.live);
     }
     finish(first, start, live)
 }
@@ -450,11 +443,7 @@ fn walk_all(fragment: &[u8], main: u32, alt: u32, log: &mut [u16]) -> Verdict
         peak: main + alt,
         stop: Stop::Running,
     };
-    let mut w = walk::plain(fragment, log, start);
-    let met = w.stop;
-    if let Stop::Conditional = met {
-        w = arm(fragment, log, w, 0);
-    }
+    let w = arm(fragment, log, start, 0);
     conclude(w)
 }
 
