@@ -50,6 +50,33 @@ fn stop_of(answer: Answer) -> Stop
     }
 }
 
+// w with these stacks, this arm and this stop.
+fn turned(w: Walk, stacks: Stacks, live: bool, stop: Stop) -> Walk
+    ensures { λ r.
+        ⌜
+        r
+        ≡ record {
+          stacks = stacks;
+          live = live;
+          at = w .at;
+          last = w .last;
+          rows = w .rows;
+          peak = w .peak;
+          stop = stop;
+        }
+        ⌝ }
+{
+    Walk {
+        stacks,
+        live,
+        at: w.at,
+        last: w.last,
+        rows: w.rows,
+        peak: w.peak,
+        stop,
+    }
+}
+
 // The conditional at whose IF or NOTIF w stands, with depth of them open, is opened: the condition is popped where the
 // arm is live.
 fn enter(w: Walk, depth: u32) -> Walk
@@ -59,55 +86,19 @@ fn enter(w: Walk, depth: u32) -> Walk
 {
     let s = w.stacks;
     let live = w.live;
-    let at = w.at;
-    let last = w.last;
-    let rows = w.rows;
-    let peak = w.peak;
     if depth == 24 {
-        return Walk {
-            stacks: s,
-            live,
-            at,
-            last,
-            rows,
-            peak,
-            stop: Stop::Refused(Refusal::Nesting),
-        };
+        return turned(w, s, live, Stop::Refused(Refusal::Nesting));
     }
     if !live {
-        return Walk {
-            stacks: s,
-            live: false,
-            at,
-            last,
-            rows,
-            peak,
-            stop: Stop::Running,
-        };
+        return turned(w, s, false, Stop::Running);
     }
     let p = s.drop_items(1);
     let answer = p.answer;
     let t = p.stacks;
     if let Answer::Refused(r) = answer {
-        return Walk {
-            stacks: t,
-            live: true,
-            at,
-            last,
-            rows,
-            peak,
-            stop: Stop::Refused(r),
-        };
+        return turned(w, t, true, Stop::Refused(r));
     }
-    Walk {
-        stacks: t,
-        live: true,
-        at,
-        last,
-        rows,
-        peak,
-        stop: Stop::Running,
-    }
+    turned(w, t, true, Stop::Running)
 }
 
 // At ENDIF the arm of w joins the other.
@@ -117,45 +108,17 @@ fn close(w: Walk, other: Stacks, alive: bool) -> Walk
 {
     let s = w.stacks;
     let live = w.live;
-    let at = w.at;
-    let last = w.last;
-    let rows = w.rows;
-    let peak = w.peak;
     if !alive {
-        return Walk {
-            stacks: s,
-            live,
-            at,
-            last,
-            rows,
-            peak,
-            stop: Stop::Running,
-        };
+        return turned(w, s, live, Stop::Running);
     }
     if !live {
-        return Walk {
-            stacks: other,
-            live: true,
-            at,
-            last,
-            rows,
-            peak,
-            stop: Stop::Running,
-        };
+        return turned(w, other, true, Stop::Running);
     }
     let j = s.join(other);
     let t = j.stacks;
     let answer = j.answer;
     let stop = stop_of(answer);
-    Walk {
-        stacks: t,
-        live: true,
-        at,
-        last,
-        rows,
-        peak,
-        stop,
-    }
+    turned(w, t, true, stop)
 }
 
 // w with a refusal.
@@ -175,15 +138,8 @@ fn refused(w: Walk, r: Refusal) -> Walk
         ⌝ }
 {
     let s = w.stacks;
-    Walk {
-        stacks: s,
-        live: w.live,
-        at: w.at,
-        last: w.last,
-        rows: w.rows,
-        peak: w.peak,
-        stop: Stop::Refused(r),
-    }
+    let live = w.live;
+    turned(w, s, live, Stop::Refused(r))
 }
 
 // The last arm of a conditional is done with w; the other arm is the empty one, as it started, or the first.
