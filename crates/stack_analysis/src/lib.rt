@@ -50,6 +50,33 @@ fn stop_of(answer: Answer) -> Stop
     }
 }
 
+// w with these stacks, this arm and this stop.
+fn turned(w: Walk, stacks: Stacks, live: bool, stop: Stop) -> Walk
+    ensures { λ r.
+        ⌜
+        r
+        ≡ record {
+          stacks = stacks;
+          live = live;
+          at = w .at;
+          last = w .last;
+          rows = w .rows;
+          peak = w .peak;
+          stop = stop;
+        }
+        ⌝ }
+{
+    Walk {
+        stacks,
+        live,
+        at: w.at,
+        last: w.last,
+        rows: w.rows,
+        peak: w.peak,
+        stop,
+    }
+}
+
 // The conditional at whose IF or NOTIF w stands, with depth of them open, is opened: the condition is popped where the
 // arm is live.
 fn enter(w: Walk, depth: u32) -> Walk
@@ -59,55 +86,19 @@ fn enter(w: Walk, depth: u32) -> Walk
 {
     let s = w.stacks;
     let live = w.live;
-    let at = w.at;
-    let last = w.last;
-    let rows = w.rows;
-    let peak = w.peak;
     if depth == 24 {
-        return Walk {
-            stacks: s,
-            live,
-            at,
-            last,
-            rows,
-            peak,
-            stop: Stop::Refused(Refusal::Nesting),
-        };
+        return turned(w, s, live, Stop::Refused(Refusal::Nesting));
     }
     if !live {
-        return Walk {
-            stacks: s,
-            live: false,
-            at,
-            last,
-            rows,
-            peak,
-            stop: Stop::Running,
-        };
+        return turned(w, s, false, Stop::Running);
     }
     let p = s.drop_items(1);
     let answer = p.answer;
     let t = p.stacks;
     if let Answer::Refused(r) = answer {
-        return Walk {
-            stacks: t,
-            live: true,
-            at,
-            last,
-            rows,
-            peak,
-            stop: Stop::Refused(r),
-        };
+        return turned(w, t, true, Stop::Refused(r));
     }
-    Walk {
-        stacks: t,
-        live: true,
-        at,
-        last,
-        rows,
-        peak,
-        stop: Stop::Running,
-    }
+    turned(w, t, true, Stop::Running)
 }
 
 // At ENDIF the arm of w joins the other.
@@ -117,45 +108,17 @@ fn close(w: Walk, other: Stacks, alive: bool) -> Walk
 {
     let s = w.stacks;
     let live = w.live;
-    let at = w.at;
-    let last = w.last;
-    let rows = w.rows;
-    let peak = w.peak;
     if !alive {
-        return Walk {
-            stacks: s,
-            live,
-            at,
-            last,
-            rows,
-            peak,
-            stop: Stop::Running,
-        };
+        return turned(w, s, live, Stop::Running);
     }
     if !live {
-        return Walk {
-            stacks: other,
-            live: true,
-            at,
-            last,
-            rows,
-            peak,
-            stop: Stop::Running,
-        };
+        return turned(w, other, true, Stop::Running);
     }
     let j = s.join(other);
     let t = j.stacks;
     let answer = j.answer;
     let stop = stop_of(answer);
-    Walk {
-        stacks: t,
-        live: true,
-        at,
-        last,
-        rows,
-        peak,
-        stop,
-    }
+    turned(w, t, true, stop)
 }
 
 // w with a refusal.
@@ -175,15 +138,8 @@ fn refused(w: Walk, r: Refusal) -> Walk
         ⌝ }
 {
     let s = w.stacks;
-    Walk {
-        stacks: s,
-        live: w.live,
-        at: w.at,
-        last: w.last,
-        rows: w.rows,
-        peak: w.peak,
-        stop: Stop::Refused(r),
-    }
+    let live = w.live;
+    turned(w, s, live, Stop::Refused(r))
 }
 
 // The last arm of a conditional is done with w; the other arm is the empty one, as it started, or the first.
@@ -203,30 +159,31 @@ fn finish(w: Walk, other: Stacks, alive: bool) -> Walk
     }
 }
 
-// Walks the rest of an arm from its conditional at whose IF or NOTIF start stands, with depth conditionals open around the
-// arm, to the end, or to the ELSE or ENDIF of the innermost.
+// Walks an arm from start, with depth conditionals open around it, to the end, or to the ELSE or ENDIF of the innermost:
+// "An arm may hold conditionals".
 fn arm(code: &[u8], log: &mut [u16], start: Walk, depth: u32) -> Walk
-    requires { ⌜ (Ready (now code) (now log) start) × (start .stop ≡ Stop.Conditional) ⌝ }
+    requires { ⌜ (Ready (now code) (now log) start) × (start .stop ≡ Stop.Running) ⌝ }
     requires { ⌜ depth ≤ 24 ⌝ }
     ensures { λ r.
         ⌜ Walks builtIn (now (code .entry)) depth start (now (log .entry)) r (now (log .exit)) ⌝ }
 {
     let mut w = start;
     loop {
-        let v = conditional(code, log, w, depth);
-        let went = v.stop;
-        if let Stop::Refused(_) = went {
+        let p = walk::plain(code, log, w);
+        let met = p.stop;
+        let Stop::Conditional = met else {
+            return p;
+        };
+        let v = conditional(code, log, p, depth);
+        let closed = v.stop;
+        if let Stop::Refused(_) = closed {
             return v;
         }
-        w = walk::plain(code, log, v);
-        let stop = w.stop;
-        let Stop::Conditional = stop else {
-            return w;
-        };
+        w = v;
     }
 }
 
-// Walks the conditional at whose IF or NOTIF w stands, up to and with its ENDIF.
+// Walks the conditional at whose IF or NOTIF w stands, up to and with its ENDIF: "each conditional holds one or two arms".
 fn conditional(code: &[u8], log: &mut [u16], w: Walk, depth: u32) -> Walk
     requires { ⌜ (Ready (now code) (now log) w) × (w .stop ≡ Stop.Conditional) ⌝ }
     requires { ⌜ depth ≤ 24 ⌝ }
@@ -239,11 +196,7 @@ fn conditional(code: &[u8], log: &mut [u16], w: Walk, depth: u32) -> Walk
     }
     let start = v.stacks;
     let live = v.live;
-    let mut first = walk::plain(code, log, v);
-    let met = first.stop;
-    if let Stop::Conditional = met {
-        first = arm(code, log, first, depth + 1);
-    }
+    let first = arm(code, log, v, depth + 1);
     let stop = first.stop;
     if let Stop::Else = stop {
         let s = first.stacks;
@@ -252,12 +205,8 @@ fn conditional(code: &[u8], log: &mut [u16], w: Walk, depth: u32) -> Walk
         v.last = first.last;
         v.rows = first.rows;
         v.peak = first.peak;
-        let mut other = walk::plain(code, log, v);
-        let met = other.stop;
-        if let Stop::Conditional = met {
-            other = arm(code, log, other, depth + 1);
-        }
-        return finish(other, s, first.live);
+        v = arm(code, log, v, depth + 1);
+        return finish(v, s, first.live);
     }
     finish(first, start, live)
 }
@@ -450,11 +399,7 @@ fn walk_all(fragment: &[u8], main: u32, alt: u32, log: &mut [u16]) -> Verdict
         peak: main + alt,
         stop: Stop::Running,
     };
-    let mut w = walk::plain(fragment, log, start);
-    let met = w.stop;
-    if let Stop::Conditional = met {
-        w = arm(fragment, log, w, 0);
-    }
+    let w = arm(fragment, log, start, 0);
     conclude(w)
 }
 

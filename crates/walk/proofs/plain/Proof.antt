@@ -35,6 +35,7 @@ use Rattle.slots.proofs.suffices.Reads as suffices-reads
 use Rattle.walk.proofs.higher.Reads as higher-reads
 use Rattle.walk.proofs.log_row.Reads as log-row-reads
 use Rattle.walk.proofs.logged.Reads as logged-reads
+use Rattle.walk.proofs.stopped.Reads as stopped-reads
 
 abbrev Inv-loop : tie.InvT-loop
 Inv-loop code log₀ t₀ live₀ at₀ last₀ rows₀ peak₀ log t live at last rows peak =
@@ -48,7 +49,7 @@ abbrev handled : List (List ℕ)
 handled = (31 ∷ []) ∷ (30 ∷ []) ∷ (29 ∷ []) ∷ (28 ∷ []) ∷ (27 ∷ []) ∷ (26 ∷ []) ∷ (25 ∷ []) ∷ (24 ∷ []) ∷ (23 ∷ []) ∷ (22 ∷ []) ∷ (21 ∷ []) ∷ (20 ∷ []) ∷ (19 ∷ []) ∷ (18 ∷ []) ∷ (17 ∷ []) ∷ (16 ∷ []) ∷ (15 ∷ []) ∷ (14 ∷ []) ∷ (13 ∷ []) ∷ (12 ∷ []) ∷ (11 ∷ []) ∷ (10 ∷ []) ∷ (9 ∷ []) ∷ (8 ∷ []) ∷ (1 ∷ []) ∷ (2 ∷ []) ∷ []
 
 -- what is known once an instruction is met, its row is written and its class number is read
-met : (c : lts.After-class-of (higher-reads.Asked, higher-reads.Learnt, decode-at-reads.Asked, decode-at-reads.Learnt, logged-reads.Asked, logged-reads.Learnt, log-row-reads.Asked, log-row-reads.Learnt, class-of-reads.Asked, class-of-reads.Learnt, push-code-reads.Asked, push-code-reads.Learnt, code-of-reads.Asked, code-of-reads.Learnt, suffices-reads.Asked, suffices-reads.Learnt, push-exact-reads.Asked, push-exact-reads.Learnt, move-to-alt-reads.Asked, move-to-alt-reads.Learnt, move-from-alt-reads.Asked, move-from-alt-reads.Learnt, depth-reads.Asked, depth-reads.Learnt, size-reads.Asked, size-reads.Learnt, nip-reads.Asked, nip-reads.Learnt, tuck-reads.Asked, tuck-reads.Learnt, pick-reads.Asked, pick-reads.Learnt, roll-reads.Asked, roll-reads.Learnt, zk-reads.Asked, zk-reads.Learnt, extend-from-within-reads.Asked, extend-from-within-reads.Learnt, rotate-left-reads.Asked, rotate-left-reads.Learnt, apply-effect-reads.Asked, apply-effect-reads.Learnt) reads.Pre reads.Post Inv-loop μ-loop)
+met : (c : lts.After-class-of (stopped-reads.Asked, stopped-reads.Learnt, higher-reads.Asked, higher-reads.Learnt, decode-at-reads.Asked, decode-at-reads.Learnt, logged-reads.Asked, logged-reads.Learnt, log-row-reads.Asked, log-row-reads.Learnt, class-of-reads.Asked, class-of-reads.Learnt, push-code-reads.Asked, push-code-reads.Learnt, code-of-reads.Asked, code-of-reads.Learnt, suffices-reads.Asked, suffices-reads.Learnt, push-exact-reads.Asked, push-exact-reads.Learnt, move-to-alt-reads.Asked, move-to-alt-reads.Learnt, move-from-alt-reads.Asked, move-from-alt-reads.Learnt, depth-reads.Asked, depth-reads.Learnt, size-reads.Asked, size-reads.Learnt, nip-reads.Asked, nip-reads.Learnt, tuck-reads.Asked, tuck-reads.Learnt, pick-reads.Asked, pick-reads.Learnt, roll-reads.Asked, roll-reads.Learnt, zk-reads.Asked, zk-reads.Learnt, extend-from-within-reads.Asked, extend-from-within-reads.Learnt, rotate-left-reads.Asked, rotate-left-reads.Learnt, apply-effect-reads.Asked, apply-effect-reads.Learnt) reads.Pre reads.Post Inv-loop μ-loop)
     → Met (c .before .before .before .before .before .before .before .before .before .before .before .before .before .before .before .before .before .before .args .code .now) (c .before .before .before .before .before .before .before .before .before .before .before .before .before .before .before .before .before .before .args .log .now) (record { stacks = c .before .before .before .before .before .before .before .before .before .before .before .before .before .before .before .before .before .before .args .start .stacks; live = c .before .before .before .before .before .before .before .before .before .before .before .before .before .before .before .before .before .before .args .start .live; at = c .before .before .before .before .before .before .before .before .before .before .before .before .before .before .before .before .before .before .args .start .at; last = c .before .before .before .before .before .before .before .before .before .before .before .before .before .before .before .before .before .before .args .start .last; rows = c .before .before .before .before .before .before .before .before .before .before .before .before .before .before .before .before .before .before .args .start .rows; peak = c .before .before .before .before .before .before .before .before .before .before .before .before .before .before .before .before .before .before .args .start .peak; stop = Running }) (c .before .before .before .before .before .before .before .before .before .before .before .before .before .before .loop .log) (walkOf (c .before .before .before .before .before .before .before .before .before .before .before .before .before .before .loop .t) (c .before .before .before .before .before .before .before .before .before .before .before .before .before .before .loop .live) (c .before .before .before .before .before .before .before .before .before .before .before .before .before .before .loop .at) (c .before .before .before .before .before .before .before .before .before .before .before .before .before .before .loop .last) (c .before .before .before .before .before .before .before .before .before .before .before .before .before .before .loop .rows) (c .before .before .before .before .before .before .before .before .before .before .before .before .before .before .loop .peak)) (c .before .before .before .log-row .last .0) (c .before .before .before .before .before .before .before .before .d .given .0 .0) (c .before .before .before .before .before .before .before .before .before .before .before .higher .result) (c .class-of .result)
 met c =
     let l = c .before .before .before in
@@ -76,8 +77,11 @@ enum-known-answer c = search needs
 same-length : tie.Need-same-length Inv-loop μ-loop
 same-length c = search needs
 
+stopped-requires : tie.Need-stopped-requires Inv-loop μ-loop
+stopped-requires c κs = search needs
+
 returns : tie.Need-returns Inv-loop μ-loop
-returns c = runs-from (c .before .before .before .before .before .before .before .before .args .start) (c .before .before .before .before .before .before .before .before .pre .1) (was-refused _ _ _ _ _ _ _ (c .before .before .before .before .loop .inv) (c .before .before .answer .given .1))
+returns c = rw (c .stopped .ensures) (runs-from (c .before .before .before .before .before .before .before .before .before .args .start) (c .before .before .before .before .before .before .before .before .before .pre .1) (was-refused _ _ _ _ _ _ _ (c .before .before .before .before .before .loop .inv) (c .before .before .before .answer .given .1)))
 
 enum-told : tie.Need-enum-told Inv-loop μ-loop
 enum-told c = search needs
@@ -97,8 +101,11 @@ enum-known-d c = search needs
 same-length-2 : tie.Need-same-length-2 Inv-loop μ-loop
 same-length-2 c = search needs
 
+stopped-requires-2 : tie.Need-stopped-requires-2 Inv-loop μ-loop
+stopped-requires-2 c κs = search needs
+
 returns-2 : tie.Need-returns-2 Inv-loop μ-loop
-returns-2 c = runs-from (c .before .before .before .before .before .before .before .before .before .before .args .start) (c .before .before .before .before .before .before .before .before .before .before .pre .1) (none-left (c .before .before .before .before .before .before .loop .inv) (rw (c .before .before .before .before .enum-told .given .1)) (high-of (c .before .before .before .before .before .before .loop .peak) (c .before .before .before .higher .result) (c .before .before .before .before .before .before .loop .live) (c .before .before .before .before .before .before .loop .t .stacks) (c .before .before .before .higher .ensures)) (no-instruction _ _ (c .before .before .decode-at .result) (c .before .before .decode-at .ensures) (c .before .match2 .keys2)))
+returns-2 c = rw (c .stopped2 .ensures) (runs-from (c .before .before .before .before .before .before .before .before .before .before .before .args .start) (c .before .before .before .before .before .before .before .before .before .before .before .pre .1) (none-left (c .before .before .before .before .before .before .before .loop .inv) (rw (c .before .before .before .before .before .enum-told .given .1)) (high-of (c .before .before .before .before .before .before .before .loop .peak) (c .before .before .before .before .higher .result) (c .before .before .before .before .before .before .before .loop .live) (c .before .before .before .before .before .before .before .loop .t .stacks) (c .before .before .before .before .higher .ensures)) (no-instruction _ _ (c .before .before .before .decode-at .result) (c .before .before .before .decode-at .ensures) (c .before .before .match2 .keys2))))
 
 cast-log-row : tie.Need-cast-log-row Inv-loop μ-loop
 cast-log-row c = search needs
@@ -119,28 +126,40 @@ class-of-requires : tie.Need-class-of-requires Inv-loop μ-loop
 class-of-requires c κs = search needs
 
 same-length-3 : tie.Need-same-length-3 Inv-loop μ-loop
-same-length-3 c = search needs
+same-length-3 c = let m = met (c .before .before .before) in m .len ∙ m .walking .len
+
+stopped-requires-3 : tie.Need-stopped-requires-3 Inv-loop μ-loop
+stopped-requires-3 c κs = search needs
 
 returns-3 : tie.Need-returns-3 Inv-loop μ-loop
-returns-3 c = runs-from (c .before .before .before .before .before .before .before .before .before .before .before .before .before .before .before .before .before .before .before .before .args .start) (c .before .before .before .before .before .before .before .before .before .before .before .before .before .before .before .before .before .before .before .before .pre .1) (met-if (met (c .before .before)) (c .before .match3 .keys1))
+returns-3 c = rw (c .stopped3 .ensures) (runs-from (c .before .before .before .before .before .before .before .before .before .before .before .before .before .before .before .before .before .before .before .before .before .args .start) (c .before .before .before .before .before .before .before .before .before .before .before .before .before .before .before .before .before .before .before .before .before .pre .1) (met-if (met (c .before .before .before)) (c .before .before .match3 .keys1)))
 
 same-length-4 : tie.Need-same-length-4 Inv-loop μ-loop
-same-length-4 c = search needs
+same-length-4 c = let m = met (c .before .before .before) in m .len ∙ m .walking .len
+
+stopped-requires-4 : tie.Need-stopped-requires-4 Inv-loop μ-loop
+stopped-requires-4 c κs = search needs
 
 returns-4 : tie.Need-returns-4 Inv-loop μ-loop
-returns-4 c = runs-from (c .before .before .before .before .before .before .before .before .before .before .before .before .before .before .before .before .before .before .before .before .args .start) (c .before .before .before .before .before .before .before .before .before .before .before .before .before .before .before .before .before .before .before .before .pre .1) (met-notif (met (c .before .before)) (c .before .match3 .keys2))
+returns-4 c = rw (c .stopped4 .ensures) (runs-from (c .before .before .before .before .before .before .before .before .before .before .before .before .before .before .before .before .before .before .before .before .before .args .start) (c .before .before .before .before .before .before .before .before .before .before .before .before .before .before .before .before .before .before .before .before .before .pre .1) (met-notif (met (c .before .before .before)) (c .before .before .match3 .keys2)))
 
 same-length-5 : tie.Need-same-length-5 Inv-loop μ-loop
-same-length-5 c = search needs
+same-length-5 c = let m = met (c .before .before .before) in m .len ∙ m .walking .len
+
+stopped-requires-5 : tie.Need-stopped-requires-5 Inv-loop μ-loop
+stopped-requires-5 c κs = search needs
 
 returns-5 : tie.Need-returns-5 Inv-loop μ-loop
-returns-5 c = runs-from (c .before .before .before .before .before .before .before .before .before .before .before .before .before .before .before .before .before .before .before .before .args .start) (c .before .before .before .before .before .before .before .before .before .before .before .before .before .before .before .before .before .before .before .before .pre .1) (met-else (met (c .before .before)) (c .before .match3 .keys3))
+returns-5 c = rw (c .stopped5 .ensures) (runs-from (c .before .before .before .before .before .before .before .before .before .before .before .before .before .before .before .before .before .before .before .before .before .args .start) (c .before .before .before .before .before .before .before .before .before .before .before .before .before .before .before .before .before .before .before .before .before .pre .1) (met-else (met (c .before .before .before)) (c .before .before .match3 .keys3)))
 
 same-length-6 : tie.Need-same-length-6 Inv-loop μ-loop
-same-length-6 c = search needs
+same-length-6 c = let m = met (c .before .before .before) in m .len ∙ m .walking .len
+
+stopped-requires-6 : tie.Need-stopped-requires-6 Inv-loop μ-loop
+stopped-requires-6 c κs = search needs
 
 returns-6 : tie.Need-returns-6 Inv-loop μ-loop
-returns-6 c = runs-from (c .before .before .before .before .before .before .before .before .before .before .before .before .before .before .before .before .before .before .before .before .args .start) (c .before .before .before .before .before .before .before .before .before .before .before .before .before .before .before .before .before .before .before .before .pre .1) (met-endif (met (c .before .before)) (c .before .match3 .keys4))
+returns-6 c = rw (c .stopped6 .ensures) (runs-from (c .before .before .before .before .before .before .before .before .before .before .before .before .before .before .before .before .before .before .before .before .before .args .start) (c .before .before .before .before .before .before .before .before .before .before .before .before .before .before .before .before .before .before .before .before .before .pre .1) (met-endif (met (c .before .before .before)) (c .before .before .match3 .keys4)))
 
 loop-less : tie.Need-loop-less Inv-loop μ-loop
 loop-less c = nearer (met (c .before))
@@ -429,6 +448,7 @@ plain-spec =
     μ-loop
     loop-holds
     enum-known-answer
+    stopped-requires
     same-length
     returns
     enum-told
@@ -436,6 +456,7 @@ plain-spec =
     higher-requires
     decode-at-requires
     enum-known-d
+    stopped-requires-2
     same-length-2
     returns-2
     cast-log-row
@@ -444,12 +465,16 @@ plain-spec =
     log-row-requires
     add-rows
     class-of-requires
+    stopped-requires-3
     same-length-3
     returns-3
+    stopped-requires-4
     same-length-4
     returns-4
+    stopped-requires-5
     same-length-5
     returns-5
+    stopped-requires-6
     same-length-6
     returns-6
     loop-less
