@@ -13,9 +13,10 @@ use lib.Pow.{pow-pos, shr-shr, mod-pow-add, shl-exact}
 use Rattle.definition.specs.Basics.{Bytes, pick}
 use Rattle.definition.specs.Decoding.{number, plus, digits, signed, serialize, last, minimal, value, deserialize, indexRead}
 use Rattle.definition.specs.Decoding as D
-use Rattle.definition.specs.Walk.{known}
+use Rattle.definition.specs.Stacks.{readable}
+use Rattle.definition.specs.Walk.{known, marking}
 use Rattle.definition.specs.Replay.{AreBytes}
-use Rattle.decode.specs.View.{lowBytes, itemOf, valueOf, Held, readOf, readIn, indexed}
+use Rattle.decode.specs.View.{lowBytes, itemOf, valueOf, Held, readOf, indexed}
 use Rattle.decode.specs.declared.Value.the-variants.{Unknown, Exact}
 use Rattle.decode.specs.declared.Index.{Index}
 use Rattle.decode.specs.declared.Index.the-variants as I
@@ -249,11 +250,11 @@ pub read-index : (len w n b : ℕ) → 1 ≤ len → len ≤ 8 → w ≡ len →
 read-index len w n b pos h q m e g =
     rw (deserialize-good len n h m, lt-ltb (last (lowBytes len n)) 0x80 (omega arith), number-below-sign len w n pos h q (omega arith))
 
--- an answer for an index, by number and value too
-pub answer-reads : (x : D.Index) (i : Index) → i ≡ indexed x → (readOf i ≡ readIn x) × (i ≡ indexed x)
+-- the answer for an index, and what follows it
+pub answer-reads : (x : D.Index) (i : Index) → i ≡ indexed x → (readOf i ≡ readable marking x) × (i ≡ indexed x)
 answer-reads x i e = (ap readOf e ∙ by x, e)
   where
-    by : (x : D.Index) → readOf (indexed x) ≡ readIn x
+    by : (x : D.Index) → readOf (indexed x) ≡ readable marking x
     by D.notKnown = refl
     by D.noNumber = refl
     by D.negative = refl

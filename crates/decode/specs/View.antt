@@ -6,7 +6,8 @@ use lib.ListN.{length, drop}
 use Rattle.definition.specs.Basics.{Bytes}
 use Rattle.definition.specs.Decoding.{number, Front, whole, short, front, Code, ends, malformed, then, decodeFrom, instructions, malformedAt}
 use Rattle.definition.specs.Decoding as D
-use Rattle.definition.specs.Refusals.{Refusal, malformedFragment, badIndex, Answer, accepted, refusedAt}
+use Rattle.definition.specs.Refusals.{malformedFragment, badIndex, Answer, accepted, refusedAt}
+use Rattle.definition.specs.Stacks as S
 use Rattle.definition.specs.Walk.{Item, unknown, exact, known}
 use Rattle.decode.specs.declared.Value.{Value}
 use Rattle.decode.specs.declared.Value.the-variants.{Unknown, Exact}
@@ -83,8 +84,7 @@ rest ends = ends
 rest (malformed offset) = malformed offset
 rest (then i code) = code
 
--- "Missing length or data bytes make the fragment malformed": 3 at its offset and no count, or 0 and how many instructions
--- there are
+-- how many instructions a fragment has, with 0; or 3 at its offset: "Missing length or data bytes make the fragment malformed"
 pub record Count : Type 0 where
   pub answer : Answer
   pub count : ℕ
@@ -94,7 +94,7 @@ abbrev pub countedOf : Counted → Count
 countedOf (C.Whole count) = record { answer = accepted; count = count }
 countedOf (C.Malformed offset) = record { answer = refusedAt offset malformedFragment; count = 0 }
 
--- what the definition counts, by where the fragment is malformed, if it is, and how many instructions come before
+-- what is counted in code, by where it is malformed, if it is, and the number of its instructions
 abbrev pub countBy : Option ℕ → ℕ → Count
 countBy none count = record { answer = accepted; count = count }
 countBy (some offset) count = record { answer = refusedAt offset malformedFragment; count = 0 }
@@ -102,26 +102,14 @@ countBy (some offset) count = record { answer = refusedAt offset malformedFragme
 abbrev pub countIn : Code → Count
 countIn code = countBy (malformedAt code) (length (instructions code))
 
--- "an index (readable, not negative)": its value, or 9
-pub data Read : Type 0 where
-  atIndex : ℕ → Read
-  noIndex : Refusal → Read
+-- an answer of `read_index`, "an index (readable, not negative)": what follows with its value, or 9
+abbrev pub readOf : Index → (ℕ → S.Outcome Item) → S.Outcome Item
+readOf I.Unknown next = S.refused badIndex
+readOf I.NoNumber next = S.refused badIndex
+readOf I.Negative next = S.refused badIndex
+readOf (I.At n) next = next n
 
--- an answer of `read_index`
-abbrev pub readOf : Index → Read
-readOf I.Unknown = noIndex badIndex
-readOf I.NoNumber = noIndex badIndex
-readOf I.Negative = noIndex badIndex
-readOf (I.At n) = atIndex n
-
--- an index as the definition reads it
-abbrev pub readIn : D.Index → Read
-readIn D.notKnown = noIndex badIndex
-readIn D.noNumber = noIndex badIndex
-readIn D.negative = noIndex badIndex
-readIn (D.index n) = atIndex n
-
--- and the one answer for it: which of the three it is, where it is none
+-- the answer for an index of the definition: where it is none, which of the three
 abbrev pub indexed : D.Index → Index
 indexed D.notKnown = I.Unknown
 indexed D.noNumber = I.NoNumber

@@ -3,8 +3,9 @@ ghost use mathlib.Core.Path.{_≡_};
 ghost use Prim.Native.Nat.{_+_, _-_, _≤_, _<_};
 ghost use lib.ListN.{length, take, drop, getD};
 ghost use Rattle.definition.specs.Decoding.{number, alone, pushes, sized, decode, plus, serialize, last, minimal, deserialize, indexRead, indexOf};
-ghost use Rattle.definition.specs.Walk.{known, bytesKnown};
-ghost use Rattle.decode.specs.View.{lowBytes, itemOf, valueOf, decodedFront, decodedAt, codeAt, yieldOf, yielded, countedOf, countIn, readOf, readIn, indexed};
+ghost use Rattle.definition.specs.Stacks.{readable};
+ghost use Rattle.definition.specs.Walk.{known, bytesKnown, marking};
+ghost use Rattle.decode.specs.View.{lowBytes, itemOf, valueOf, decodedFront, decodedAt, codeAt, yieldOf, yielded, countedOf, countIn, readOf, indexed};
 
 // What is known of an item: nothing, or its length and its bytes as one number, the first byte the lowest.
 pub enum Value {
@@ -12,10 +13,11 @@ pub enum Value {
     Exact { len: u8, bytes: u64 },
 }
 
-// One instruction: its opcode, its offset, its literal as the marker knows it, and where the next one starts.
+// One instruction: its opcode, its offset, its literal as the marker knows it, and where the next one starts. The offset lies
+// first, where `Malformed` has its own.
 pub struct Instruction {
-    pub opcode: u8,
     pub offset: usize,
+    pub opcode: u8,
     pub literal: Value,
     pub next: usize,
 }
@@ -251,7 +253,7 @@ fn number_index(len: u8, bytes: u64) -> Index
 
 // A value read as an index.
 pub fn read_index(v: Value) -> Index
-    ensures reads { λ r. ⌜ readOf r ≡ readIn (indexOf (bytesKnown (itemOf v))) ⌝ }
+    ensures reads { λ r. ⌜ readOf r ≡ readable marking (indexOf (bytesKnown (itemOf v))) ⌝ }
     ensures same { λ r. ⌜ r ≡ indexed (indexOf (bytesKnown (itemOf v))) ⌝ }
 {
     match v {
