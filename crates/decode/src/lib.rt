@@ -13,13 +13,13 @@ pub enum Value {
     Exact { len: u8, bytes: u64 },
 }
 
-// One instruction: its opcode, its offset, its literal as the marker knows it, and where the next one starts. The offset lies
-// first, where `Malformed` has its own.
+// One instruction: its opcode, its offset, its literal as the marker knows it, and where the next one starts. In this order of
+// the fields the compiled decoder is as short as it is where `Malformed` carries no offset.
 pub struct Instruction {
     pub offset: usize,
-    pub opcode: u8,
     pub literal: Value,
     pub next: usize,
+    pub opcode: u8,
 }
 
 // What stands at an offset: an instruction, the end, or, with its offset, one whose length or data bytes are missing.
