@@ -1,5 +1,7 @@
 // The reading head: document 01, section 1. It rests on a fragment and yields its instructions in order, then the end or 3.
 // Each function over the struct is thin: the work is crate decode's `decode_at`, and `offset_after`.
+// The promises say the sequence: a new head has the whole code of its fragment left, and a read yields what the code left
+// yields first and leaves the rest.
 ghost use mathlib.Core.Path.{_≡_};
 ghost use Rattle.definition.specs.Decoding.{decode};
 ghost use Rattle.decode.specs.View.{decodedAt, yieldOf, yielded, rest};
