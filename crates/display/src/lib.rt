@@ -18,7 +18,7 @@ fn shown_at(fragment: &[u8], offset: usize) -> &[u8]
         Decoded::End => {
             return &fragment[0..0];
         }
-        Decoded::Malformed => {
+        Decoded::Malformed(_) => {
             return &fragment[offset..];
         }
     }

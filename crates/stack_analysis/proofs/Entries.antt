@@ -15,7 +15,7 @@ use Rattle.definition.specs.Stacks.{Rules, builtIn}
 use Rattle.definition.specs.Walk.{Arm, dead, live, Marked, answered, begin, walk, unknowns, analysisOf, analysis, refusedEarly, refusedVerdict, tested}
 use Rattle.definition.specs.Walk as W
 use Rattle.definition.proofs.TrueOfEveryReplay.{trueOfEveryReplay}
-use Rattle.decode.specs.View.{codeAt, countedOf}
+use Rattle.decode.specs.View.{codeAt, Count, countedOf, countBy, countIn}
 use Rattle.decode.specs.declared.Counted.{Counted}
 use Rattle.decode.specs.declared.Counted.the-variants as C
 use Rattle.decode.proofs.Codes.{code-start, code-length}
@@ -111,19 +111,19 @@ module _ (s : Bytes) (main alt : ℕ) (log : List ℕ) where
       unfolding analysis analysisOf
       in-code = rw (le-ltb 10000 (length s) short, le-ltb 244 (main + alt) low)
 
-      counted-malformed : (m : Option ℕ) (n offset : ℕ) → C.Malformed offset ≡ countedOf m n → m ≡ some offset
-      counted-malformed none n offset e = cc
-      counted-malformed (some p) n offset e = cc
+      counted-malformed : (m : Option ℕ) (n offset : ℕ) → countedOf (C.Malformed offset) ≡ countBy m n → m ≡ some offset
+      counted-malformed none n offset e = absurd (omega (arith, ap (λ (c : Count). c .answer .number) e))
+      counted-malformed (some p) n offset e = ap some (sym (ap (λ (c : Count). c .answer .offset) e))
 
-      counted-whole : (m : Option ℕ) (n k : ℕ) → C.Whole k ≡ countedOf m n → (m ≡ none) × (k ≡ n)
-      counted-whole none n k e = (refl, cc)
-      counted-whole (some p) n k e = (cc, cc)
+      counted-whole : (m : Option ℕ) (n k : ℕ) → countedOf (C.Whole k) ≡ countBy m n → (m ≡ none) × (k ≡ n)
+      counted-whole none n k e = (refl, ap (λ (c : Count). c .count) e)
+      counted-whole (some p) n k e = absurd (omega (arith, ap (λ (c : Count). c .answer .number) e))
 
-      pub not-whole : (offset : ℕ) → C.Malformed offset ≡ countedOf (malformedAt (decode s)) (length (instructions (decode s)))
+      pub not-whole : (offset : ℕ) → countedOf (C.Malformed offset) ≡ countIn (decode s)
           → (r : Verdict) → r ≡ packedVerdict (refusedVerdict offset D.malformedFragment 0) → Analysed s main alt log r log
       not-whole offset c r e = early offset D.malformedFragment r (in-code ∙ rw (counted-malformed (malformedAt (decode s)) (length (instructions (decode s))) offset c)) e
 
-      module _ (n : ℕ) (c : C.Whole n ≡ countedOf (malformedAt (decode s)) (length (instructions (decode s)))) where
+      module _ (n : ℕ) (c : countedOf (C.Whole n) ≡ countIn (decode s)) where
         counts : n ≡ length (instructions (decode s))
         counts = counted-whole (malformedAt (decode s)) (length (instructions (decode s))) n c .1
 
@@ -151,7 +151,7 @@ ready-start s log v f at rows short room = record {
 }
 
 -- a fragment has no more instructions than bytes
-pub few : (s : Bytes) (n : ℕ) → C.Whole n ≡ countedOf (malformedAt (decode s)) (length (instructions (decode s))) → length s ≤ 10000 → n ≤ 10000
+pub few : (s : Bytes) (n : ℕ) → countedOf (C.Whole n) ≡ countIn (decode s) → length s ≤ 10000 → n ≤ 10000
 few s n c h =
     let e : instructions (decode s) ≡ instructions (codeAt s 0) = ap instructions (code-start s) in
     let l : length (instructions (codeAt s 0)) ≤ length s - 0 = code-length s 0 in

@@ -153,7 +153,7 @@ module _ {s : Bytes} {before : List ℕ} {v : Walk} {now : List ℕ} where
 pub no-instruction : (s : Bytes) (p : ℕ) (d : Decoded) → d ≡ decodedAt s p → OneOf (1 ∷ 2 ∷ []) (tagOf the-type d) → instructions (codeAt s p) ≡ []
 no-instruction s p (D.At i) e h = absurd (⊎-elim (λ k. omega arith) (λ k. omega arith) h)
 no-instruction s p D.End e h = ap instructions (code-ends s p (sym e) .0)
-no-instruction s p D.Malformed e h = ap instructions (code-malformed s p (sym e) .0)
+no-instruction s p (D.Malformed at) e h = ap instructions (code-malformed s p (sym e) .0)
 
 pub ready-running : {s : Bytes} {log : List ℕ} (v : Walk) → Ready s log v
     → Ready s log (record { stacks = v .stacks; live = v .live; at = v .at; last = v .last; rows = v .rows; peak = v .peak; stop = Running })

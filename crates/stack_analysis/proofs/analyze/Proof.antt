@@ -1,4 +1,5 @@
-use mathlib.Core.Path.{sym, _∙_}
+use mathlib.Core.Path.{sym, ap, _∙_}
+use Rattle.decode.specs.View.{countedOf}
 use Rattle.stack_analysis.proofs.Entries.{too-long, too-high, not-whole, short-log, rows-enough, all-walked, few}
 use borrow.Author.Needs.{needs}
 use native.Mathlib.Omega.{arith}
@@ -42,25 +43,25 @@ enum-known-counted-2 : tie.Need-enum-known-counted-2
 enum-known-counted-2 c = search needs
 
 mul-if3 : tie.Need-mul-if3
-mul-if3 c = omega (arith, few (c .before .before .before .before .before .before .before .before .args .fragment .now) _ (sym (c .before .counted2 .given .1) ∙ c .before .before .before .count-instructions .ensures) (omega arith))
+mul-if3 c = omega (arith, few (c .before .before .before .before .before .before .before .before .args .fragment .now) _ (ap countedOf (sym (c .before .counted2 .given .1)) ∙ c .before .before .before .count-instructions .ensures) (omega arith))
 
 mul-refusal : tie.Need-mul-refusal
-mul-refusal c = omega (arith, few (c .before .before .before .before .before .before .before .before .before .args .fragment .now) _ (sym (c .before .before .counted2 .given .1) ∙ c .before .before .before .before .count-instructions .ensures) (omega arith))
+mul-refusal c = omega (arith, few (c .before .before .before .before .before .before .before .before .before .args .fragment .now) _ (ap countedOf (sym (c .before .before .counted2 .given .1)) ∙ c .before .before .before .before .count-instructions .ensures) (omega arith))
 
 refusal-requires-4 : tie.Need-refusal-requires-4
 refusal-requires-4 c κs = search needs
 
 returns-3 : tie.Need-returns-3
 returns-3 c =
-    let a = short-log (c .before .before .before .before .before .before .before .before .before .before .args .fragment .now) (c .before .before .before .before .before .before .before .before .before .before .args .main) (c .before .before .before .before .before .before .before .before .before .before .args .alt) (c .before .before .before .before .before .before .before .before .before .before .args .log .now) (omega arith) (omega arith) _ (sym (c .before .before .before .counted2 .given .1) ∙ c .before .before .before .before .before .count-instructions .ensures) (omega arith) _ (c .refusal4 .ensures) in
+    let a = short-log (c .before .before .before .before .before .before .before .before .before .before .args .fragment .now) (c .before .before .before .before .before .before .before .before .before .before .args .main) (c .before .before .before .before .before .before .before .before .before .before .args .alt) (c .before .before .before .before .before .before .before .before .before .before .args .log .now) (omega arith) (omega arith) _ (ap countedOf (sym (c .before .before .before .counted2 .given .1)) ∙ c .before .before .before .before .before .count-instructions .ensures) (omega arith) _ (c .refusal4 .ensures) in
     (a .same, (a .logged, a .replayed))
 
 walk-all-requires : tie.Need-walk-all-requires
-walk-all-requires c κs = ((omega arith, omega arith), rows-enough (c .before .before .before .before .before .before .before .before .before .before .args .fragment .now) (c .before .before .before .before .before .before .before .before .before .before .args .main) (c .before .before .before .before .before .before .before .before .before .before .args .alt) (c .before .before .before .before .before .before .before .before .before .before .args .log .now) (omega arith) (omega arith) _ (sym (c .before .before .before .counted2 .given .1) ∙ c .before .before .before .before .before .count-instructions .ensures) (omega arith))
+walk-all-requires c κs = ((omega arith, omega arith), rows-enough (c .before .before .before .before .before .before .before .before .before .before .args .fragment .now) (c .before .before .before .before .before .before .before .before .before .before .args .main) (c .before .before .before .before .before .before .before .before .before .before .args .alt) (c .before .before .before .before .before .before .before .before .before .before .args .log .now) (omega arith) (omega arith) _ (ap countedOf (sym (c .before .before .before .counted2 .given .1)) ∙ c .before .before .before .before .before .count-instructions .ensures) (omega arith))
 
 returns-4 : tie.Need-returns-4
 returns-4 c =
-    let a = not-whole (c .before .before .before .before .before .before .before .before .before .args .fragment .now) (c .before .before .before .before .before .before .before .before .before .args .main) (c .before .before .before .before .before .before .before .before .before .args .alt) (c .before .before .before .before .before .before .before .before .before .args .log .now) (omega arith) (omega arith) _ (sym (c .before .before .counted .given .1) ∙ c .before .before .before .before .count-instructions .ensures) _ (c .refusal3 .ensures) in
+    let a = not-whole (c .before .before .before .before .before .before .before .before .before .args .fragment .now) (c .before .before .before .before .before .before .before .before .before .args .main) (c .before .before .before .before .before .before .before .before .before .args .alt) (c .before .before .before .before .before .before .before .before .before .args .log .now) (omega arith) (omega arith) _ (ap countedOf (sym (c .before .before .counted .given .1)) ∙ c .before .before .before .before .count-instructions .ensures) _ (c .refusal3 .ensures) in
     (a .same, (a .logged, a .replayed))
 
 same-length : tie.Need-same-length
@@ -68,7 +69,7 @@ same-length c = search needs
 
 returns-5 : tie.Need-returns-5
 returns-5 c =
-    let a = all-walked (c .before .before .before .before .before .before .before .before .before .before .before .before .before .args .fragment .now) (c .before .before .before .before .before .before .before .before .before .before .before .before .before .args .main) (c .before .before .before .before .before .before .before .before .before .before .before .before .before .args .alt) (c .before .before .before .before .before .before .before .before .before .before .before .before .before .args .log .now) (omega arith) (omega arith) _ (sym (c .before .before .before .before .before .before .counted2 .given .1) ∙ c .before .before .before .before .before .before .before .before .count-instructions .ensures) (omega arith) _ _ (c .before .before .walk-all .ensures) in
+    let a = all-walked (c .before .before .before .before .before .before .before .before .before .before .before .before .before .args .fragment .now) (c .before .before .before .before .before .before .before .before .before .before .before .before .before .args .main) (c .before .before .before .before .before .before .before .before .before .before .before .before .before .args .alt) (c .before .before .before .before .before .before .before .before .before .before .before .before .before .args .log .now) (omega arith) (omega arith) _ (ap countedOf (sym (c .before .before .before .before .before .before .counted2 .given .1)) ∙ c .before .before .before .before .before .before .before .before .count-instructions .ensures) (omega arith) _ _ (c .before .before .walk-all .ensures) in
     (a .same, (a .logged, a .replayed))
 
 pub analyze-spec : {M : Type 1} → statement M

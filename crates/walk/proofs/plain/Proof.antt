@@ -61,7 +61,7 @@ met c =
     record {
       walking = q .inv;
       run = rw (e .enum-told .given .1);
-      stands = code-instruction _ _ (q .inv .bytes) _ (sym (a .decode-at .ensures) ∙ d .d .given .1);
+      stands = code-instruction _ _ (q .inv .bytes) _ (sym (a .decode-at .ensures .1) ∙ d .d .given .1);
       len = l .log-row .kept .0;
       row = row-written (q .rows) (q .at) (l .before .before .logged .result) (l .before .logged2 .result) (q .live) (q .t .stacks) (q .log) (l .log-row .last .0) (l .log-row .ensures) (l .before .before .logged .ensures) (l .before .logged2 .ensures);
       high = high-of (q .peak) (h .higher .result) (q .live) (q .t .stacks) (h .higher .ensures);
@@ -105,7 +105,7 @@ stopped-requires-2 : tie.Need-stopped-requires-2 Inv-loop μ-loop
 stopped-requires-2 c κs = search needs
 
 returns-2 : tie.Need-returns-2 Inv-loop μ-loop
-returns-2 c = rw (c .stopped2 .ensures) (runs-from (c .before .before .before .before .before .before .before .before .before .before .before .args .start) (c .before .before .before .before .before .before .before .before .before .before .before .pre .1) (none-left (c .before .before .before .before .before .before .before .loop .inv) (rw (c .before .before .before .before .before .enum-told .given .1)) (high-of (c .before .before .before .before .before .before .before .loop .peak) (c .before .before .before .before .higher .result) (c .before .before .before .before .before .before .before .loop .live) (c .before .before .before .before .before .before .before .loop .t .stacks) (c .before .before .before .before .higher .ensures)) (no-instruction _ _ (c .before .before .before .decode-at .result) (c .before .before .before .decode-at .ensures) (c .before .before .match2 .keys2))))
+returns-2 c = rw (c .stopped2 .ensures) (runs-from (c .before .before .before .before .before .before .before .before .before .before .before .args .start) (c .before .before .before .before .before .before .before .before .before .before .before .pre .1) (none-left (c .before .before .before .before .before .before .before .loop .inv) (rw (c .before .before .before .before .before .enum-told .given .1)) (high-of (c .before .before .before .before .before .before .before .loop .peak) (c .before .before .before .before .higher .result) (c .before .before .before .before .before .before .before .loop .live) (c .before .before .before .before .before .before .before .loop .t .stacks) (c .before .before .before .before .higher .ensures)) (no-instruction _ _ (c .before .before .before .decode-at .result) (c .before .before .before .decode-at .ensures .1) (c .before .before .match2 .keys2))))
 
 cast-log-row : tie.Need-cast-log-row Inv-loop μ-loop
 cast-log-row c = search needs
@@ -117,7 +117,7 @@ logged-requires-2 : tie.Need-logged-requires-2 Inv-loop μ-loop
 logged-requires-2 c κs = search needs
 
 log-row-requires : tie.Need-log-row-requires Inv-loop μ-loop
-log-row-requires c κs = omega (arith, row-room (c .before .before .before .before .before .before .before .before .before .before .loop .inv) (code-instruction _ _ (c .before .before .before .before .before .before .before .before .before .before .loop .inv .bytes) _ (sym (c .before .before .before .before .before .before .decode-at .ensures) ∙ c .before .before .before .before .d .given .1)))
+log-row-requires c κs = omega (arith, row-room (c .before .before .before .before .before .before .before .before .before .before .loop .inv) (code-instruction _ _ (c .before .before .before .before .before .before .before .before .before .before .loop .inv .bytes) _ (sym (c .before .before .before .before .before .before .decode-at .ensures .1) ∙ c .before .before .before .before .d .given .1)))
 
 add-rows : tie.Need-add-rows Inv-loop μ-loop
 add-rows c = search needs
