@@ -2,7 +2,9 @@
 ghost use mathlib.Core.Path.{_≡_};
 ghost use Prim.Native.Nat.{_+_, _-_, _≤_, _<_};
 ghost use lib.ListN.{length, take, drop, getD};
-ghost use Rattle.definition.specs.Decoding.{number, alone, pushes, sized, decode, plus, serialize, last, minimal, deserialize, indexRead, indexOf};
+// `Decoding.f` is the f of document 01, section 1, in crates/definition/specs/Decoding.antt.
+ghost use Rattle.definition.specs.Decoding as Decoding;
+ghost use Rattle.definition.specs.Decoding.{decode, plus, serialize, last, deserialize, indexRead, indexOf};
 ghost use Rattle.definition.specs.Stacks.{readable};
 ghost use Rattle.definition.specs.Walk.{known, bytesKnown, marking};
 ghost use Rattle.decode.specs.View.{lowBytes, itemOf, valueOf, decodedFront, decodedAt, codeAt, yieldOf, yielded, countedOf, countIn, readOf, indexed};
@@ -52,7 +54,7 @@ fn wide(x: u8) -> u64
 // The n bytes from start on as one number, the first the lowest.
 fn number(fragment: &[u8], start: usize, n: usize) -> u64
     requires { ⌜ (n ≤ 8) × (start + n ≤ length (now fragment)) ⌝ }
-    ensures { λ r. ⌜ r ≡ number (take n (drop start (now (fragment .entry)))) ⌝ }
+    ensures { λ r. ⌜ r ≡ Decoding.number (take n (drop start (now (fragment .entry)))) ⌝ }
 {
     let mut v: u64 = 0;
     let mut k = n;
@@ -70,7 +72,7 @@ fn pushes(fragment: &[u8], opcode: u8, offset: usize, start: usize, size: usize)
         ⌜
         r
         ≡ decodedFront
-        (pushes (start - (offset + 1)) size (drop start (now (fragment .entry))))
+        (Decoding.pushes (start - (offset + 1)) size (drop start (now (fragment .entry))))
         opcode
         offset
         ⌝ }
@@ -103,7 +105,7 @@ fn pushes(fragment: &[u8], opcode: u8, offset: usize, start: usize, size: usize)
 // The instruction with this opcode, a length of n bytes behind it, and data of that length.
 fn sized(fragment: &[u8], opcode: u8, offset: usize, n: usize) -> Decoded
     requires { ⌜ (n ≤ 4) × (offset < length (now fragment)) ⌝ }
-    ensures { λ r. ⌜ r ≡ decodedFront (sized n (drop (offset + 1) (now (fragment .entry)))) opcode offset ⌝ }
+    ensures { λ r. ⌜ r ≡ decodedFront (Decoding.sized n (drop (offset + 1) (now (fragment .entry)))) opcode offset ⌝ }
 {
     let start = offset + 1;
     if fragment.len() - start < n {
@@ -115,7 +117,7 @@ fn sized(fragment: &[u8], opcode: u8, offset: usize, n: usize) -> Decoded
 
 // What an opcode that stands alone pushes.
 fn alone(opcode: u8) -> Value
-    ensures { λ r. ⌜ r ≡ valueOf (known (alone opcode)) ⌝ }
+    ensures { λ r. ⌜ r ≡ valueOf (known (Decoding.alone opcode)) ⌝ }
 {
     if opcode == 0x4f {
         return Value::Exact {
@@ -217,7 +219,7 @@ fn last_byte(len: u8, bytes: u64) -> u64
 // Whether the last byte is neither 00 nor 80, or the byte before it has its top bit set.
 fn minimal(len: u8, bytes: u64) -> bool
     requires { ⌜ (1 ≤ len) × (len ≤ 8) ⌝ }
-    ensures { λ r. ⌜ r ≡ minimal (lowBytes len bytes) ⌝ }
+    ensures { λ r. ⌜ r ≡ Decoding.minimal (lowBytes len bytes) ⌝ }
 {
     if last_byte(len, bytes) % 128 != 0 {
         return true;
