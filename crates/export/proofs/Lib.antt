@@ -1,2 +1,3 @@
 mod Places
 mod Parts
+mod Items
