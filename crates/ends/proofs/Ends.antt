@@ -238,6 +238,7 @@ one-form s h =
   where
     whole : (φ : Item → ℕ) (d : ℕ) → length (map φ (itemsOf s) ++ replicate (244 - total s) d) ≡ 244
     whole φ d = simp (length-append, length-map, length-replicate, length-reverse) (omega (arith, h .room))
+
     rest : (φ : Item → ℕ) (d k : ℕ) → total s ≤ k → k < 244 → getD (map φ (itemsOf s) ++ replicate (244 - total s) d) k 0 ≡ d
     rest φ d k g l =
         let n : length (map φ (itemsOf s)) ≡ total s = length-map (itemsOf s) φ ∙ items-length s in

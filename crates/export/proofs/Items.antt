@@ -120,6 +120,7 @@ verdict-is u v e = record {
     main-is : (c : Arm) → endStacks c .main ≡ endMain c
     main-is dead = packed-main noStacks
     main-is (live s) = packed-main s
+
     alt-is : (c : Arm) → endStacks c .alt ≡ endAlt c
     alt-is dead = packed-alt noStacks
     alt-is (live s) = packed-alt s

@@ -76,12 +76,11 @@ loop-again : tie.Need-loop-again Inv-loop μ-loop
 loop-again c =
     let i = c .before .before in
     let l = i .before .before in
-    let s = l .before .before .before .args .self in
-    (
+    let s = l .before .before .before .args .self in (
       ending-more (slots (s .bytes) (s .codes)) (s .mains) (l .loop .inv .0) (omega arith) _ _
           (c .before .end-length .ensures _ ∙ ap (λ j. itemLength (cells (slots (s .bytes) (s .codes)) j)) (i .end-slot .ensures))
           (c .end-number .ensures ∙ ap (λ j. itemNumber (cells (slots (s .bytes) (s .codes)) j)) (i .end-slot .ensures)),
-      omega arith
+      omega arith,
     )
 
 returns : tie.Need-returns Inv-loop μ-loop
