@@ -43,6 +43,21 @@ extern "C" {
 uint32_t listochur_analyze(const uint8_t *fragment, size_t fragment_len, uint32_t main_items, uint32_t alt_items, uint16_t *log,
                            size_t log_len, uint64_t *out, size_t out_len);
 
+/* How many numbers `items` has for an item, and the length of an unknown one. */
+#define LISTOCHUR_ITEM_NUMBERS 3
+#define LISTOCHUR_UNKNOWN 255
+
+/*
+ * The same, and the items of the end stacks.
+ * `items`: three numbers for each item of main from bottom to top and then for each of alt from bottom to top: its length, 0 to
+ * 8, or LISTOCHUR_UNKNOWN; its bytes as one number, the first byte the lowest, or 0 if it is unknown; its mark, which is 0.
+ * They are written where there are end stacks; with fewer places than they need none is, and places beyond them stay as they
+ * were. 732 places are always enough.
+ */
+uint32_t listochur_analyze_items(const uint8_t *fragment, size_t fragment_len, uint32_t main_items, uint32_t alt_items,
+                                 uint16_t *log, size_t log_len, uint64_t *items, size_t items_len, uint64_t *out,
+                                 size_t out_len);
+
 /*
  * The limit check: malformed bytecode, over 201 opcodes above 60, over 10,000 bytes. Answers its number, 0 for within.
  * `out`: number, offset, two figures.

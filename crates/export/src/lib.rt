@@ -11,12 +11,13 @@ ghost use Rattle.definition.specs.Walk.{analysis};
 ghost use Rattle.definition.specs.Walk as Walk;
 ghost use Rattle.limits.specs.View.{answerOf};
 ghost use Rattle.paper.specs.View.{paperOf};
-ghost use Rattle.stack_analysis.specs.View.{packedVerdict};
 ghost use Rattle.tally.specs.View.{tallyOf, Gives};
-ghost use Rattle.export.specs.View.{flag, written, verdictNumbers, answerNumbers, paperNumbers, displayStart, partNumbers, tallyFrom, tallyNumbers};
+ghost use Rattle.export.specs.View.{flag, written, verdictNumbers, endNumbers, answerNumbers, paperNumbers, displayStart, partNumbers, tallyFrom, tallyNumbers};
+ghost use Rattle.export.specs.Parts.{summaryNumbers, structNumbers};
+use ends::EndStacks;
 use limits::Answer;
 use paper::PaperVerdict;
-use stack_analysis::Verdict;
+use stack_analysis::Summary;
 use tally::Tally;
 
 fn flag(b: bool) -> u64
@@ -28,10 +29,16 @@ fn flag(b: bool) -> u64
     0
 }
 
+fn wide(x: u8) -> u64
+    ensures { λ r. ⌜ r ≡ x ⌝ }
+{
+    x as u64
+}
+
 // The verdict's numbers into the lent places, where there are nine of them: number, offset, two figures, rows, peak,
 // whether there is an end (1 or 0), and the heights of its main and alt.
-fn write(v: Verdict, out: &mut [u64])
-    ensures { λ _. ⌜ now (out .exit) ≡ written (verdictNumbers v) (now (out .entry)) ⌝ }
+fn write(v: Summary, out: &mut [u64])
+    ensures { λ _. ⌜ now (out .exit) ≡ written (summaryNumbers v) (now (out .entry)) ⌝ }
 {
     if out.len() < 9 {
         return;
@@ -43,8 +50,29 @@ fn write(v: Verdict, out: &mut [u64])
     out[4] = v.rows as u64;
     out[5] = v.peak as u64;
     out[6] = flag(v.ended);
-    out[7] = v.end.mains as u64;
-    out[8] = v.end.alts as u64;
+    out[7] = v.main as u64;
+    out[8] = v.alt as u64;
+}
+
+// The items of end stacks into the lent places, where there are three of them to an item: its length, its bytes as one
+// number, its mark, which is 0.
+fn write_items(e: EndStacks, items: &mut [u64])
+    requires { ⌜ e .main + e .alt ≤ 244 ⌝ }
+    ensures { λ _. ⌜ now (items .exit) ≡ written (structNumbers e) (now (items .entry)) ⌝ }
+{
+    let count = (e.main + e.alt) as usize;
+    if items.len() < 3 * count {
+        return;
+    }
+    let lens = e.lens;
+    let bytes = e.bytes;
+    let mut k: usize = 0;
+    while k < count {
+        items[3 * k] = wide(lens[k]);
+        items[3 * k + 1] = bytes[k];
+        items[3 * k + 2] = 0;
+        k += 1;
+    }
 }
 
 // The limit check's answer into the lent places, where there are four of them: number, offset, two figures.
@@ -155,9 +183,7 @@ pub extern "C" fn listochur_analyze(
     ensures number { λ r.
         ⌜
         r
-        ≡ packedVerdict
-        (analysis builtIn (now (fragment .entry)) main alt (now (log .entry)) .verdict)
-        .number
+        ≡ analysis builtIn (now (fragment .entry)) main alt (now (log .entry)) .verdict .answer .number
         ⌝ }
     ensures logged { λ r.
         ⌜
@@ -169,14 +195,70 @@ pub extern "C" fn listochur_analyze(
         now (out .exit)
         ≡ written
         (verdictNumbers
-        (packedVerdict
-        (analysis builtIn (now (fragment .entry)) main alt (now (log .entry)) .verdict)))
+        (analysis builtIn (now (fragment .entry)) main alt (now (log .entry)) .verdict))
+        (now (out .entry))
+        ⌝ }
+{
+    let v = stack_analysis::analyze_heights(fragment, main, alt, log);
+    let number = v.number;
+    write(v, out);
+    number
+}
+
+// The same, and in `items` the items of the end stacks, three numbers to an item: main from bottom to top and then alt from
+// bottom to top.
+#[no_mangle]
+pub extern "C" fn listochur_analyze_items(
+    fragment: &[u8],
+    main: u32,
+    alt: u32,
+    log: &mut [u16],
+    items: &mut [u64],
+    out: &mut [u64],
+) -> u32
+    ensures number { λ r.
+        ⌜
+        r
+        ≡ analysis builtIn (now (fragment .entry)) main alt (now (log .entry)) .verdict .answer .number
+        ⌝ }
+    ensures logged { λ r.
+        ⌜
+        now (log .exit)
+        ≡ analysis builtIn (now (fragment .entry)) main alt (now (log .entry)) .log
+        ⌝ }
+    ensures listed { λ r.
+        ⌜
+        now (items .exit)
+        ≡ written
+        (endNumbers
+        (analysis builtIn (now (fragment .entry)) main alt (now (log .entry)) .verdict .end))
+        (now (items .entry))
+        ⌝ }
+    ensures written { λ r.
+        ⌜
+        now (out .exit)
+        ≡ written
+        (verdictNumbers
+        (analysis builtIn (now (fragment .entry)) main alt (now (log .entry)) .verdict))
         (now (out .entry))
         ⌝ }
 {
     let v = stack_analysis::analyze(fragment, main, alt, log);
     let number = v.number;
-    write(v, out);
+    let end = v.end;
+    let heights = Summary {
+        number,
+        offset: v.offset,
+        first: v.first,
+        second: v.second,
+        rows: v.rows,
+        peak: v.peak,
+        ended: v.ended,
+        main: end.main,
+        alt: end.alt,
+    };
+    write_items(end, items);
+    write(heights, out);
     number
 }
 

@@ -176,16 +176,7 @@ fn write_fragments(paper: &[u8], log: &mut [u16], out: &mut [u8]) -> Told
         if v.number != 0 {
             return refuse(out, at, v.number, k, v.offset, v.first, v.second);
         }
-        at = write_line(
-            out,
-            at,
-            entries,
-            k,
-            v.peak,
-            v.ended,
-            v.end.mains,
-            v.end.alts,
-        );
+        at = write_line(out, at, entries, k, v.peak, v.ended, v.main, v.alt);
         k += 1;
     }
     accept(out, at)

@@ -1,4 +1,5 @@
 // The walk over a fragment and the analysis: document 01, sections 4 and 7.
+ghost use mathlib.Core.List.{List};
 ghost use mathlib.Core.Path.{_≡_};
 ghost use Prim.Native.Nat.{ℕ, _+_, _*_, _≤_};
 ghost use lib.ListN.{length};
@@ -11,10 +12,11 @@ ghost use Rattle.definition.specs.Replay.{Demand3};
 ghost use Rattle.definition.specs.Walk.{dead, unknowns, begin, walk, answered, analysis, refusedVerdict};
 ghost use Rattle.stack.specs.View.{refusalOf};
 ghost use Rattle.walk.specs.Runs.{armOf, arm, stopOf, Ready};
-ghost use Rattle.stack_analysis.specs.View.{verdictOf, packedVerdict};
-ghost use Rattle.stack_analysis.specs.Entry.{Marks};
+ghost use Rattle.stack_analysis.specs.View.{verdictOf, packedVerdict, summarized};
+ghost use Rattle.stack_analysis.specs.Entry.{Starts, Stops};
 ghost use Rattle.stack_analysis.specs.Walkers.{concluded, Ended, Enters, Joins, Finishes, Walks, Closes};
 use decode::Counted;
+use ends::EndStacks;
 use stack::Answer;
 use stack::Refusal;
 use stack::Stacks;
@@ -30,7 +32,26 @@ pub struct Verdict {
     pub rows: usize,
     pub peak: u32,
     pub ended: bool,
-    pub end: Stacks,
+    pub end: EndStacks,
+}
+
+// The verdict with the heights of its end in place of the end stacks; 0 and 0 where there is none.
+pub struct Summary {
+    pub number: u32,
+    pub offset: usize,
+    pub first: u64,
+    pub second: u64,
+    pub rows: usize,
+    pub peak: u32,
+    pub ended: bool,
+    pub main: u32,
+    pub alt: u32,
+}
+
+// How an analysis starts: refused before the walk, or with the walk.
+enum Start {
+    Refused(Summary),
+    Walks,
 }
 
 // The number and the figures of a refusal.
@@ -281,11 +302,11 @@ fn figures_of(r: Refusal) -> Figures
 }
 
 // A refusal: peak 0 and no end.
-fn refusal(number: u32, offset: usize, first: u64, second: u64, rows: usize) -> Verdict
+fn refusal(number: u32, offset: usize, first: u64, second: u64, rows: usize) -> Summary
     ensures { λ r.
         ⌜
         r
-        ≡ packedVerdict
+        ≡ summarized
         (record {
           answer = answer number offset first second;
           rows = rows;
@@ -294,9 +315,7 @@ fn refusal(number: u32, offset: usize, first: u64, second: u64, rows: usize) -> 
         })
         ⌝ }
 {
-    let none = Stacks::new(0, 0);
-    let end = none.cleared();
-    Verdict {
+    Summary {
         number,
         offset,
         first,
@@ -304,25 +323,25 @@ fn refusal(number: u32, offset: usize, first: u64, second: u64, rows: usize) -> 
         rows,
         peak: 0,
         ended: false,
-        end,
+        main: 0,
+        alt: 0,
     }
 }
 
 // The refusal r of a walk that stands at w.
-fn refused_walk(w: Walk, r: Refusal) -> Verdict
-    ensures { λ v. ⌜ v ≡ packedVerdict (refusedVerdict (w .last) (refusalOf r) (w .rows)) ⌝ }
+fn refused_walk(w: Walk, r: Refusal) -> Summary
+    ensures { λ v. ⌜ v ≡ summarized (refusedVerdict (w .last) (refusalOf r) (w .rows)) ⌝ }
 {
     let f = figures_of(r);
     refusal(f.number, w.last, f.first, f.second, w.rows)
 }
 
 // The acceptance of a walk that has come to the end with w.
-fn accepted(w: Walk) -> Verdict
-    requires { ⌜ Fit (w .stacks) ⌝ }
+fn accepted(w: Walk) -> Summary
     ensures { λ v.
         ⌜
         v
-        ≡ packedVerdict
+        ≡ summarized
         (record { answer = answer 0 0 0 0; rows = w .rows; peak = w .peak; end = arm w })
         ⌝ }
 {
@@ -331,8 +350,7 @@ fn accepted(w: Walk) -> Verdict
     let peak = w.peak;
     if live {
         let s = w.stacks;
-        let end = s.cleared();
-        return Verdict {
+        return Summary {
             number: 0,
             offset: 0,
             first: 0,
@@ -340,12 +358,11 @@ fn accepted(w: Walk) -> Verdict
             rows,
             peak,
             ended: true,
-            end,
+            main: s.mains,
+            alt: s.alts,
         };
     }
-    let none = Stacks::new(0, 0);
-    let end = none.cleared();
-    Verdict {
+    Summary {
         number: 0,
         offset: 0,
         first: 0,
@@ -353,14 +370,15 @@ fn accepted(w: Walk) -> Verdict
         rows,
         peak,
         ended: false,
-        end,
+        main: 0,
+        alt: 0,
     }
 }
 
 // The verdict where a walk has stopped with no conditional open.
-fn conclude(w: Walk) -> Verdict
-    requires { ⌜ (Fit (w .stacks)) × (Ended (w .stop)) ⌝ }
-    ensures { λ v. ⌜ v ≡ packedVerdict (concluded w) ⌝ }
+fn conclude(w: Walk) -> Summary
+    requires { ⌜ Ended (w .stop) ⌝ }
+    ensures { λ v. ⌜ v ≡ summarized (concluded w) ⌝ }
 {
     let stop = w.stop;
     match stop {
@@ -368,18 +386,19 @@ fn conclude(w: Walk) -> Verdict
         Stop::Else => refused_walk(w, Refusal::StrayElse),
         Stop::Endif => refused_walk(w, Refusal::StrayEndif),
         Stop::Refused(r) => refused_walk(w, r),
-        Stop::Running => accepted(w),
-        Stop::Conditional => accepted(w),
+        // these two do not occur
+        Stop::Running => refused_walk(w, Refusal::OpenIf),
+        Stop::Conditional => refused_walk(w, Refusal::OpenIf),
     }
 }
 
 // The walk of a fragment from so many unknown items, with room in the log for each of its instructions.
-fn walk_all(fragment: &[u8], main: u32, alt: u32, log: &mut [u16]) -> Verdict
+fn walk_all(fragment: &[u8], main: u32, alt: u32, log: &mut [u16]) -> Walk
     requires { ⌜ (length (now fragment) ≤ 10000) × (main + alt ≤ 244) ⌝ }
     requires { ⌜ 3 * length (instructions (decode (now fragment))) ≤ length (now log) ⌝ }
     ensures { λ r.
         ⌜
-        Marks
+        Stops
         r
         (now (log .exit))
         (answered
@@ -399,8 +418,30 @@ fn walk_all(fragment: &[u8], main: u32, alt: u32, log: &mut [u16]) -> Verdict
         peak: main + alt,
         stop: Stop::Running,
     };
-    let w = arm(fragment, log, start, 0);
-    conclude(w)
+    arm(fragment, log, start, 0)
+}
+
+// The tests before the walk, in their order; so many numbers of the log are lent.
+fn early(fragment: &[u8], main: u32, alt: u32, lent: usize) -> Start
+    ensures { λ r. ⌜ ((log : List ℕ) → length log ≡ lent → Starts (now (fragment .entry)) main alt log r) ⌝ }
+{
+    let sum = (main as u64) + (alt as u64);
+    if fragment.len() > 10000 {
+        return Start::Refused(refusal(1, 0, fragment.len() as u64, 10000, 0));
+    }
+    if sum > 244 {
+        return Start::Refused(refusal(2, 0, sum, 244, 0));
+    }
+    let counted = decode::count_instructions(fragment);
+    match counted {
+        Counted::Malformed(offset) => Start::Refused(refusal(3, offset, 0, 0, 0)),
+        Counted::Whole(n) => {
+            if lent < 3 * n {
+                return Start::Refused(refusal(4, 0, (3 * n) as u64, lent as u64, 0));
+            }
+            Start::Walks
+        }
+    }
 }
 
 // The analysis of a fragment from main and alt unknown items; one row of the lent log is written for each instruction
@@ -412,6 +453,12 @@ pub fn analyze(fragment: &[u8], main: u32, alt: u32, log: &mut [u16]) -> Verdict
         ≡ packedVerdict
         (analysis builtIn (now (fragment .entry)) main alt (now (log .entry)) .verdict)
         ⌝ }
+    ensures shows { λ r.
+        ⌜
+        verdictOf r
+        ≡ analysis builtIn (now (fragment .entry)) main alt (now (log .entry)) .verdict
+        ⌝ }
+    ensures within { λ r. ⌜ r .end .main + r .end .alt ≤ 244 ⌝ }
     ensures logged { λ r.
         ⌜
         now (log .exit)
@@ -427,21 +474,70 @@ pub fn analyze(fragment: &[u8], main: u32, alt: u32, log: &mut [u16]) -> Verdict
         (record { verdict = verdictOf r; log = now (log .exit) }))
         ⌝ }
 {
-    let sum = (main as u64) + (alt as u64);
-    if fragment.len() > 10000 {
-        return refusal(1, 0, fragment.len() as u64, 10000, 0);
-    }
-    if sum > 244 {
-        return refusal(2, 0, sum, 244, 0);
-    }
-    let counted = decode::count_instructions(fragment);
-    match counted {
-        Counted::Malformed(offset) => refusal(3, offset, 0, 0, 0),
-        Counted::Whole(n) => {
-            if log.len() < 3 * n {
-                return refusal(4, 0, (3 * n) as u64, log.len() as u64, 0);
-            }
-            walk_all(fragment, main, alt, log)
+    let start = early(fragment, main, alt, log.len());
+    match start {
+        Start::Refused(v) => {
+            let end = EndStacks::none();
+            return Verdict {
+                number: v.number,
+                offset: v.offset,
+                first: v.first,
+                second: v.second,
+                rows: v.rows,
+                peak: v.peak,
+                ended: v.ended,
+                end,
+            };
         }
+        Start::Walks => {
+            let w = walk_all(fragment, main, alt, log);
+            let v = conclude(w);
+            if v.ended {
+                let s = w.stacks;
+                let end = s.ends();
+                return Verdict {
+                    number: v.number,
+                    offset: v.offset,
+                    first: v.first,
+                    second: v.second,
+                    rows: v.rows,
+                    peak: v.peak,
+                    ended: v.ended,
+                    end,
+                };
+            }
+            let end = EndStacks::none();
+            return Verdict {
+                number: v.number,
+                offset: v.offset,
+                first: v.first,
+                second: v.second,
+                rows: v.rows,
+                peak: v.peak,
+                ended: v.ended,
+                end,
+            };
+        }
+    }
+}
+
+// The same with the heights of the end in place of the end stacks, for callers that read no item.
+pub fn analyze_heights(fragment: &[u8], main: u32, alt: u32, log: &mut [u16]) -> Summary
+    ensures same { λ r.
+        ⌜
+        r
+        ≡ summarized
+        (analysis builtIn (now (fragment .entry)) main alt (now (log .entry)) .verdict)
+        ⌝ }
+    ensures logged { λ r.
+        ⌜
+        now (log .exit)
+        ≡ analysis builtIn (now (fragment .entry)) main alt (now (log .entry)) .log
+        ⌝ }
+{
+    let start = early(fragment, main, alt, log.len());
+    match start {
+        Start::Refused(v) => v,
+        Start::Walks => conclude(walk_all(fragment, main, alt, log)),
     }
 }

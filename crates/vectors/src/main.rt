@@ -219,7 +219,7 @@ fn fragment(
     let Count::Bytes(n) = count else {
         return Answered::Bad;
     };
-    let v = stack_analysis::analyze(&code[..n], main, alt, log);
+    let v = stack_analysis::analyze_heights(&code[..n], main, alt, log);
     Answered::Written(put_fragment(out, used, v.number, v.offset, v.first, v.second))
 }
 
