@@ -7,7 +7,7 @@
  *
  * - A pointer points to that many elements, aligned for their type, to read or, where it is not const, to write.
  * - With a length of 0 nothing is read or written through the pointer, and it may be NULL.
- * - `log`, `text`, `out` and `tally` overlap nothing else that is passed. Slices that are only read may overlap.
+ * - `log`, `items`, `text`, `out` and `tally` overlap nothing else that is passed. Slices that are only read may overlap.
  *
  * The functions allocate nothing, keep no pointer, call nothing back and may run on several threads at once. They use up to
  * 512 KiB of the caller's stack: conditionals nest at most 24 deep, and each level has its own.
@@ -43,8 +43,9 @@ extern "C" {
 uint32_t listochur_analyze(const uint8_t *fragment, size_t fragment_len, uint32_t main_items, uint32_t alt_items, uint16_t *log,
                            size_t log_len, uint64_t *out, size_t out_len);
 
-/* How many numbers `items` has for an item, and the length of an unknown one. */
+/* How many numbers `items` has for an item, how many places are enough for any end, and the length of an unknown item. */
 #define LISTOCHUR_ITEM_NUMBERS 3
+#define LISTOCHUR_ITEMS_PLACES 732
 #define LISTOCHUR_UNKNOWN 255
 
 /*
@@ -52,7 +53,7 @@ uint32_t listochur_analyze(const uint8_t *fragment, size_t fragment_len, uint32_
  * `items`: three numbers for each item of main from bottom to top and then for each of alt from bottom to top: its length, 0 to
  * 8, or LISTOCHUR_UNKNOWN; its bytes as one number, the first byte the lowest, or 0 if it is unknown; its mark, which is 0.
  * They are written where there are end stacks; with fewer places than they need none is, and places beyond them stay as they
- * were. 732 places are always enough.
+ * were.
  */
 uint32_t listochur_analyze_items(const uint8_t *fragment, size_t fragment_len, uint32_t main_items, uint32_t alt_items,
                                  uint16_t *log, size_t log_len, uint64_t *items, size_t items_len, uint64_t *out,

@@ -43,6 +43,55 @@ static void analyse(void) {
     EXPECT(holds(out, (const uint64_t[]){7, 7, 7, 7, 7, 7, 7, 7}, 8));
 }
 
+/* whether the first places hold these numbers and all others, up to `places`, are as they were lent */
+static int listed(const uint64_t *items, const uint64_t *numbers, size_t n, size_t places) {
+    for (size_t i = n; i < places; i++) {
+        if (items[i] != 7) return 0;
+    }
+    return n == 0 || memcmp(items, numbers, n * sizeof *numbers) == 0;
+}
+
+static void lend_items(uint64_t *items, size_t places) {
+    for (size_t i = 0; i < places; i++) items[i] = 7;
+}
+
+static void analyse_items(void) {
+    uint64_t out[10], items[16];
+    uint16_t log[18];
+    /* 1; 05 06 and 07, to alt; nothing; an unknown item */
+    const uint8_t fragment[] = {0x51, 0x02, 0x05, 0x06, 0x6b, 0x57, 0x6b, 0xb2};
+    const uint64_t numbers[] = {255, 0, 0, 1, 1, 0, 255, 0, 0, 2, 0x0605, 0, 1, 7, 0};
+    lend(out);
+    lend_items(items, 16);
+    EXPECT(listochur_analyze_items(fragment, 8, 1, 0, log, 18, items, 16, out, 10) == 0);
+    EXPECT(holds(out, (const uint64_t[]){0, 0, 0, 0, 6, 5, 1, 3, 2}, 9));
+    EXPECT(listed(items, numbers, 15, 16));
+    EXPECT(memcmp(log, (const uint16_t[]){0, 1, 0, 1, 2, 0, 4, 3, 0, 5, 2, 1, 6, 3, 1, 7, 2, 2}, sizeof log) == 0);
+    /* just enough places, and one too few */
+    lend_items(items, 16);
+    EXPECT(listochur_analyze_items(fragment, 8, 1, 0, log, 18, items, 15, out, 10) == 0);
+    EXPECT(listed(items, numbers, 15, 16));
+    lend_items(items, 16);
+    EXPECT(listochur_analyze_items(fragment, 8, 1, 0, log, 18, items, 14, out, 10) == 0);
+    EXPECT(listed(items, NULL, 0, 16));
+    EXPECT(holds(out, (const uint64_t[]){0, 0, 0, 0, 6, 5, 1, 3, 2}, 9));
+    /* an empty item and one of 8 bytes */
+    const uint8_t lengths[] = {0x00, 0x08, 1, 2, 3, 4, 5, 6, 7, 8};
+    EXPECT(listochur_analyze_items(lengths, 10, 0, 0, log, 18, items, 16, out, 10) == 0);
+    EXPECT(listed(items, (const uint64_t[]){0, 0, 0, 8, 0x0807060504030201, 0}, 6, 16));
+    /* a refusal, and no end: as lent */
+    lend_items(items, 16);
+    EXPECT(listochur_analyze_items((const uint8_t[]){0x51, 0x79}, 2, 1, 0, log, 18, items, 16, out, 10) == 7);
+    EXPECT(holds(out, (const uint64_t[]){7, 1, 2, 1, 2, 0, 0, 0, 0}, 9));
+    EXPECT(listed(items, NULL, 0, 16));
+    EXPECT(listochur_analyze_items((const uint8_t[]){0x6a}, 1, 1, 0, log, 18, items, 16, out, 10) == 0);
+    EXPECT(holds(out, (const uint64_t[]){0, 0, 0, 0, 1, 1, 0, 0, 0}, 9));
+    EXPECT(listed(items, NULL, 0, 16));
+    EXPECT(listochur_analyze_items(NULL, 0, 0, 0, NULL, 0, NULL, 0, NULL, 0) == 0);
+    EXPECT(listochur_analyze_items(NULL, 0, 1, 0, NULL, 0, NULL, 0, NULL, 0) == 0);
+    EXPECT(listochur_analyze_items(NULL, 0, 245, 0, NULL, 0, NULL, 0, NULL, 0) == 2);
+}
+
 static void check_limits(void) {
     uint64_t out[10];
     uint8_t bytecode[202];
@@ -150,6 +199,7 @@ static void gain(void) {
 
 int main(void) {
     analyse();
+    analyse_items();
     check_limits();
     mark_paper();
     display();

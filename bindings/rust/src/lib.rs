@@ -30,6 +30,18 @@ mod callee {
             out: *mut u64,
             out_len: usize,
         ) -> u32;
+        pub fn listochur_analyze_items(
+            fragment: *const u8,
+            fragment_len: usize,
+            main: u32,
+            alt: u32,
+            log: *mut u16,
+            log_len: usize,
+            items: *mut u64,
+            items_len: usize,
+            out: *mut u64,
+            out_len: usize,
+        ) -> u32;
         pub fn listochur_check_limits(bytecode: *const u8, bytecode_len: usize, out: *mut u64, out_len: usize) -> u32;
         pub fn listochur_mark_paper(
             paper: *const u8,
@@ -171,6 +183,11 @@ pub fn analyze(fragment: &[u8], main: u32, alt: u32, log: &mut [u16]) -> Verdict
             out.len(),
         )
     };
+    verdict(number, out)
+}
+
+/// The verdict of a call that has answered this number and left these in its places.
+fn verdict(number: u32, out: [u64; 9]) -> Verdict {
     // The places hold numbers of these widths, widened by the callee.
     let [_, offset, first, second, rows, peak, ended, mains, alts] = out;
     Verdict {
@@ -182,6 +199,101 @@ pub fn analyze(fragment: &[u8], main: u32, alt: u32, log: &mut [u16]) -> Verdict
         peak: peak as u32,
         end: (ended == 1).then_some(Heights { main: mains as u32, alt: alts as u32 }),
     }
+}
+
+/// What is known of an item.
+#[derive(Clone, Copy, Debug, PartialEq, Eq)]
+pub enum Value {
+    /// Nothing.
+    Unknown,
+    /// It has these bytes: the first `len` of them, 0 to 8, and zeros behind.
+    Exact {
+        /// How many bytes it has.
+        len: u8,
+        /// Its bytes.
+        bytes: [u8; 8],
+    },
+}
+
+/// An item of the end stacks.
+#[derive(Clone, Copy, Debug, PartialEq, Eq)]
+pub struct Item {
+    /// What is known of it.
+    pub value: Value,
+    /// Its mark, which is 0.
+    pub mark: u64,
+}
+
+impl Item {
+    /// Its bytes; none if it is unknown.
+    pub fn bytes(&self) -> Option<&[u8]> {
+        match &self.value {
+            Value::Unknown => None,
+            Value::Exact { len, bytes } => bytes.get(..usize::from(*len)),
+        }
+    }
+
+    /// The item that three numbers of the callee's stand for: its length, 255 if it is unknown, its bytes as one number, its
+    /// mark.
+    fn read(len: u64, number: u64, mark: u64) -> Item {
+        let value = if len == 255 { Value::Unknown } else { Value::Exact { len: len as u8, bytes: number.to_le_bytes() } };
+        Item { value, mark }
+    }
+}
+
+/// The stacks that a fragment ends with; no items if it is refused or no run comes past its last instruction.
+#[derive(Clone, Copy, Debug, PartialEq, Eq)]
+pub struct EndStacks {
+    heights: Heights,
+    items: [Item; 244],
+}
+
+impl EndStacks {
+    /// The items of main, from bottom to top.
+    pub fn main(&self) -> &[Item] {
+        self.items.get(..self.heights.main as usize).unwrap_or_default()
+    }
+
+    /// The items of alt, from bottom to top.
+    pub fn alt(&self) -> &[Item] {
+        let start = self.heights.main as usize;
+        self.items.get(start..start + self.heights.alt as usize).unwrap_or_default()
+    }
+}
+
+/// The same as [`analyze`], and the items of the end stacks.
+///
+/// ```
+/// let mut log = [0u16; 3];
+/// let (v, end) = listochur::analyze_items(&[0x51], 0, 0, &mut log);
+/// assert_eq!(v.number, 0);
+/// assert_eq!(end.main()[0].bytes(), Some(&[0x01][..]));
+/// ```
+pub fn analyze_items(fragment: &[u8], main: u32, alt: u32, log: &mut [u16]) -> (Verdict, EndStacks) {
+    let mut out = [0; 9];
+    let mut numbers = [0; 3 * 244];
+    // SAFETY: each slice is passed whole, with its own length, and the borrows keep `log`, `numbers` and `out` apart from the
+    // rest.
+    let number = unsafe {
+        callee::listochur_analyze_items(
+            fragment.as_ptr(),
+            fragment.len(),
+            main,
+            alt,
+            log.as_mut_ptr(),
+            log.len(),
+            numbers.as_mut_ptr(),
+            numbers.len(),
+            out.as_mut_ptr(),
+            out.len(),
+        )
+    };
+    let mut items = [Item { value: Value::Unknown, mark: 0 }; 244];
+    for (item, &[len, number, mark]) in items.iter_mut().zip(numbers.as_chunks().0) {
+        *item = Item::read(len, number, mark);
+    }
+    let verdict = verdict(number, out);
+    (verdict, EndStacks { heights: verdict.end.unwrap_or(Heights { main: 0, alt: 0 }), items })
 }
 
 /// The limit check: malformed bytecode (3), over 201 opcodes above 60 (17), over 10,000 bytes (18), in this order.

@@ -1,7 +1,7 @@
 //! The functions from Rust: what document 01 says of them, bad input included.
 use listochur::{
-    DEAD, Heights, LINES_BYTES, Limits, Lines, PaperVerdict, Tally, Verdict, analyze, check_limits, display, gain, mark_lines,
-    mark_paper,
+    DEAD, Heights, Item, LINES_BYTES, Limits, Lines, PaperVerdict, Tally, Value, Verdict, analyze, analyze_items, check_limits,
+    display, gain, mark_lines, mark_paper,
 };
 
 /// What stands in a log that no row has been written to.
@@ -50,6 +50,50 @@ fn the_marked_papers_of_section_8() {
         assert_eq!(analyze(fragment, main, alt, &mut log), verdict, "{fragment:02x?}");
         assert!(log[3 * verdict.rows..].iter().all(|&n| n == LENT), "{fragment:02x?}");
     }
+}
+
+const UNKNOWN: Item = Item { value: Value::Unknown, mark: 0 };
+
+/// The item of these bytes.
+fn exact(bytes: &[u8]) -> Item {
+    let mut padded = [0; 8];
+    padded[..bytes.len()].copy_from_slice(bytes);
+    Item { value: Value::Exact { len: bytes.len() as u8, bytes: padded }, mark: 0 }
+}
+
+#[test]
+fn the_items_of_an_end() {
+    // 1; 05 06 and 07, to alt; a plain effect that pushes
+    let mut log = [LENT; 21];
+    let (verdict, end) = analyze_items(&[0x51, 0x02, 0x05, 0x06, 0x6b, 0x57, 0x6b, 0xb2], 1, 0, &mut log);
+    assert_eq!(verdict, accepted(6, 5, 3, 2));
+    assert_eq!(log, [0, 1, 0, 1, 2, 0, 4, 3, 0, 5, 2, 1, 6, 3, 1, 7, 2, 2, LENT, LENT, LENT]);
+    assert_eq!(end.main(), [UNKNOWN, exact(&[1]), UNKNOWN]);
+    assert_eq!(end.alt(), [exact(&[5, 6]), exact(&[7])]);
+    // an empty item, one of 8 bytes, and 9 bytes, of which nothing is known
+    let mut pushes = vec![0x00, 0x08, 1, 2, 3, 4, 5, 6, 7, 8, 0x09];
+    pushes.resize(20, 0xff);
+    let (verdict, end) = analyze_items(&pushes, 0, 1, &mut log);
+    assert_eq!(verdict, accepted(3, 4, 3, 1));
+    assert_eq!(end.main(), [exact(&[]), exact(&[1, 2, 3, 4, 5, 6, 7, 8]), UNKNOWN]);
+    assert_eq!(end.main()[1].bytes(), Some(&[1, 2, 3, 4, 5, 6, 7, 8][..]));
+    assert_eq!(end.alt(), [UNKNOWN]);
+    assert_eq!(end.alt()[0].bytes(), None);
+    // all 244 places
+    let (verdict, end) = analyze_items(&[0x6b], 200, 44, &mut log);
+    assert_eq!(verdict, accepted(1, 244, 199, 45));
+    assert_eq!((end.main(), end.alt()), (&[UNKNOWN; 199][..], &[UNKNOWN; 45][..]));
+}
+
+#[test]
+fn without_an_end_there_are_no_items() {
+    let mut log = [LENT; 6];
+    let (verdict, end) = analyze_items(&[0x51, 0x79], 1, 0, &mut log);
+    assert_eq!((verdict, end.main(), end.alt()), (refused(7, 1, 2, 1, 2), &[][..], &[][..]));
+    let (verdict, end) = analyze_items(&[0x6a], 3, 2, &mut log);
+    assert_eq!((verdict, end.main(), end.alt()), (dead(1, 5), &[][..], &[][..]));
+    let (verdict, end) = analyze_items(&[0x51], 245, 0, &mut log);
+    assert_eq!((verdict, end.main(), end.alt()), (refused(2, 0, 245, 244, 0), &[][..], &[][..]));
 }
 
 #[test]

@@ -1,5 +1,6 @@
 use Rattle.ends.proofs.Ends.{reads-beyond, reads-past, reads-unknown, reads-exact}
 use borrow.Author.Needs.{needs}
+use native.Mathlib.Omega.{arith}
 use Rattle.ends.proofs.EndStacks.item.Statement.{statement}
 use Rattle.ends.proofs.EndStacks.item.Tie as tie
 use Rattle.ends.proofs.EndStacks.item.Reads as reads
@@ -15,10 +16,10 @@ add-count : tie.Need-add-count
 add-count c = search needs
 
 returns : tie.Need-returns
-returns c = let a = c .before .before .before .args in let m = reads-beyond (a .self) (a .k) (c .if1 .taken) in (m .same, m .shows)
+returns c = let a = c .before .before .before .args in let m = reads-beyond (a .self) (a .k) (omega arith) in (m .same, m .shows)
 
 returns-2 : tie.Need-returns-2
-returns-2 c = let a = c .before .before .before .before .args in let m = reads-past (a .self) (a .k) (c .before .if1 .left) (c .if2 .taken) in (m .same, m .shows)
+returns-2 c = let a = c .before .before .before .before .args in let m = reads-past (a .self) (a .k) (omega arith) (omega arith) in (m .same, m .shows)
 
 array-read-len : tie.Need-array-read-len
 array-read-len c = search needs
@@ -27,7 +28,7 @@ returns-3 : tie.Need-returns-3
 returns-3 c =
     let b = c .before .before in
     let a = b .before .before .before .before .args in
-    let m = reads-unknown (a .self) (a .k) (b .before .if1 .left) (b .if2 .left) (c .if3 .taken) in
+    let m = reads-unknown (a .self) (a .k) (omega arith) (omega arith) (c .if3 .taken) in
     (m .same, m .shows)
 
 mul-bytes : tie.Need-mul-bytes
@@ -41,7 +42,7 @@ returns-4 c =
     let d = c .before in
     let b = d .before .before in
     let a = b .before .before .before .before .args in
-    let m = reads-exact (a .self) (a .k) (b .before .if1 .left) (b .if2 .left) (d .if3 .left) in
+    let m = reads-exact (a .self) (a .k) (omega arith) (omega arith) (d .if3 .left) in
     (m .same, m .shows)
 
 pub item-spec : {M : Type 1} → statement M
