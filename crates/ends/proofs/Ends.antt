@@ -1,21 +1,19 @@
 -- The struct and the stacks that it stands for: each is made of the other.
-use mathlib.Core.Bool.{Bool, true, false, _&&_}
+use mathlib.Core.Bool.{Bool, true, false}
 use mathlib.Core.Logic.{_⊎_, inl, inr}
 use mathlib.Core.Path.{_≡_, refl, sym, ap, ap₂, _∙_}
-use mathlib.Core.List.{List, [], _∷_, _++_, map, reverse, reverseAux, reverse-reverse, append-assoc}
+use mathlib.Core.List.{List, [], _∷_, _++_, map, reverse, reverseAux, reverse-reverse}
 use Prim.Native.Nat.{ℕ, zero, suc, _+_, _-_, _^_, _≤_, _<_}
 use native.Mathlib.Nat.{zero-add}
 use native.Mathlib.Omega.{arith}
-use borrow.Author.Tests.{lt-ltb, le-ltb, eq-eqb, ne-eqb, ltb-true, ltb-false}
-use lib.Dec.{eqb, ltb}
-use lib.ListN.{length, take, drop, getD, replicate, length-append, length-reverse, length-map, length-replicate, getD-replicate, List·getD-append, List·getD-map, List·getD-eq-default}
+use borrow.Author.Tests.{lt-ltb, le-ltb, ne-eqb, ltb-true, ltb-false}
+use lib.Dec.{ltb}
+use lib.ListN.{length, getD, replicate, length-append, length-reverse, length-map, length-replicate, getD-replicate, List·getD-append, List·getD-map, List·getD-eq-default}
 use lib.Seq.{take-all, take-at, drop-at, getD-append-add}
-use Rattle.definition.specs.Basics.{Bytes}
-use Rattle.definition.specs.Decoding.{number}
 use Rattle.definition.specs.Replay.{AreBytes}
 use Rattle.definition.specs.Stacks.{Stacks, total}
 use Rattle.definition.specs.Walk.{Item, unknown, exact}
-use Rattle.decode.specs.View.{lowBytes, itemOf}
+use Rattle.decode.specs.View.{itemOf}
 use Rattle.decode.specs.declared.Value.{Value}
 use Rattle.decode.specs.declared.Value.the-variants.{Unknown, Exact}
 use Rattle.decode.proofs.Bytes.{length-low, low-number, number-low, number-below}

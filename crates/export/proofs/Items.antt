@@ -1,19 +1,18 @@
 -- The numbers of a verdict, and those of the items of its end in lent places.
-use mathlib.Core.List.{List, [], _∷_, _++_, append-assoc, append-nil}
-use mathlib.Core.Path.{_≡_, refl, sym, ap, ap₂, _∙_}
+use mathlib.Core.List.{List, [], _∷_, _++_, append-assoc}
+use mathlib.Core.Path.{_≡_, refl, sym, ap, _∙_}
 use Prim.Native.Nat.{ℕ, zero, suc, _+_, _*_, _≤_, _<_}
 use native.Mathlib.Nat.{add-zero, add-suc, suc-add, zero-add}
 use native.Mathlib.Omega.{arith}
 use borrow.Author.Tests.{le-ltb}
 use lib.ListN.{length, drop, getD, set, length-set, length-append}
 use lib.Seq.{drop-cons, set-at}
-use Rattle.definition.specs.Stacks.{Stacks, total}
+use Rattle.definition.specs.Stacks.{Stacks}
 use Rattle.definition.specs.Walk.{Item, exact, Arm, dead, live}
 use Rattle.definition.specs.Walk as W
 use Rattle.ends.specs.View.{itemsOf, itemLength, itemNumber, packedEnd, noStacks}
-use Rattle.ends.specs.declared.EndStacks.{EndStacks}
 use Rattle.ends.proofs.Ends.{items-length, packed-main, packed-alt, packed-length, packed-number}
-use Rattle.stack_analysis.specs.View.{hasEnd, endStacks, packedVerdict, endMain, endAlt, summarized}
+use Rattle.stack_analysis.specs.View.{endStacks, packedVerdict, endMain, endAlt, summarized}
 use Rattle.stack_analysis.specs.declared.Summary.{Summary}
 use Rattle.stack_analysis.specs.declared.Verdict.{Verdict}
 use Rattle.export.specs.View.{written, verdictNumbers, itemsNumbers, endNumbers}

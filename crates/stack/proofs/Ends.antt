@@ -1,15 +1,15 @@
 -- The end stacks: the items of slots as numbers, in the form that a caller reads.
 use mathlib.Core.Bool.{true, false}
 use mathlib.Core.Path.{_≡_, refl, sym, ap, subst⁻¹, _∙_}
-use mathlib.Core.List.{List, [], _∷_, _++_, reverse, reverse-cons}
+use mathlib.Core.List.{List, reverse, reverse-cons}
 use Prim.Native.Nat.{ℕ, zero, suc, _+_, _-_, _≤_, _<_}
 use native.Mathlib.Nat.{add-zero, add-suc, suc-add, zero-add}
 use native.Mathlib.Numerals.{add-one}
 use native.Mathlib.Omega.{arith}
 use borrow.Author.Tests.{lt-ltb, le-ltb}
-use lib.ListN.{length, getD, set, replicate, getD-replicate}
+use lib.ListN.{length, set, replicate, getD-replicate}
 use Rattle.definition.specs.Stacks as S
-use Rattle.definition.specs.Walk.{Item, unknown, exact}
+use Rattle.definition.specs.Walk.{Item}
 use Rattle.decode.proofs.Bytes.{length-low, number-low, bytes-low}
 use Rattle.ends.specs.View.{itemsOf, span, endStacksOf, itemLength, itemNumber, packedEnd}
 use Rattle.ends.proofs.Spans.{span-ext, span-add, list-is}

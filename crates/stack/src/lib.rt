@@ -84,7 +84,7 @@ fn count_of(v: Value) -> Count
     }
 }
 
-// Where the end stacks have their items: item k of all, main from bottom to top and then alt from bottom to top.
+// The slot of item k of all, main from bottom to top and then alt from bottom to top.
 fn end_slot(k: usize, mains: usize) -> usize
     requires { ⌜ k < mains + 244 ⌝ }
     ensures { λ r. ⌜ r ≡ endSlot mains k ⌝ }

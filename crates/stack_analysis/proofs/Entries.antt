@@ -11,22 +11,21 @@ use Rattle.definition.specs.Basics.{Bytes}
 use Rattle.definition.specs.Decoding.{decode, instructions, malformedAt}
 use Rattle.definition.specs.Refusals as D
 use Rattle.definition.specs.Replay.{Demand3}
-use Rattle.definition.specs.Stacks.{Rules, builtIn}
+use Rattle.definition.specs.Stacks.{builtIn}
 use Rattle.definition.specs.Walk.{Arm, dead, live, Marked, answered, begin, walk, unknowns, analysisOf, analysis, refusedEarly, refusedVerdict, tested}
 use Rattle.definition.specs.Walk as W
 use Rattle.definition.proofs.TrueOfEveryReplay.{trueOfEveryReplay}
 use Rattle.decode.specs.View.{codeAt, Count, countedOf, countBy, countIn}
-use Rattle.decode.specs.declared.Counted.{Counted}
 use Rattle.decode.specs.declared.Counted.the-variants as C
 use Rattle.decode.proofs.Codes.{code-start, code-length}
-use Rattle.ends.specs.View.{endStacksOf, packedEnd, noStacks}
+use Rattle.ends.specs.View.{packedEnd, noStacks}
 use Rattle.ends.specs.declared.EndStacks.{EndStacks}
 use Rattle.stack.specs.View.{view, Fit, Fresh}
 use Rattle.ends.proofs.Ends.{packed-main, packed-alt}
 use Rattle.stack.specs.declared.Stacks.{Stacks}
 use Rattle.stack.proofs.Ends.{main-length, alt-length, ends-back}
 use Rattle.stack_analysis.specs.View.{endOf, verdictOf, hasEnd, endStacks, packedVerdict, summarized}
-use Rattle.stack_analysis.specs.Entry.{RefusedEarly, MayWalk, Stops}
+use Rattle.stack_analysis.specs.Entry.{RefusedEarly, MayWalk, Stops, withEnd}
 use Rattle.walk.specs.Runs.{armOf, resume, Ready}
 use Rattle.stack_analysis.specs.Walkers.{Walks, concluded, concludedBy}
 use Rattle.walk.specs.declared.Stop.{Stop}
@@ -108,10 +107,6 @@ module _ (s : Bytes) (main alt : ℕ) (log : List ℕ) where
 
 -- The verdict that is answered
 
--- the struct of a verdict in heights and of end stacks
-abbrev pub withEnd : Summary → EndStacks → Verdict
-withEnd v e = record { number = v .number; offset = v .offset; first = v .first; second = v .second; rows = v .rows; peak = v .peak; ended = v .ended; end = e }
-
 -- what the entry point promises of its answer r and the log afterwards
 pub record Analysed (s : Bytes) (main alt : ℕ) (log : List ℕ) (r : Verdict) (new : List ℕ) : Type 0 where
   pub same : r ≡ packedVerdict (analysis builtIn s main alt log .verdict)
@@ -150,17 +145,17 @@ dead-end (live s) h = cc
 
 module _ (s : Bytes) (main alt : ℕ) (log : List ℕ) where
   answers : (m : Marked) → analysis builtIn s main alt log ≡ m → (v : Summary) → v ≡ summarized (m .verdict)
-      → (e : EndStacks) → e ≡ endStacks (m .verdict .end) → Shown (m .verdict .end) → e .main + e .alt ≤ 244 → Analysed s main alt log (withEnd v e) (m .log)
+      → (e : EndStacks) → e ≡ endStacks (m .verdict .end) → Shown (m .verdict .end) → e .main + e .alt ≤ 244
+      → (r : Verdict) → r ≡ withEnd v e → Analysed s main alt log r (m .log)
   unfolding verdictOf packedVerdict summarized
-  answers m a v same e k b few =
+  answers m a v same e k b few r is =
       let u : W.Verdict = m .verdict in
-      let r : Verdict = withEnd v e in
-      let packs : r ≡ packedVerdict u = ap₂ (λ x y. withEnd x y) same k in
+      let packs : r ≡ packedVerdict u = is ∙ ap₂ (λ x y. withEnd x y) same k in
       let shows : verdictOf r ≡ u = ap verdictOf packs ∙ (λ i. record { answer = u .answer; rows = u .rows; peak = u .peak; end = b i }) in
       record {
         same = rw a packs;
         shows = rw a shows;
-        within = few;
+        within = rw is few;
         logged = rw a;
         replayed = λ z.
             let q : record { verdict = verdictOf r; log = m .log } ≡ analysis builtIn s main alt log = (λ i. record { verdict = shows i; log = m .log }) ∙ sym a in
@@ -169,10 +164,10 @@ module _ (s : Bytes) (main alt : ℕ) (log : List ℕ) where
       }
 
   -- refused before the walk
-  pub answers-early : (v : Summary) → RefusedEarly v log (analysis builtIn s main alt log) → (e : EndStacks) → e ≡ packedEnd noStacks → Analysed s main alt log (withEnd v e) log
-  answers-early v r e k =
-      subst (λ (l : List ℕ). Analysed s main alt log (withEnd v e) l) (sym (r .logged))
-      (answers (analysis builtIn s main alt log) refl v (r .same) e (rw (r .none) k) (rw (r .none)) (no-items e k))
+  pub answers-early : (v : Summary) → RefusedEarly v log (analysis builtIn s main alt log) → (e : EndStacks) → e ≡ packedEnd noStacks → (r : Verdict) → r ≡ withEnd v e → Analysed s main alt log r log
+  answers-early v early e k r is =
+      subst (λ (l : List ℕ). Analysed s main alt log r l) (sym (early .logged))
+      (answers (analysis builtIn s main alt log) refl v (early .same) e (rw (early .none) k) (rw (early .none)) (no-items e k) r is)
 
   pub summed-early : (v : Summary) → RefusedEarly v log (analysis builtIn s main alt log)
       → (v ≡ summarized (analysis builtIn s main alt log .verdict)) × (log ≡ analysis builtIn s main alt log .log)
@@ -186,15 +181,15 @@ module _ (s : Bytes) (main alt : ℕ) (log : List ℕ) where
     unfolding summarized
     ends = ap (λ (x : Summary). x .ended) same
 
-    pub answers-live : v .ended ≡ true → (e : EndStacks) → e ≡ packedEnd (view (w .stacks)) → Analysed s main alt log (withEnd v e) new
-    answers-live h e k =
+    pub answers-live : v .ended ≡ true → (e : EndStacks) → e ≡ packedEnd (view (w .stacks)) → (r : Verdict) → r ≡ withEnd v e → Analysed s main alt log r new
+    answers-live h e k r is =
         let c : concluded w .end ≡ live (view (w .stacks)) = live-end w (w .stop) (sym ends ∙ h) in
-        answers (record { verdict = concluded w; log = new }) comes-to v same e (rw c k) (rw c (ap live (ends-back (w .stacks) (stops .fit)))) (few-items (w .stacks) (stops .fit) e k)
+        answers (record { verdict = concluded w; log = new }) comes-to v same e (rw c k) (rw c (ap live (ends-back (w .stacks) (stops .fit)))) (few-items (w .stacks) (stops .fit) e k) r is
 
-    pub answers-dead : v .ended ≡ false → (e : EndStacks) → e ≡ packedEnd noStacks → Analysed s main alt log (withEnd v e) new
-    answers-dead h e k =
+    pub answers-dead : v .ended ≡ false → (e : EndStacks) → e ≡ packedEnd noStacks → (r : Verdict) → r ≡ withEnd v e → Analysed s main alt log r new
+    answers-dead h e k r is =
         let c : concluded w .end ≡ dead = dead-end (concluded w .end) (sym ends ∙ h) in
-        answers (record { verdict = concluded w; log = new }) comes-to v same e (rw c k) (rw c) (no-items e k)
+        answers (record { verdict = concluded w; log = new }) comes-to v same e (rw c k) (rw c) (no-items e k) r is
 
     pub summed : (v ≡ summarized (analysis builtIn s main alt log .verdict)) × (new ≡ analysis builtIn s main alt log .log)
     summed = (rw comes-to same, rw comes-to)

@@ -6,7 +6,8 @@ use lib.ListN.{length}
 use Rattle.definition.specs.Basics.{Bytes}
 use Rattle.definition.specs.Decoding.{decode, instructions}
 use Rattle.definition.specs.Stacks.{builtIn}
-use Rattle.definition.specs.Walk.{dead, unknowns, begin, walk, answered, Marked, Verdict, analysis}
+use Rattle.definition.specs.Walk.{dead, unknowns, begin, walk, answered, Marked, analysis}
+use Rattle.ends.specs.declared.EndStacks.{EndStacks}
 use Rattle.stack.specs.View.{Fit}
 use Rattle.walk.specs.declared.Walk.{Walk}
 use Rattle.stack_analysis.specs.View.{summarized}
@@ -14,6 +15,7 @@ use Rattle.stack_analysis.specs.Walkers.{Ended, concluded}
 use Rattle.stack_analysis.specs.declared.Start.{Start}
 use Rattle.stack_analysis.specs.declared.Start.the-variants.{Refused, Walks}
 use Rattle.stack_analysis.specs.declared.Summary.{Summary}
+use Rattle.stack_analysis.specs.declared.Verdict.{Verdict}
 
 -- m is a refusal before the walk, r in heights, and leaves the log as lent
 pub record RefusedEarly (r : Summary) (log : List ℕ) (m : Marked) : Type 0 where
@@ -37,3 +39,16 @@ pub record Stops (w : Walk) (log : List ℕ) (m : Marked) : Type 0 where
   pub fit : Fit (w .stacks)
   pub ended : Ended (w .stop)
   pub same : m ≡ record { verdict = concluded w; log = log }
+
+-- the struct of a summary and end stacks
+abbrev pub withEnd : Summary → EndStacks → Verdict
+withEnd v e = record {
+  number = v .number;
+  offset = v .offset;
+  first = v .first;
+  second = v .second;
+  rows = v .rows;
+  peak = v .peak;
+  ended = v .ended;
+  end = e;
+}

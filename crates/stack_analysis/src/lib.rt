@@ -13,7 +13,7 @@ ghost use Rattle.definition.specs.Walk.{dead, unknowns, begin, walk, answered, 
 ghost use Rattle.stack.specs.View.{refusalOf};
 ghost use Rattle.walk.specs.Runs.{armOf, arm, stopOf, Ready};
 ghost use Rattle.stack_analysis.specs.View.{verdictOf, packedVerdict, summarized};
-ghost use Rattle.stack_analysis.specs.Entry.{Starts, Stops};
+ghost use Rattle.stack_analysis.specs.Entry.{Starts, Stops, withEnd};
 ghost use Rattle.stack_analysis.specs.Walkers.{concluded, Ended, Enters, Joins, Finishes, Walks, Closes};
 use decode::Counted;
 use ends::EndStacks;
@@ -421,6 +421,22 @@ fn walk_all(fragment: &[u8], main: u32, alt: u32, log: &mut [u16]) -> Walk
     arm(fragment, log, start, 0)
 }
 
+// The verdict of a summary and the end stacks.
+fn with_end(v: Summary, end: EndStacks) -> Verdict
+    ensures { λ r. ⌜ r ≡ withEnd v end ⌝ }
+{
+    Verdict {
+        number: v.number,
+        offset: v.offset,
+        first: v.first,
+        second: v.second,
+        rows: v.rows,
+        peak: v.peak,
+        ended: v.ended,
+        end,
+    }
+}
+
 // The tests before the walk, in their order; so many numbers of the log are lent.
 fn early(fragment: &[u8], main: u32, alt: u32, lent: usize) -> Start
     ensures { λ r. ⌜ ((log : List ℕ) → length log ≡ lent → Starts (now (fragment .entry)) main alt log r) ⌝ }
@@ -476,47 +492,15 @@ pub fn analyze(fragment: &[u8], main: u32, alt: u32, log: &mut [u16]) -> Verdict
 {
     let start = early(fragment, main, alt, log.len());
     match start {
-        Start::Refused(v) => {
-            let end = EndStacks::none();
-            return Verdict {
-                number: v.number,
-                offset: v.offset,
-                first: v.first,
-                second: v.second,
-                rows: v.rows,
-                peak: v.peak,
-                ended: v.ended,
-                end,
-            };
-        }
+        Start::Refused(v) => with_end(v, EndStacks::none()),
         Start::Walks => {
             let w = walk_all(fragment, main, alt, log);
             let v = conclude(w);
             if v.ended {
                 let s = w.stacks;
-                let end = s.ends();
-                return Verdict {
-                    number: v.number,
-                    offset: v.offset,
-                    first: v.first,
-                    second: v.second,
-                    rows: v.rows,
-                    peak: v.peak,
-                    ended: v.ended,
-                    end,
-                };
+                return with_end(v, s.ends());
             }
-            let end = EndStacks::none();
-            return Verdict {
-                number: v.number,
-                offset: v.offset,
-                first: v.first,
-                second: v.second,
-                rows: v.rows,
-                peak: v.peak,
-                ended: v.ended,
-                end,
-            };
+            with_end(v, EndStacks::none())
         }
     }
 }

@@ -1,5 +1,4 @@
 use Rattle.stack_analysis.proofs.Answers.{accepts-live, accepts-dead}
-use borrow.Author.Needs.{needs}
 use Rattle.stack_analysis.proofs.accepted.Statement.{statement}
 use Rattle.stack_analysis.proofs.accepted.Tie as tie
 use Rattle.stack_analysis.proofs.accepted.Reads as reads

@@ -1,7 +1,7 @@
 use mathlib.Core.Path.{refl, subst}
 use Rattle.stack_analysis.specs.Entry.{MayWalk, Starts}
-use borrow.Author.Needs.{needs}
 use Rattle.stack_analysis.proofs.Entries.{answers-early, answers-live, answers-dead}
+use borrow.Author.Needs.{needs}
 use Rattle.stack_analysis.proofs.analyze.Statement.{statement}
 use Rattle.stack_analysis.proofs.analyze.Tie as tie
 use Rattle.stack_analysis.proofs.analyze.Reads as reads
@@ -11,6 +11,7 @@ use Rattle.stack.proofs.Stacks.ends.Reads as ends-reads
 use Rattle.stack_analysis.proofs.conclude.Reads as conclude-reads
 use Rattle.stack_analysis.proofs.early.Reads as early-reads
 use Rattle.stack_analysis.proofs.walk_all.Reads as walk-all-reads
+use Rattle.stack_analysis.proofs.with_end.Reads as with-end-reads
 
 early-requires : tie.Need-early-requires
 early-requires c κs = search needs
@@ -21,13 +22,8 @@ enum-known-start c = search needs
 none-requires : tie.Need-none-requires
 none-requires c κs = search needs
 
-returns : tie.Need-returns
-returns c =
-    let e = c .before .before .before .before in
-    let a = e .before .before .before .args in
-    let r = subst (Starts (a .fragment .now) (a .main) (a .alt) (a .log .now)) (c .before .before .start .given .1) (e .early .ensures (a .log .now) refl) in
-    let m = answers-early (a .fragment .now) (a .main) (a .alt) (a .log .now) _ r (c .none .result) (c .none .ensures) in
-    (m .same, (m .shows, (m .within, (m .logged, m .replayed))))
+with-end-requires : tie.Need-with-end-requires
+with-end-requires c κs = search needs
 
 enum-told : tie.Need-enum-told
 enum-told c = search needs
@@ -48,27 +44,44 @@ conclude-requires c κs = search needs
 ends-requires : tie.Need-ends-requires
 ends-requires c κs = search needs
 
+with-end-requires-2 : tie.Need-with-end-requires-2
+with-end-requires-2 c κs = search needs
+
 same-length : tie.Need-same-length
 same-length c = search needs
 
-returns-2 : tie.Need-returns-2
-returns-2 c =
-    let v = c .before .before .before in
+returns : tie.Need-returns
+returns c =
+    let e = c .before in
+    let v = e .before .before .before in
     let w = v .before .before .before in
-    let m = answers-live _ _ _ _ (may (w .before .before)) (w .walk-all .result) _ (w .walk-all .ensures) (v .conclude .result) (v .conclude .ensures) (c .before .before .if1 .taken) (c .ends .result) (c .ends .ensures) in
+    let m = answers-live _ _ _ _ (may (w .before .before)) (w .walk-all .result) _ (w .walk-all .ensures) (v .conclude .result) (v .conclude .ensures) (e .before .before .if1 .taken) (e .ends .result) (e .ends .ensures) _ (c .with-end2 .ensures) in
     (m .same, (m .shows, (m .within, (m .logged, m .replayed))))
 
 none-requires-2 : tie.Need-none-requires-2
 none-requires-2 c κs = search needs
+
+with-end-requires-3 : tie.Need-with-end-requires-3
+with-end-requires-3 c κs = search needs
+
+returns-2 : tie.Need-returns-2
+returns-2 c =
+    let n = c .before in
+    let e = n .before .before .before .before in
+    let a = e .before .before .before .args in
+    let r = subst (Starts (a .fragment .now) (a .main) (a .alt) (a .log .now)) (n .before .before .start .given .1) (e .early .ensures (a .log .now) refl) in
+    let m = answers-early (a .fragment .now) (a .main) (a .alt) (a .log .now) _ r (n .none .result) (n .none .ensures) _ (c .with-end .ensures) in
+    (m .same, (m .shows, (m .within, (m .logged, m .replayed))))
 
 same-length-2 : tie.Need-same-length-2
 same-length-2 c = search needs
 
 returns-3 : tie.Need-returns-3
 returns-3 c =
-    let v = c .before .before in
+    let n = c .before in
+    let v = n .before .before in
     let w = v .before .before .before in
-    let m = answers-dead _ _ _ _ (may (w .before .before)) (w .walk-all .result) _ (w .walk-all .ensures) (v .conclude .result) (v .conclude .ensures) (c .before .if1 .left) (c .none2 .result) (c .none2 .ensures) in
+    let m = answers-dead _ _ _ _ (may (w .before .before)) (w .walk-all .result) _ (w .walk-all .ensures) (v .conclude .result) (v .conclude .ensures) (n .before .if1 .left) (n .none2 .result) (n .none2 .ensures) _ (c .with-end3 .ensures) in
     (m .same, (m .shows, (m .within, (m .logged, m .replayed))))
 
 pub analyze-spec : {M : Type 1} → statement M
@@ -78,13 +91,16 @@ analyze-spec =
     early-requires
     enum-known-start
     none-requires
-    returns
+    with-end-requires
     enum-told
     walk-all-requires
     conclude-requires
     ends-requires
+    with-end-requires-2
     same-length
-    returns-2
+    returns
     none-requires-2
+    with-end-requires-3
+    returns-2
     same-length-2
     returns-3)
