@@ -7,7 +7,7 @@
  *
  * - A pointer points to that many elements, aligned for their type, to read or, where it is not const, to write.
  * - With a length of 0 nothing is read or written through the pointer, and it may be NULL.
- * - `log` and `out` overlap nothing else that is passed. Slices that are only read may overlap.
+ * - `log`, `items`, `text`, `out` and `tally` overlap nothing else that is passed. Slices that are only read may overlap.
  *
  * The functions allocate nothing, keep no pointer, call nothing back and may run on several threads at once. They use up to
  * 512 KiB of the caller's stack: conditionals nest at most 24 deep, and each level has its own.
@@ -27,6 +27,10 @@ extern "C" {
 #define LISTOCHUR_LIMITS_PLACES 4
 #define LISTOCHUR_PAPER_PLACES 7
 #define LISTOCHUR_PART_PLACES 2
+#define LISTOCHUR_LINES_PLACES 1
+
+/* Room for the lines of any paper. */
+#define LISTOCHUR_LINES_BYTES 4096
 
 /* A height in the log where the row is dead. */
 #define LISTOCHUR_DEAD 65535
@@ -38,6 +42,22 @@ extern "C" {
  */
 uint32_t listochur_analyze(const uint8_t *fragment, size_t fragment_len, uint32_t main_items, uint32_t alt_items, uint16_t *log,
                            size_t log_len, uint64_t *out, size_t out_len);
+
+/* How many numbers `items` has for an item, how many places are enough for any end, and the length of an unknown item. */
+#define LISTOCHUR_ITEM_NUMBERS 3
+#define LISTOCHUR_ITEMS_PLACES 732
+#define LISTOCHUR_UNKNOWN 255
+
+/*
+ * The same, and the items of the end stacks.
+ * `items`: three numbers for each item of main from bottom to top and then for each of alt from bottom to top: its length, 0 to
+ * 8, or LISTOCHUR_UNKNOWN; its bytes as one number, the first byte the lowest, or 0 if it is unknown; its mark, which is 0.
+ * They are written where there are end stacks; with fewer places than they need none is, and places beyond them stay as they
+ * were.
+ */
+uint32_t listochur_analyze_items(const uint8_t *fragment, size_t fragment_len, uint32_t main_items, uint32_t alt_items,
+                                 uint16_t *log, size_t log_len, uint64_t *items, size_t items_len, uint64_t *out,
+                                 size_t out_len);
 
 /*
  * The limit check: malformed bytecode, over 201 opcodes above 60, over 10,000 bytes. Answers its number, 0 for within.
@@ -61,6 +81,24 @@ uint32_t listochur_mark_paper(const uint8_t *paper, size_t paper_len, uint16_t *
  */
 size_t listochur_display(const uint8_t *body, size_t body_len, const uint8_t *init, size_t init_len, size_t offset, uint32_t mark,
                          uint64_t *out, size_t out_len);
+
+/*
+ * What `stackmark` prints of a paper: a line for each fragment accepted, then `accepted` or `refused N at K O A B`. Answers the
+ * verdict's number, 0 for accepted.
+ * `text`: the lines, each ended by a newline and with no NUL behind them, where it has room for all of them; else it stays as it
+ * was. The bytes behind them stay as they were.
+ * `out`: how many bytes the lines take, also where `text` has no room for them; at most LISTOCHUR_LINES_BYTES.
+ * `log`: the rows of all fragments, one after another, whatever room `text` and `out` have.
+ */
+uint32_t listochur_mark_lines(const uint8_t *paper, size_t paper_len, uint16_t *log, size_t log_len, uint8_t *text,
+                              size_t text_len, uint64_t *out, size_t out_len);
+
+/*
+ * The bench tally gains one verdict, of this number, rows and peak. Answers 0, or 22 where a sum would pass 4,294,967,295, with
+ * the tally as it was.
+ * `tally`: four counters: fragments, accepted, rows, greatest peak. A pointer to four numbers; no length is passed.
+ */
+uint32_t listochur_gain(uint32_t tally[4], uint32_t number, uint64_t rows, uint32_t peak);
 
 #ifdef __cplusplus
 }

@@ -1,8 +1,22 @@
-/* Marks the sample paper of document 01, section 6, and analyses a fragment that is refused. */
+/* Marks the sample paper of document 01, section 6, prints its lines, analyses a fragment that is refused, shows the items of an
+ * end, and keeps a tally. */
 #include <inttypes.h>
 #include <stdio.h>
 
 #include "listochur.h"
+
+/* these items of a stack, from bottom to top: their bytes, or `unknown` */
+static void show(const char *stack, const uint64_t *items, uint64_t count) {
+    for (; count > 0; count--, items += LISTOCHUR_ITEM_NUMBERS) {
+        printf("%s ", stack);
+        if (items[0] == LISTOCHUR_UNKNOWN) {
+            printf("unknown");
+        } else {
+            for (uint64_t k = 0; k < items[0]; k++) printf("%02x", (unsigned)(items[1] >> 8 * k & 0xff));
+        }
+        printf("\n");
+    }
+}
 
 int main(void) {
     const uint8_t paper[] = {0x01, 0x00, 0x01, 0x00, 0x0e, 0x00, 0x00, 0x00, 0x01, 0x00,
@@ -15,9 +29,28 @@ int main(void) {
         printf("refused %" PRIu64 " at %" PRIu64 " %" PRIu64 " %" PRIu64 " %" PRIu64 "\n", p[0], p[1], p[2], p[3], p[4]);
     }
 
+    uint8_t text[LISTOCHUR_LINES_BYTES];
+    uint64_t size;
+    listochur_mark_lines(paper, sizeof paper, log, 24000, text, sizeof text, &size, LISTOCHUR_LINES_PLACES);
+    fwrite(text, 1, size, stdout);
+
     const uint8_t fragment[] = {0x51, 0x79};
     uint64_t v[LISTOCHUR_VERDICT_PLACES];
     listochur_analyze(fragment, sizeof fragment, 1, 0, log, 24000, v, LISTOCHUR_VERDICT_PLACES);
     printf("%" PRIu64 " at %" PRIu64 ", %" PRIu64 ", %" PRIu64 "\n", v[0], v[1], v[2], v[3]);
+
+    /* 1; 05 06, to alt; a plain effect that pushes */
+    const uint8_t pushes[] = {0x51, 0x02, 0x05, 0x06, 0x6b, 0xb2};
+    uint64_t items[LISTOCHUR_ITEMS_PLACES];
+    listochur_analyze_items(pushes, sizeof pushes, 0, 0, log, 24000, items, LISTOCHUR_ITEMS_PLACES, v, LISTOCHUR_VERDICT_PLACES);
+    show("main", items, v[7]);
+    show("alt", items + LISTOCHUR_ITEM_NUMBERS * v[7], v[8]);
+
+    /* the paper has one fragment, so its verdict is that fragment's */
+    uint32_t tally[4] = {0};
+    listochur_gain(tally, (uint32_t)p[0], p[5], (uint32_t)p[6]);
+    listochur_gain(tally, (uint32_t)v[0], v[4], (uint32_t)v[5]);
+    printf("%" PRIu32 " fragments, %" PRIu32 " accepted, %" PRIu32 " rows, peak %" PRIu32 "\n", tally[0], tally[1], tally[2],
+           tally[3]);
     return 0;
 }

@@ -1,4 +1,4 @@
-/* The four functions from C: answers, bad input, NULL with a length of 0, too few places. */
+/* The functions from C: answers, bad input, NULL with a length of 0, too few places. */
 #include <stdio.h>
 #include <string.h>
 
@@ -41,6 +41,55 @@ static void analyse(void) {
     lend(out);
     EXPECT(listochur_analyze(fragment, 1, 0, 0, NULL, 0, out, 8) == 4);
     EXPECT(holds(out, (const uint64_t[]){7, 7, 7, 7, 7, 7, 7, 7}, 8));
+}
+
+/* whether the first places hold these numbers and all others, up to `places`, are as they were lent */
+static int listed(const uint64_t *items, const uint64_t *numbers, size_t n, size_t places) {
+    for (size_t i = n; i < places; i++) {
+        if (items[i] != 7) return 0;
+    }
+    return n == 0 || memcmp(items, numbers, n * sizeof *numbers) == 0;
+}
+
+static void lend_items(uint64_t *items, size_t places) {
+    for (size_t i = 0; i < places; i++) items[i] = 7;
+}
+
+static void analyse_items(void) {
+    uint64_t out[10], items[16];
+    uint16_t log[18];
+    /* 1; 05 06 and 07, to alt; nothing; an unknown item */
+    const uint8_t fragment[] = {0x51, 0x02, 0x05, 0x06, 0x6b, 0x57, 0x6b, 0xb2};
+    const uint64_t numbers[] = {255, 0, 0, 1, 1, 0, 255, 0, 0, 2, 0x0605, 0, 1, 7, 0};
+    lend(out);
+    lend_items(items, 16);
+    EXPECT(listochur_analyze_items(fragment, 8, 1, 0, log, 18, items, 16, out, 10) == 0);
+    EXPECT(holds(out, (const uint64_t[]){0, 0, 0, 0, 6, 5, 1, 3, 2}, 9));
+    EXPECT(listed(items, numbers, 15, 16));
+    EXPECT(memcmp(log, (const uint16_t[]){0, 1, 0, 1, 2, 0, 4, 3, 0, 5, 2, 1, 6, 3, 1, 7, 2, 2}, sizeof log) == 0);
+    /* just enough places, and one too few */
+    lend_items(items, 16);
+    EXPECT(listochur_analyze_items(fragment, 8, 1, 0, log, 18, items, 15, out, 10) == 0);
+    EXPECT(listed(items, numbers, 15, 16));
+    lend_items(items, 16);
+    EXPECT(listochur_analyze_items(fragment, 8, 1, 0, log, 18, items, 14, out, 10) == 0);
+    EXPECT(listed(items, NULL, 0, 16));
+    EXPECT(holds(out, (const uint64_t[]){0, 0, 0, 0, 6, 5, 1, 3, 2}, 9));
+    /* an empty item and one of 8 bytes */
+    const uint8_t lengths[] = {0x00, 0x08, 1, 2, 3, 4, 5, 6, 7, 8};
+    EXPECT(listochur_analyze_items(lengths, 10, 0, 0, log, 18, items, 16, out, 10) == 0);
+    EXPECT(listed(items, (const uint64_t[]){0, 0, 0, 8, 0x0807060504030201, 0}, 6, 16));
+    /* a refusal, and no end: as lent */
+    lend_items(items, 16);
+    EXPECT(listochur_analyze_items((const uint8_t[]){0x51, 0x79}, 2, 1, 0, log, 18, items, 16, out, 10) == 7);
+    EXPECT(holds(out, (const uint64_t[]){7, 1, 2, 1, 2, 0, 0, 0, 0}, 9));
+    EXPECT(listed(items, NULL, 0, 16));
+    EXPECT(listochur_analyze_items((const uint8_t[]){0x6a}, 1, 1, 0, log, 18, items, 16, out, 10) == 0);
+    EXPECT(holds(out, (const uint64_t[]){0, 0, 0, 0, 1, 1, 0, 0, 0}, 9));
+    EXPECT(listed(items, NULL, 0, 16));
+    EXPECT(listochur_analyze_items(NULL, 0, 0, 0, NULL, 0, NULL, 0, NULL, 0) == 0);
+    EXPECT(listochur_analyze_items(NULL, 0, 1, 0, NULL, 0, NULL, 0, NULL, 0) == 0);
+    EXPECT(listochur_analyze_items(NULL, 0, 245, 0, NULL, 0, NULL, 0, NULL, 0) == 2);
 }
 
 static void check_limits(void) {
@@ -98,10 +147,63 @@ static void display(void) {
     EXPECT(listochur_display(NULL, 0, NULL, 0, 0, 2, NULL, 0) == 0);
 }
 
+static void mark_lines(void) {
+    uint64_t out[10];
+    uint16_t log[6];
+    uint8_t text[LISTOCHUR_LINES_BYTES];
+    const uint8_t paper[] = {1, 0, 0, 0, 14, 0, 0, 0, 2, 0, 14, 0, 1, 0, 0x75};
+    const char *lines = "entry 0 peak 2 end 1 0\naccepted\n";
+    const size_t size = strlen(lines);
+    lend(out);
+    memset(text, 9, sizeof text);
+    memset(log, 0xff, sizeof log);
+    EXPECT(listochur_mark_lines(paper, sizeof paper, log, 6, text, sizeof text, out, 10) == 0);
+    EXPECT(holds(out, (const uint64_t[]){size}, 1));
+    EXPECT(memcmp(text, lines, size) == 0 && text[size] == 9 && text[sizeof text - 1] == 9);
+    EXPECT(memcmp(log, (const uint16_t[]){0, 2, 0, 65535, 65535, 65535}, sizeof log) == 0);
+    /* just room enough, and one byte too few: the number, the size and the log are the same */
+    memset(text, 9, sizeof text);
+    EXPECT(listochur_mark_lines(paper, sizeof paper, log, 6, text, size, NULL, 0) == 0);
+    EXPECT(memcmp(text, lines, size) == 0 && text[size] == 9);
+    lend(out);
+    memset(text, 9, sizeof text);
+    memset(log, 0xff, sizeof log);
+    EXPECT(listochur_mark_lines(paper, sizeof paper, log, 6, text, size - 1, out, 1) == 0);
+    EXPECT(holds(out, (const uint64_t[]){size}, 1));
+    EXPECT(text[0] == 9 && text[size - 2] == 9);
+    EXPECT(memcmp(log, (const uint16_t[]){0, 2, 0, 65535, 65535, 65535}, sizeof log) == 0);
+    /* refused */
+    EXPECT(listochur_mark_lines(paper, sizeof paper, NULL, 0, text, sizeof text, out, 1) == 4);
+    EXPECT(out[0] == 21 && memcmp(text, "refused 4 at 0 0 3 0\n", 21) == 0);
+    EXPECT(listochur_mark_lines(NULL, 0, NULL, 0, NULL, 0, out, 1) == 19);
+    EXPECT(listochur_mark_lines(NULL, 0, NULL, 0, NULL, 0, NULL, 0) == 19);
+}
+
+static void gain(void) {
+    uint32_t tally[5] = {0, 0, 0, 0, 7};
+    EXPECT(listochur_gain(tally, 0, 6, 2) == 0);
+    EXPECT(memcmp(tally, (const uint32_t[]){1, 1, 6, 2, 7}, sizeof tally) == 0);
+    EXPECT(listochur_gain(tally, 7, 2, 0) == 0);
+    EXPECT(memcmp(tally, (const uint32_t[]){2, 1, 8, 2, 7}, sizeof tally) == 0);
+    EXPECT(listochur_gain(tally, 0, 4294967287, 3) == 0);
+    EXPECT(memcmp(tally, (const uint32_t[]){3, 2, 4294967295, 3, 7}, sizeof tally) == 0);
+    /* 22 leaves the tally as it was; rows are not cut to 32 bits */
+    EXPECT(listochur_gain(tally, 0, 1, 9) == 22);
+    EXPECT(listochur_gain(tally, 0, 4294967296, 9) == 22);
+    EXPECT(listochur_gain(tally, 0, UINT64_MAX, 9) == 22);
+    EXPECT(memcmp(tally, (const uint32_t[]){3, 2, 4294967295, 3, 7}, sizeof tally) == 0);
+    tally[0] = UINT32_MAX;
+    tally[2] = 0;
+    EXPECT(listochur_gain(tally, 16, 0, 0) == 22);
+}
+
 int main(void) {
     analyse();
+    analyse_items();
     check_limits();
     mark_paper();
     display();
+    mark_lines();
+    gain();
     return failures != 0;
 }

@@ -1,6 +1,19 @@
-//! Marks the sample paper of document 01, section 6, and analyses a fragment that is refused.
+//! Marks the sample paper of document 01, section 6, prints its lines, analyses a fragment that is refused, shows the items of an
+//! end, and keeps a tally.
+use listochur::Item;
+use std::io::{self, Write};
 
-fn main() {
+/// These items of a stack, from bottom to top: their bytes, or `unknown`.
+fn show(stack: &str, items: &[Item]) {
+    for item in items {
+        match item.bytes() {
+            Some(bytes) => println!("{stack} {}", bytes.iter().map(|b| format!("{b:02x}")).collect::<String>()),
+            None => println!("{stack} unknown"),
+        }
+    }
+}
+
+fn main() -> io::Result<()> {
     let paper = [1, 0, 1, 0, 0x0e, 0, 0, 0, 1, 0, 0x0e, 0, 6, 0, 0x63, 0x51, 0x67, 0x52, 0x68, 0x75];
     let mut log = [0; 24_000];
     let p = listochur::mark_paper(&paper, &mut log);
@@ -10,6 +23,22 @@ fn main() {
         println!("refused {} at {} {} {} {}", p.number, p.entry, p.offset, p.first, p.second);
     }
 
+    let mut text = [0; listochur::LINES_BYTES];
+    let lines = listochur::mark_lines(&paper, &mut log, &mut text);
+    io::stdout().write_all(&text[..lines.size])?;
+
     let v = listochur::analyze(&[0x51, 0x79], 1, 0, &mut log);
     println!("{} at {}, {}, {}", v.number, v.offset, v.first, v.second);
+
+    // 1; 05 06, to alt; a plain effect that pushes
+    let (_, end) = listochur::analyze_items(&[0x51, 0x02, 0x05, 0x06, 0x6b, 0xb2], 0, 0, &mut log);
+    show("main", end.main());
+    show("alt", end.alt());
+
+    // The paper has one fragment, so its verdict is that fragment's.
+    let mut tally = listochur::Tally::default();
+    listochur::gain(&mut tally, p.number, p.rows, p.peak);
+    listochur::gain(&mut tally, v.number, v.rows, v.peak);
+    println!("{} fragments, {} accepted, {} rows, peak {}", tally.fragments, tally.accepted, tally.rows, tally.peak);
+    Ok(())
 }

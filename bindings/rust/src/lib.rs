@@ -1,13 +1,13 @@
-//! A proved stack marker for Kaspa script: analyse a fragment, check limits, mark a paper, display.
+//! A proved stack marker for Kaspa script: analyse a fragment, check limits, mark a paper, display, print, keep a tally.
 //!
-//! The four functions hand their slices and numbers to the proved ones of the crate `export` and read the numbers that come
+//! The functions hand their slices and numbers to the proved ones of the crate `export` and read the numbers that come
 //! back. They test nothing. A fragment that is too long, heights over the limit, a short log, a bad header or a mark that is
 //! neither 0 nor 1 reach the callee as they are: it takes every input and has refused them, with a number of document 01,
 //! section 7, before anything here could. Nothing panics and nothing is allocated.
 //!
 //! What is proved is that the answer and the log are those of document 01, for every input. This crate and the compilers are
-//! not: here are four calls, the numbers that they leave, and the part that the display's two numbers cut out. A call uses up
-//! to 512 KiB of stack.
+//! not: here are a call for each function, the numbers that it leaves, and the part that the display's two numbers cut out. A
+//! call uses up to 512 KiB of stack.
 //!
 //! ```
 //! let mut log = [0u16; 6];
@@ -30,6 +30,18 @@ mod callee {
             out: *mut u64,
             out_len: usize,
         ) -> u32;
+        pub fn listochur_analyze_items(
+            fragment: *const u8,
+            fragment_len: usize,
+            main: u32,
+            alt: u32,
+            log: *mut u16,
+            log_len: usize,
+            items: *mut u64,
+            items_len: usize,
+            out: *mut u64,
+            out_len: usize,
+        ) -> u32;
         pub fn listochur_check_limits(bytecode: *const u8, bytecode_len: usize, out: *mut u64, out_len: usize) -> u32;
         pub fn listochur_mark_paper(
             paper: *const u8,
@@ -49,11 +61,26 @@ mod callee {
             out: *mut u64,
             out_len: usize,
         ) -> usize;
+        pub fn listochur_mark_lines(
+            paper: *const u8,
+            paper_len: usize,
+            log: *mut u16,
+            log_len: usize,
+            text: *mut u8,
+            text_len: usize,
+            out: *mut u64,
+            out_len: usize,
+        ) -> u32;
+        // Four counters, with no length.
+        pub fn listochur_gain(tally: *mut u32, number: u32, rows: u64, peak: u32) -> u32;
     }
 }
 
 /// A height in the log where the row is dead.
 pub const DEAD: u16 = 65_535;
+
+/// Room for the lines of any paper.
+pub const LINES_BYTES: usize = 4_096;
 
 /// The verdict on a fragment.
 #[derive(Clone, Copy, Debug, PartialEq, Eq)]
@@ -115,6 +142,28 @@ pub struct PaperVerdict {
     pub peak: u32,
 }
 
+/// What [`mark_lines`] answers.
+#[derive(Clone, Copy, Debug, PartialEq, Eq)]
+pub struct Lines {
+    /// 0 for accepted, else why the paper is refused.
+    pub number: u32,
+    /// How many bytes the lines take, at most [`LINES_BYTES`].
+    pub size: usize,
+}
+
+/// The bench tally.
+#[derive(Clone, Copy, Debug, Default, PartialEq, Eq)]
+pub struct Tally {
+    /// Verdicts gained.
+    pub fragments: u32,
+    /// Those with number 0.
+    pub accepted: u32,
+    /// Their rows together.
+    pub rows: u32,
+    /// The greatest of their peaks.
+    pub peak: u32,
+}
+
 /// The analysis of a fragment from so many unknown items on main and alt. For each instruction met three numbers are written
 /// to `log`: its offset and the heights of main and alt just before it, or [`DEAD`] twice. The rest of `log` stays as lent.
 ///
@@ -134,6 +183,11 @@ pub fn analyze(fragment: &[u8], main: u32, alt: u32, log: &mut [u16]) -> Verdict
             out.len(),
         )
     };
+    verdict(number, out)
+}
+
+/// The verdict of a call that has answered this number and left these in its places.
+fn verdict(number: u32, out: [u64; 9]) -> Verdict {
     // The places hold numbers of these widths, widened by the callee.
     let [_, offset, first, second, rows, peak, ended, mains, alts] = out;
     Verdict {
@@ -145,6 +199,101 @@ pub fn analyze(fragment: &[u8], main: u32, alt: u32, log: &mut [u16]) -> Verdict
         peak: peak as u32,
         end: (ended == 1).then_some(Heights { main: mains as u32, alt: alts as u32 }),
     }
+}
+
+/// What is known of an item.
+#[derive(Clone, Copy, Debug, PartialEq, Eq)]
+pub enum Value {
+    /// Nothing.
+    Unknown,
+    /// It has these bytes: the first `len` of them, 0 to 8, and zeros behind.
+    Exact {
+        /// How many bytes it has.
+        len: u8,
+        /// Its bytes.
+        bytes: [u8; 8],
+    },
+}
+
+/// An item of the end stacks.
+#[derive(Clone, Copy, Debug, PartialEq, Eq)]
+pub struct Item {
+    /// What is known of it.
+    pub value: Value,
+    /// Its mark, which is 0.
+    pub mark: u64,
+}
+
+impl Item {
+    /// Its bytes; none if it is unknown.
+    pub fn bytes(&self) -> Option<&[u8]> {
+        match &self.value {
+            Value::Unknown => None,
+            Value::Exact { len, bytes } => bytes.get(..usize::from(*len)),
+        }
+    }
+
+    /// The item that three numbers of the callee's stand for: its length, 255 if it is unknown, its bytes as one number, its
+    /// mark.
+    fn read(len: u64, number: u64, mark: u64) -> Item {
+        let value = if len == 255 { Value::Unknown } else { Value::Exact { len: len as u8, bytes: number.to_le_bytes() } };
+        Item { value, mark }
+    }
+}
+
+/// The stacks that a fragment ends with; no items if it is refused or no run comes past its last instruction.
+#[derive(Clone, Copy, Debug, PartialEq, Eq)]
+pub struct EndStacks {
+    heights: Heights,
+    items: [Item; 244],
+}
+
+impl EndStacks {
+    /// The items of main, from bottom to top.
+    pub fn main(&self) -> &[Item] {
+        self.items.get(..self.heights.main as usize).unwrap_or_default()
+    }
+
+    /// The items of alt, from bottom to top.
+    pub fn alt(&self) -> &[Item] {
+        let start = self.heights.main as usize;
+        self.items.get(start..start + self.heights.alt as usize).unwrap_or_default()
+    }
+}
+
+/// The same as [`analyze`], and the items of the end stacks.
+///
+/// ```
+/// let mut log = [0u16; 3];
+/// let (v, end) = listochur::analyze_items(&[0x51], 0, 0, &mut log);
+/// assert_eq!(v.number, 0);
+/// assert_eq!(end.main()[0].bytes(), Some(&[0x01][..]));
+/// ```
+pub fn analyze_items(fragment: &[u8], main: u32, alt: u32, log: &mut [u16]) -> (Verdict, EndStacks) {
+    let mut out = [0; 9];
+    let mut numbers = [0; 3 * 244];
+    // SAFETY: each slice is passed whole, with its own length, and the borrows keep `log`, `numbers` and `out` apart from the
+    // rest.
+    let number = unsafe {
+        callee::listochur_analyze_items(
+            fragment.as_ptr(),
+            fragment.len(),
+            main,
+            alt,
+            log.as_mut_ptr(),
+            log.len(),
+            numbers.as_mut_ptr(),
+            numbers.len(),
+            out.as_mut_ptr(),
+            out.len(),
+        )
+    };
+    let mut items = [Item { value: Value::Unknown, mark: 0 }; 244];
+    for (item, &[len, number, mark]) in items.iter_mut().zip(numbers.as_chunks().0) {
+        *item = Item::read(len, number, mark);
+    }
+    let verdict = verdict(number, out);
+    (verdict, EndStacks { heights: verdict.end.unwrap_or(Heights { main: 0, alt: 0 }), items })
 }
 
 /// The limit check: malformed bytecode (3), over 201 opcodes above 60 (17), over 10,000 bytes (18), in this order.
@@ -188,4 +337,41 @@ pub fn display<'a>(body: &'a [u8], init: &'a [u8], offset: usize, mark: u32) -> 
     // SAFETY: proved of the callee: start + size is at most the length of the fragment that the mark names, and both are 0
     // for a mark that names none.
     unsafe { fragment.get_unchecked(start..start + size) }
+}
+
+/// What `stackmark` prints of a paper: a line for each fragment accepted, then `accepted` or `refused N at K O A B`, each ended
+/// by a newline. The lines are written to the start of `text` where it has room for all of them, else none is; the rest of it
+/// stays as lent. The rows of all fragments are written to `log`, as by [`mark_paper`], whatever room `text` has.
+///
+/// Tests nothing: a paper that is refused has its lines too.
+pub fn mark_lines(paper: &[u8], log: &mut [u16], text: &mut [u8]) -> Lines {
+    let mut out = [0; 1];
+    // SAFETY: each slice is passed whole, with its own length, and the borrows keep `log`, `text` and `out` apart from the rest.
+    let number = unsafe {
+        callee::listochur_mark_lines(
+            paper.as_ptr(),
+            paper.len(),
+            log.as_mut_ptr(),
+            log.len(),
+            text.as_mut_ptr(),
+            text.len(),
+            out.as_mut_ptr(),
+            out.len(),
+        )
+    };
+    let [size] = out;
+    Lines { number, size: size as usize }
+}
+
+/// The tally gains one verdict, of this number, rows and peak. Answers 0, or 22 where a sum would pass 4,294,967,295, with the
+/// tally as it was.
+///
+/// Tests nothing: rows of any size are the callee's to refuse.
+pub fn gain(tally: &mut Tally, number: u32, rows: usize, peak: u32) -> u32 {
+    let mut counters = [tally.fragments, tally.accepted, tally.rows, tally.peak];
+    // SAFETY: the pointer is to four counters, which nothing else refers to.
+    let answer = unsafe { callee::listochur_gain(counters.as_mut_ptr(), number, rows as u64, peak) };
+    let [fragments, accepted, rows, peak] = counters;
+    *tally = Tally { fragments, accepted, rows, peak };
+    answer
 }

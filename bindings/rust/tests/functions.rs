@@ -1,5 +1,8 @@
-//! The four functions from Rust: what document 01 says of them, bad input included.
-use listochur::{DEAD, Heights, Limits, PaperVerdict, Verdict, analyze, check_limits, display, mark_paper};
+//! The functions from Rust: what document 01 says of them, bad input included.
+use listochur::{
+    DEAD, Heights, Item, LINES_BYTES, Limits, Lines, PaperVerdict, Tally, Value, Verdict, analyze, analyze_items, check_limits,
+    display, gain, mark_lines, mark_paper,
+};
 
 /// What stands in a log that no row has been written to.
 const LENT: u16 = 7777;
@@ -47,6 +50,50 @@ fn the_marked_papers_of_section_8() {
         assert_eq!(analyze(fragment, main, alt, &mut log), verdict, "{fragment:02x?}");
         assert!(log[3 * verdict.rows..].iter().all(|&n| n == LENT), "{fragment:02x?}");
     }
+}
+
+const UNKNOWN: Item = Item { value: Value::Unknown, mark: 0 };
+
+/// The item of these bytes.
+fn exact(bytes: &[u8]) -> Item {
+    let mut padded = [0; 8];
+    padded[..bytes.len()].copy_from_slice(bytes);
+    Item { value: Value::Exact { len: bytes.len() as u8, bytes: padded }, mark: 0 }
+}
+
+#[test]
+fn the_items_of_an_end() {
+    // 1; 05 06 and 07, to alt; a plain effect that pushes
+    let mut log = [LENT; 21];
+    let (verdict, end) = analyze_items(&[0x51, 0x02, 0x05, 0x06, 0x6b, 0x57, 0x6b, 0xb2], 1, 0, &mut log);
+    assert_eq!(verdict, accepted(6, 5, 3, 2));
+    assert_eq!(log, [0, 1, 0, 1, 2, 0, 4, 3, 0, 5, 2, 1, 6, 3, 1, 7, 2, 2, LENT, LENT, LENT]);
+    assert_eq!(end.main(), [UNKNOWN, exact(&[1]), UNKNOWN]);
+    assert_eq!(end.alt(), [exact(&[5, 6]), exact(&[7])]);
+    // an empty item, one of 8 bytes, and 9 bytes, of which nothing is known
+    let mut pushes = vec![0x00, 0x08, 1, 2, 3, 4, 5, 6, 7, 8, 0x09];
+    pushes.resize(20, 0xff);
+    let (verdict, end) = analyze_items(&pushes, 0, 1, &mut log);
+    assert_eq!(verdict, accepted(3, 4, 3, 1));
+    assert_eq!(end.main(), [exact(&[]), exact(&[1, 2, 3, 4, 5, 6, 7, 8]), UNKNOWN]);
+    assert_eq!(end.main()[1].bytes(), Some(&[1, 2, 3, 4, 5, 6, 7, 8][..]));
+    assert_eq!(end.alt(), [UNKNOWN]);
+    assert_eq!(end.alt()[0].bytes(), None);
+    // all 244 places
+    let (verdict, end) = analyze_items(&[0x6b], 200, 44, &mut log);
+    assert_eq!(verdict, accepted(1, 244, 199, 45));
+    assert_eq!((end.main(), end.alt()), (&[UNKNOWN; 199][..], &[UNKNOWN; 45][..]));
+}
+
+#[test]
+fn without_an_end_there_are_no_items() {
+    let mut log = [LENT; 6];
+    let (verdict, end) = analyze_items(&[0x51, 0x79], 1, 0, &mut log);
+    assert_eq!((verdict, end.main(), end.alt()), (refused(7, 1, 2, 1, 2), &[][..], &[][..]));
+    let (verdict, end) = analyze_items(&[0x6a], 3, 2, &mut log);
+    assert_eq!((verdict, end.main(), end.alt()), (dead(1, 5), &[][..], &[][..]));
+    let (verdict, end) = analyze_items(&[0x51], 245, 0, &mut log);
+    assert_eq!((verdict, end.main(), end.alt()), (refused(2, 0, 245, 244, 0), &[][..], &[][..]));
 }
 
 #[test]
@@ -147,6 +194,65 @@ fn displays() {
 }
 
 #[test]
+fn lines() {
+    let paper = paper(1, 0, &[0x75], &[0x6c, 0x6d]);
+    let expected = b"entry 0 peak 1 end 0 0\nrefused 7 at 1 1 2 1\n";
+    let answer = Lines { number: 7, size: expected.len() };
+    // More room than is needed, just enough, too little.
+    for room in [LINES_BYTES, expected.len(), expected.len() - 1, 0] {
+        let mut log = [LENT; 12];
+        let mut text = [b'#'; LINES_BYTES];
+        assert_eq!(mark_lines(&paper, &mut log, &mut text[..room]), answer, "{room}");
+        let written = if room < expected.len() { 0 } else { expected.len() };
+        assert_eq!(text[..written], expected[..written], "{room}");
+        assert!(text[written..].iter().all(|&b| b == b'#'), "{room}");
+        assert_eq!(log, [0, 1, 0, 0, 0, 1, 1, 1, 0, LENT, LENT, LENT], "{room}");
+    }
+}
+
+#[test]
+fn lines_of_refused_papers() {
+    let mut text = [b'#'; LINES_BYTES];
+    let papers: [(&[u8], u32, &str); 3] = [
+        (&[0; 8_001], 21, "refused 21 at 0 0 8001 8000\n"),
+        (&[], 19, "refused 19 at 0 0 0 0\n"),
+        (&paper(65_535, 65_535, &[], &[]), 20, "refused 20 at 0 0 131073 244\n"),
+    ];
+    for (paper, number, expected) in papers {
+        let mut log = [LENT; 3];
+        assert_eq!(mark_lines(paper, &mut log, &mut text), Lines { number, size: expected.len() });
+        assert_eq!(&text[..expected.len()], expected.as_bytes());
+        assert_eq!(log, [LENT; 3]);
+    }
+}
+
+#[test]
+fn tallies() {
+    let mut tally = Tally::default();
+    assert_eq!(gain(&mut tally, 0, 6, 2), 0);
+    assert_eq!(tally, Tally { fragments: 1, accepted: 1, rows: 6, peak: 2 });
+    assert_eq!(gain(&mut tally, 7, 2, 0), 0);
+    assert_eq!(tally, Tally { fragments: 2, accepted: 1, rows: 8, peak: 2 });
+    let most = u32::MAX as usize;
+    assert_eq!(gain(&mut tally, 0, most - 8, 244), 0);
+    let full = Tally { fragments: 3, accepted: 2, rows: u32::MAX, peak: 244 };
+    assert_eq!(tally, full);
+    for rows in [1, most, most + 1, most + 2, 1 << 33, usize::MAX] {
+        assert_eq!(gain(&mut tally, 0, rows, 300), 22, "{rows}");
+        assert_eq!(tally, full, "{rows}");
+    }
+    for lent in [
+        Tally { fragments: u32::MAX, ..Tally::default() },
+        Tally { accepted: u32::MAX, ..Tally::default() },
+        Tally { rows: u32::MAX, ..Tally::default() },
+    ] {
+        let mut tally = lent;
+        assert_eq!(gain(&mut tally, 0, 1, 1), 22);
+        assert_eq!(tally, lent);
+    }
+}
+
+#[test]
 fn half_a_megabyte_of_stack_is_enough() {
     let mut fragment = [0x51, 0x63].repeat(24);
     fragment.extend([0x51, 0x75, 0x51, 0x79, 0x75, 0x7b]);
@@ -158,6 +264,8 @@ fn half_a_megabyte_of_stack_is_enough() {
         assert_eq!((verdict.number, verdict.peak), (0, 201));
         assert_eq!(verdict.end, Some(Heights { main: 200, alt: 0 }));
         assert_eq!(mark_paper(&paper, &mut log).number, 0);
+        let mut text = [0; LINES_BYTES];
+        assert_eq!(mark_lines(&paper, &mut log, &mut text).number, 0);
     };
     // 512 KiB for the callee, 32 for the thread itself
     std::thread::Builder::new().stack_size((512 + 32) * 1024).spawn(run).unwrap().join().unwrap();

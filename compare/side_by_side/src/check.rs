@@ -4,9 +4,9 @@ use std::fmt;
 use std::panic::{AssertUnwindSafe, catch_unwind};
 
 use reference::{Answer, PaperAnswer};
-use tools::definition;
+use tools::definition::{self, Item, Stacks};
 
-use crate::marker::Marker;
+use crate::marker::{Marker, UNWRITTEN};
 use crate::replays;
 
 /// A case. `lent` is the length of the lent log in numbers; `seed` gives the byte strings and the choices of the replays.
@@ -68,6 +68,8 @@ const NUMBERS: &str = "document 01: number, offset, figures, rows, peak, an end 
 const PAPER: &str = "document 01: number, entry, offset, figures, rows, peak";
 const LIMITS: &str = "document 01: number, offset, figures";
 const LOG: &str = "document 01: the log";
+const ITEMS: &str = "document 01: the items of the end";
+const AGAIN: &str = "the same without the items";
 const PART: &str = "document 01: start and length of the part";
 
 /// What a number of the log is until it is written. No height and no offset is this large, and dead rows have 65,535.
@@ -78,11 +80,13 @@ pub struct Checker<'m, M> {
     pub marker: &'m M,
     ours: Vec<u16>,
     theirs: Vec<u16>,
+    items: Vec<u64>,
+    wanted: Vec<u64>,
 }
 
 impl<'m, M: Marker> Checker<'m, M> {
     pub fn new(marker: &'m M) -> Self {
-        Self { marker, ours: Vec::new(), theirs: Vec::new() }
+        Self { marker, ours: Vec::new(), theirs: Vec::new(), items: Vec::new(), wanted: Vec::new() }
     }
 
     /// Both logs, as lent.
@@ -135,7 +139,39 @@ impl<'m, M: Marker> Checker<'m, M> {
             return Err(differ(NUMBERS, ours, theirs));
         }
         self.same_log()?;
+        self.same_items(main, alt, bytes, ours, verdict.end.as_ref())?;
         Ok(number)
+    }
+
+    /// With room for one item more than there can be, the items are those of document 01, main and then alt, each from bottom to
+    /// top, and the rest is as lent; numbers and log are those of before.
+    fn same_items(&mut self, main: u32, alt: u32, bytes: &[u8], ours: [u64; 9], end: Option<&Stacks>) -> Result<(), Box<Difference>> {
+        self.ours.fill(LENT);
+        for items in [&mut self.items, &mut self.wanted] {
+            items.clear();
+            items.resize(3 * 245, UNWRITTEN);
+        }
+        let again = self.marker.analyze_items(bytes, main, alt, &mut self.ours, &mut self.items);
+        if again != ours {
+            return Err(differ(AGAIN, again, ours));
+        }
+        self.same_log()?;
+        if let Some(end) = end {
+            for (item, places) in end.main.iter().chain(&end.alt).zip(self.wanted.chunks_exact_mut(3)) {
+                let (length, number) = match item {
+                    Item::Unknown => (255, 0),
+                    Item::Exact(l) => (l.len() as u64, l.iter().rev().fold(0, |n, byte| n << 8 | u64::from(*byte))),
+                };
+                places.copy_from_slice(&[length, number, 0]);
+            }
+        }
+        match self.items.iter().zip(&self.wanted).position(|(a, b)| a != b) {
+            None => Ok(()),
+            Some(at) => {
+                let item = |items: &[u64]| format!("item {}: {:?}", at / 3, &items[at / 3 * 3..at / 3 * 3 + 3]);
+                Err(Box::new(Difference { against: ITEMS, ours: item(&self.items), theirs: item(&self.wanted) }))
+            }
+        }
     }
 
     /// Demand 3 by replays; nothing if the fragment is not accepted.

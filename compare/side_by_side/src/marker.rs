@@ -5,6 +5,9 @@ pub trait Marker: Sync {
     /// Number, offset, two figures, rows, peak, whether there is an end, its main and alt heights.
     fn analyze(&self, fragment: &[u8], main: u32, alt: u32, log: &mut [u16]) -> [u64; 9];
 
+    /// The same, and three numbers to an item of the end: its length or 255, its bytes as one number, 0.
+    fn analyze_items(&self, fragment: &[u8], main: u32, alt: u32, log: &mut [u16], items: &mut [u64]) -> [u64; 9];
+
     /// Number, offset, two figures.
     fn check_limits(&self, bytecode: &[u8]) -> [u64; 4];
 
@@ -16,7 +19,7 @@ pub trait Marker: Sync {
 }
 
 /// What a place holds until something is written to it.
-const UNWRITTEN: u64 = 0xdead_beef_dead_beef;
+pub const UNWRITTEN: u64 = 0xdead_beef_dead_beef;
 
 /// What was written, if what was answered is also what was written in its place.
 fn answered<const N: usize>(answer: u64, place: usize, mut written: [u64; N]) -> [u64; N] {
@@ -35,6 +38,18 @@ mod proved {
             alt: u32,
             log: *mut u16,
             numbers: usize,
+            out: *mut u64,
+            places: usize,
+        ) -> u32;
+        pub fn listochur_analyze_items(
+            fragment: *const u8,
+            len: usize,
+            main: u32,
+            alt: u32,
+            log: *mut u16,
+            numbers: usize,
+            items: *mut u64,
+            items_len: usize,
             out: *mut u64,
             places: usize,
         ) -> u32;
@@ -69,6 +84,17 @@ impl Marker for Proved {
         let number = unsafe {
             let (log, numbers) = (log.as_mut_ptr(), log.len());
             proved::listochur_analyze(fragment.as_ptr(), fragment.len(), main, alt, log, numbers, out.as_mut_ptr(), out.len())
+        };
+        answered(u64::from(number), 0, out)
+    }
+
+    fn analyze_items(&self, fragment: &[u8], main: u32, alt: u32, log: &mut [u16], items: &mut [u64]) -> [u64; 9] {
+        let mut out = [UNWRITTEN; 9];
+        let number = unsafe {
+            let (bytes, len) = (fragment.as_ptr(), fragment.len());
+            let (log, numbers) = (log.as_mut_ptr(), log.len());
+            let (items, count) = (items.as_mut_ptr(), items.len());
+            proved::listochur_analyze_items(bytes, len, main, alt, log, numbers, items, count, out.as_mut_ptr(), out.len())
         };
         answered(u64::from(number), 0, out)
     }

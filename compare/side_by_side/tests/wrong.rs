@@ -19,6 +19,7 @@ const SMALL: Sizes = Sizes {
 };
 
 type OnFragment = fn(&[u8], u32, u32, &mut [u16], [u64; 9]) -> [u64; 9];
+type OnItems = fn(&mut [u64]);
 type OnLimits = fn([u64; 4]) -> [u64; 4];
 type OnPaper = fn(&mut [u16], [u64; 7]) -> [u64; 7];
 type OnDisplay = fn([u64; 2]) -> [u64; 2];
@@ -27,17 +28,24 @@ type OnDisplay = fn([u64; 2]) -> [u64; 2];
 #[derive(Clone, Copy)]
 struct Changed {
     fragment: OnFragment,
+    items: OnItems,
     limits: OnLimits,
     paper: OnPaper,
     display: OnDisplay,
 }
 
 const UNCHANGED: Changed =
-    Changed { fragment: |_, _, _, _, out| out, limits: |out| out, paper: |_, out| out, display: |out| out };
+    Changed { fragment: |_, _, _, _, out| out, items: |_| {}, limits: |out| out, paper: |_, out| out, display: |out| out };
 
 impl Marker for Changed {
     fn analyze(&self, fragment: &[u8], main: u32, alt: u32, log: &mut [u16]) -> [u64; 9] {
         let out = Proved.analyze(fragment, main, alt, log);
+        (self.fragment)(fragment, main, alt, log, out)
+    }
+
+    fn analyze_items(&self, fragment: &[u8], main: u32, alt: u32, log: &mut [u16], items: &mut [u64]) -> [u64; 9] {
+        let out = Proved.analyze_items(fragment, main, alt, log, items);
+        (self.items)(items);
         (self.fragment)(fragment, main, alt, log, out)
     }
 
@@ -96,6 +104,44 @@ fn peak_off_by_one() {
     let Case::Fragment { main, alt, bytes, .. } = &case else { panic!("{case}") };
     assert!(*main as usize + *alt as usize + bytes.len() <= 4, "{case}");
     assert!(against.starts_with("document 01"), "{against}");
+}
+
+/// The bytes of an exact item, where there are two or more of them.
+#[test]
+fn an_items_bytes_lost() {
+    let (case, against) = reported(
+        Changed {
+            items: |items| {
+                for item in items.chunks_exact_mut(3) {
+                    if (2..=8).contains(&item[0]) {
+                        item[1] &= 0xff;
+                    }
+                }
+            },
+            ..UNCHANGED
+        },
+        "fragments",
+    );
+    let Case::Fragment { main: 0, alt: 0, bytes, .. } = &case else { panic!("{case}") };
+    assert!(bytes.len() <= 9, "{case}");
+    assert!(against.ends_with("the items of the end"), "{against}");
+}
+
+/// A place behind the last item.
+#[test]
+fn a_place_too_many() {
+    let (_, against) = reported(
+        Changed {
+            items: |items| {
+                if let Some(last) = items.iter().rposition(|n| *n == 255) {
+                    items[last + 3] = 0;
+                }
+            },
+            ..UNCHANGED
+        },
+        "fragments",
+    );
+    assert!(against.ends_with("the items of the end"), "{against}");
 }
 
 #[test]

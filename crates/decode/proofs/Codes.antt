@@ -2,6 +2,7 @@
 use mathlib.Core.Bool.{Bool, true, false, _&&_}
 use mathlib.Core.Path.{_≡_, refl, sym, ap, subst, _∙_}
 use mathlib.Core.List.{[], _∷_}
+use mathlib.Core.Option.{none}
 use Prim.Native.Nat.{ℕ, zero, suc, _+_, _-_, _≤_, _<_}
 use native.Mathlib.Omega.{arith}
 use borrow.Author.Tests.{leb-true}
@@ -9,14 +10,14 @@ use lib.Dec.{leb, eqb}
 use lib.ListN.{length, take, drop, getD, length-drop}
 use lib.Seq.{drop-drop}
 use Rattle.definition.specs.Basics.{Bytes, pick}
-use Rattle.definition.specs.Decoding.{number, Front, whole, short, alone, pushes, sized, front, ends, malformed, then, onFront, decodeFrom, decode, instructions, malformedAt}
+use Rattle.definition.specs.Decoding.{number, Front, whole, short, alone, pushes, sized, front, Code, ends, malformed, then, onFront, decodeFrom, decode, instructions, malformedAt}
 use Rattle.definition.specs.Walk.{known}
 use Rattle.definition.specs.Replay.{AreBytes}
-use Rattle.decode.specs.View.{itemOf, valueOf, Held, decodedFront, decodedRest, decodedAt, codeAt, countedOf}
+use Rattle.decode.specs.View.{itemOf, valueOf, Held, decodedFront, decodedRest, decodedAt, codeAt, instruction, yieldOf, yielded, rest, countedOf, countBy, countIn}
 use Rattle.decode.specs.declared.Instruction.{Instruction}
+use Rattle.decode.specs.declared.Decoded.{Decoded}
 use Rattle.decode.specs.declared.Decoded.the-variants.{At, End, Malformed}
 use Rattle.decode.specs.declared.Counted.the-variants as C
-use Rattle.decode.specs.declared.Counted.the-variants.{Whole}
 use Rattle.decode.proofs.Bytes.{bytes-take, bytes-drop}
 use Rattle.decode.proofs.Values.{held-known, item-of-known}
 use Rattle.decode.proofs.Fronts.{at-end, at-alone}
@@ -143,10 +144,10 @@ module _ (s : Bytes) (p : ℕ) where
       by (b ∷ rest) e = absurd (none b (front b rest) (sym (decoded-rest (b ∷ rest) e) ∙ h))
 
   -- the instruction here is not whole
-  pub code-malformed : decodedAt s p ≡ Malformed → (codeAt s p ≡ malformed p) × (p < length s)
-  code-malformed h = by (drop p s) refl
+  pub code-malformed : {at : ℕ} → decodedAt s p ≡ Malformed at → (codeAt s p ≡ malformed p) × (p < length s)
+  code-malformed {at} h = by (drop p s) refl
     where
-      short-front : (b : ℕ) (rest : Bytes) (f : Front) → front b rest ≡ f → drop p s ≡ b ∷ rest → decodedFront f b p ≡ Malformed → codeAt s p ≡ malformed p
+      short-front : (b : ℕ) (rest : Bytes) (f : Front) → front b rest ≡ f → drop p s ≡ b ∷ rest → decodedFront f b p ≡ Malformed at → codeAt s p ≡ malformed p
       short-front b rest (whole after l) q e g = cc
       short-front b rest short q e g = code-rest (b ∷ rest) e ∙ ap (λ (f : Front). onFront f b p (λ k. decodeFrom k (p + 1) rest)) q
 
@@ -154,6 +155,37 @@ module _ (s : Bytes) (p : ℕ) where
       by [] e = absurd (let z : _≡_ {A = ℕ} 0 1 = cc (decoded-rest [] e) in omega arith)
       by (b ∷ rest) e =
           (short-front b rest (front b rest) refl e (sym (decoded-rest (b ∷ rest) e) ∙ h), omega (arith, length-drop p s, ap length e))
+
+  -- what stands here is what the code from here on yields first
+  pub code-yields : AreBytes s → yieldOf (decodedAt s p) ≡ yielded (codeAt s p)
+  code-yields k = by (drop p s) refl
+    where
+      by-front : {l : Bytes} {f : Front} → Within l f → (b : ℕ) (onward : ℕ → Code) → yieldOf (decodedFront f b p) ≡ yielded (onFront f b p onward)
+      by-front (is-whole {literal = l} w h) b onward = ap (instruction b p) (item-of-known l h)
+      by-front is-short b onward = refl
+
+      by : (l : Bytes) → drop p s ≡ l → yieldOf (decodedAt s p) ≡ yielded (codeAt s p)
+      by [] e = rw (decoded-rest [] e, code-rest [] e)
+      by (b ∷ l) e =
+          let w : AreBytes (b ∷ l) = subst AreBytes e (bytes-drop p s k) in
+          rw (decoded-rest (b ∷ l) e, code-rest (b ∷ l) e) (by-front (within-front b l (w .0) (w .1)) b (λ after. decodeFrom after (p + 1) l))
+
+  pub answer-yields : AreBytes s → (r : Decoded) → r ≡ decodedAt s p → (yieldOf r ≡ yielded (codeAt s p)) × (r ≡ decodedAt s p)
+  answer-yields k r e = (ap yieldOf e ∙ code-yields k, e)
+
+  -- an instruction stands here: behind it the rest of the code is left
+  pub code-behind : (i : Instruction) → decodedAt s p ≡ At i → codeAt s (i .next) ≡ rest (codeAt s p)
+  code-behind i h = by (drop p s) refl
+    where
+      by-front : (b : ℕ) (l : Bytes) (f : Front) → drop p s ≡ b ∷ l → decodedFront f b p ≡ At i → codeAt s (i .next) ≡ rest (onFront f b p (λ after. decodeFrom after (p + 1) l))
+      by-front b l (whole after literal) e g =
+          let n : i .next ≡ p + 1 + after = cc in
+          rw n (sym (code-next b l after e))
+      by-front b l short e g = cc
+
+      by : (l : Bytes) → drop p s ≡ l → codeAt s (i .next) ≡ rest (codeAt s p)
+      by [] e = absurd (let z : _≡_ {A = ℕ} 0 1 = cc (decoded-rest [] e) in omega arith)
+      by (b ∷ l) e = by-front b l (front b l) e (sym (decoded-rest (b ∷ l) e) ∙ h) ∙ ap rest (sym (code-rest (b ∷ l) e))
 
 -- an instruction takes a byte at least
 instructions-most : (k p : ℕ) (l : Bytes) → length (instructions (decodeFrom k p l)) ≤ length l
@@ -174,13 +206,13 @@ code-length s p = rw (← length-drop p s) (instructions-most 0 p (drop p s))
 pub record Counting (s : Bytes) (offset count : ℕ) : Type 0 where
   pub within : offset ≤ length s
   pub most : count ≤ offset
-  pub is : countedOf (malformedAt (decode s)) (length (instructions (decode s))) ≡ countedOf (malformedAt (codeAt s offset)) (count + length (instructions (codeAt s offset)))
+  pub is : countIn (decode s) ≡ countBy (malformedAt (codeAt s offset)) (count + length (instructions (codeAt s offset)))
 
 pub counting-none : (s : Bytes) → Counting s 0 0
 counting-none s = record {
   within = omega arith;
   most = omega arith;
-  is = rw code-start (ap (countedOf (malformedAt (codeAt s 0))) (omega arith));
+  is = rw code-start (ap (countBy (malformedAt (codeAt s 0))) (omega arith));
 }
 
 module _ (s : Bytes) (offset count : ℕ) (c : Counting s offset count) where
@@ -188,13 +220,13 @@ module _ (s : Bytes) (offset count : ℕ) (c : Counting s offset count) where
   counting-more i t = record {
     within = t .within;
     most = omega (arith, t .onward, c .most);
-    is = c .is ∙ rw (t .code) (ap (countedOf (malformedAt (codeAt s (i .next)))) (omega arith));
+    is = c .is ∙ rw (t .code) (ap (countBy (malformedAt (codeAt s (i .next)))) (omega arith));
   }
 
-  pub counting-ends : decodedAt s offset ≡ End → Whole count ≡ countedOf (malformedAt (decode s)) (length (instructions (decode s)))
-  counting-ends h = sym (c .is ∙ rw (code-ends s offset h .0) (ap Whole (omega arith)))
+  pub counting-ends : decodedAt s offset ≡ End → countedOf (C.Whole count) ≡ countIn (decode s)
+  counting-ends h = sym (c .is ∙ rw (code-ends s offset h .0) (ap (countBy none) (omega arith)))
 
-  pub counting-malformed : decodedAt s offset ≡ Malformed → C.Malformed offset ≡ countedOf (malformedAt (decode s)) (length (instructions (decode s)))
+  pub counting-malformed : {at : ℕ} → decodedAt s offset ≡ Malformed at → countedOf (C.Malformed offset) ≡ countIn (decode s)
   counting-malformed h = sym (c .is ∙ rw (code-malformed s offset h .0))
 
   -- an opcode that stands alone, and the end, by the tests of the code
@@ -203,5 +235,5 @@ module _ (s : Bytes) (offset count : ℕ) (c : Counting s offset count) where
       let i : Instruction = record { opcode = getD s offset 0; offset = offset; literal = valueOf (known (alone (getD s offset 0))); next = offset + 1 } in
       counting-more i (code-instruction s offset k i (sym (at-alone s (getD s offset 0) offset h refl (i .literal) g refl)))
 
-  pub counting-end : length s ≤ offset → Whole count ≡ countedOf (malformedAt (decode s)) (length (instructions (decode s)))
+  pub counting-end : length s ≤ offset → countedOf (C.Whole count) ≡ countIn (decode s)
   counting-end h = counting-ends (sym (at-end s offset h))

@@ -69,7 +69,7 @@ module _ (s : Bytes) (opcode offset start size : ℕ) (after : offset < start) (
   abbrev At-next : Value → Decoded
   At-next v = At (record { opcode = opcode; offset = offset; literal = v; next = start + size })
 
-  pub pushes-short : length s - start < size → Malformed ≡ Pushed
+  pub pushes-short : length s - start < size → Malformed offset ≡ Pushed
   pushes-short h = rw (length-drop, lt-leb size (length s - start) h)
 
   pushes-whole : size ≤ length s - start → At-next (valueOf (known (take size (drop start s)))) ≡ Pushed
@@ -93,7 +93,7 @@ module _ (s : Bytes) (opcode offset start size : ℕ) (after : offset < start) (
 
 -- a length of n bytes, then the data
 module _ (s : Bytes) (opcode offset n : ℕ) where
-  pub sized-short : length s - (offset + 1) < n → Malformed ≡ decodedFront (sized n (drop (offset + 1) s)) opcode offset
+  pub sized-short : length s - (offset + 1) < n → Malformed offset ≡ decodedFront (sized n (drop (offset + 1) s)) opcode offset
   sized-short h = rw (length-drop (offset + 1) s, lt-leb n (length s - (offset + 1)) h)
 
   pub sized-data : (size : ℕ) (r : Decoded) → n ≤ length s - (offset + 1) → size ≡ number (take n (drop (offset + 1) s))

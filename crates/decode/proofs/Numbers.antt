@@ -12,9 +12,11 @@ use lib.ListN.{length}
 use lib.Pow.{pow-pos, shr-shr, mod-pow-add, shl-exact}
 use Rattle.definition.specs.Basics.{Bytes, pick}
 use Rattle.definition.specs.Decoding.{number, plus, digits, signed, serialize, last, minimal, value, deserialize, indexRead}
-use Rattle.definition.specs.Walk.{known}
+use Rattle.definition.specs.Decoding as D
+use Rattle.definition.specs.Stacks.{readable}
+use Rattle.definition.specs.Walk.{known, marking}
 use Rattle.definition.specs.Replay.{AreBytes}
-use Rattle.decode.specs.View.{lowBytes, itemOf, valueOf, Held, indexed}
+use Rattle.decode.specs.View.{lowBytes, itemOf, valueOf, Held, readOf, indexed}
 use Rattle.decode.specs.declared.Value.the-variants.{Unknown, Exact}
 use Rattle.decode.specs.declared.Index.{Index}
 use Rattle.decode.specs.declared.Index.the-variants as I
@@ -247,3 +249,13 @@ pub read-index : (len w n b : ℕ) → 1 ≤ len → len ≤ 8 → w ≡ len →
     → I.At (n % ((1 * 2 ^ (w * 8 - 1)) % 2 ^ 64)) ≡ Read len n
 read-index len w n b pos h q m e g =
     rw (deserialize-good len n h m, lt-ltb (last (lowBytes len n)) 0x80 (omega arith), number-below-sign len w n pos h q (omega arith))
+
+-- the answer for an index, and what follows it
+pub answer-reads : (x : D.Index) (i : Index) → i ≡ indexed x → (readOf i ≡ readable marking x) × (i ≡ indexed x)
+answer-reads x i e = (ap readOf e ∙ by x, e)
+  where
+    by : (x : D.Index) → readOf (indexed x) ≡ readable marking x
+    by D.notKnown = refl
+    by D.noNumber = refl
+    by D.negative = refl
+    by (D.index n) = refl

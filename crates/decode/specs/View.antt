@@ -4,8 +4,10 @@ use mathlib.Core.Option.{Option, none, some}
 use Prim.Native.Nat.{ℕ, zero, suc, _+_, _*_, _/_, _%_, _^_, _≤_, _<_}
 use lib.ListN.{length, drop}
 use Rattle.definition.specs.Basics.{Bytes}
-use Rattle.definition.specs.Decoding.{number, Front, whole, short, front, Code, decodeFrom}
+use Rattle.definition.specs.Decoding.{number, Front, whole, short, front, Code, ends, malformed, then, decodeFrom, instructions, malformedAt}
 use Rattle.definition.specs.Decoding as D
+use Rattle.definition.specs.Refusals.{malformedFragment, badIndex, Answer, accepted, refusedAt}
+use Rattle.definition.specs.Stacks as S
 use Rattle.definition.specs.Walk.{Item, unknown, exact, known}
 use Rattle.decode.specs.declared.Value.{Value}
 use Rattle.decode.specs.declared.Value.the-variants.{Unknown, Exact}
@@ -41,7 +43,7 @@ Held (Exact len n) = (len ≤ 8) × (n < 256 ^ len)
 abbrev pub decodedFront : Front → ℕ → ℕ → Decoded
 decodedFront (whole after literal) opcode offset =
     At (record { opcode = opcode; offset = offset; literal = valueOf (known literal); next = offset + 1 + after })
-decodedFront short opcode offset = Malformed
+decodedFront short opcode offset = Malformed offset
 
 abbrev pub decodedRest : Bytes → ℕ → Decoded
 decodedRest [] offset = End
@@ -54,12 +56,60 @@ decodedAt fragment offset = decodedRest (drop offset fragment) offset
 unfoldable pub codeAt : Bytes → ℕ → Code
 codeAt s p = decodeFrom 0 p (drop p s)
 
--- how many instructions there are, or where the fragment is malformed
-abbrev pub countedOf : Option ℕ → ℕ → Counted
-countedOf none count = C.Whole count
-countedOf (some offset) count = C.Malformed offset
+-- "yields its instructions in order, then the end or 3": one thing yielded
+pub data Yield : Type 0 where
+  instruction : ℕ → ℕ → Item → Yield
+  theEnd : Yield
+  refused : Answer → Yield
 
--- an index as the definition reads it
+-- an answer of `decode_at`: the instruction, the end, or 3 at its offset
+abbrev pub yieldOf : Decoded → Yield
+yieldOf (At i) = instruction (i .opcode) (i .offset) (itemOf (i .literal))
+yieldOf End = theEnd
+yieldOf (Malformed offset) = refused (refusedAt offset malformedFragment)
+
+-- "To the marker an instruction is its opcode, its offset and a literal, unknown or exact"
+abbrev pub toMarker : D.Instruction → Yield
+toMarker i = instruction (i .opcode) (i .offset) (known (i .literal))
+
+-- what code yields first
+abbrev pub yielded : Code → Yield
+yielded ends = theEnd
+yielded (malformed offset) = refused (refusedAt offset malformedFragment)
+yielded (then i code) = toMarker i
+
+-- the code left behind that; the end, and 3, stay
+abbrev pub rest : Code → Code
+rest ends = ends
+rest (malformed offset) = malformed offset
+rest (then i code) = code
+
+-- how many instructions a fragment has, with 0; or 3 at its offset: "Missing length or data bytes make the fragment malformed"
+pub record Count : Type 0 where
+  pub answer : Answer
+  pub count : ℕ
+
+-- an answer of `count_instructions`
+abbrev pub countedOf : Counted → Count
+countedOf (C.Whole count) = record { answer = accepted; count = count }
+countedOf (C.Malformed offset) = record { answer = refusedAt offset malformedFragment; count = 0 }
+
+-- what is counted in code, by where it is malformed, if it is, and the number of its instructions
+abbrev pub countBy : Option ℕ → ℕ → Count
+countBy none count = record { answer = accepted; count = count }
+countBy (some offset) count = record { answer = refusedAt offset malformedFragment; count = 0 }
+
+abbrev pub countIn : Code → Count
+countIn code = countBy (malformedAt code) (length (instructions code))
+
+-- an answer of `read_index`, "an index (readable, not negative)": what follows with its value, or 9
+abbrev pub readOf : Index → (ℕ → S.Outcome Item) → S.Outcome Item
+readOf I.Unknown next = S.refused badIndex
+readOf I.NoNumber next = S.refused badIndex
+readOf I.Negative next = S.refused badIndex
+readOf (I.At n) next = next n
+
+-- the answer for an index of the definition: where it is none, which of the three
 abbrev pub indexed : D.Index → Index
 indexed D.notKnown = I.Unknown
 indexed D.noNumber = I.NoNumber

@@ -2,9 +2,12 @@
 ghost use mathlib.Core.Path.{_≡_};
 ghost use Prim.Native.Nat.{_+_, _-_, _≤_, _<_};
 ghost use lib.ListN.{length, take, drop, getD};
-ghost use Rattle.definition.specs.Decoding.{number, alone, pushes, sized, decode, instructions, malformedAt, plus, serialize, last, minimal, deserialize, indexRead, indexOf};
-ghost use Rattle.definition.specs.Walk.{known, bytesKnown};
-ghost use Rattle.decode.specs.View.{lowBytes, itemOf, valueOf, decodedFront, decodedAt, countedOf, indexed};
+// `Decoding.f` is the f of document 01, section 1, in crates/definition/specs/Decoding.antt.
+ghost use Rattle.definition.specs.Decoding as Decoding;
+ghost use Rattle.definition.specs.Decoding.{decode, plus, serialize, last, deserialize, indexRead, indexOf};
+ghost use Rattle.definition.specs.Stacks.{readable};
+ghost use Rattle.definition.specs.Walk.{known, bytesKnown, marking};
+ghost use Rattle.decode.specs.View.{lowBytes, itemOf, valueOf, decodedFront, decodedAt, codeAt, yieldOf, yielded, countedOf, countIn, readOf, indexed};
 
 // What is known of an item: nothing, or its length and its bytes as one number, the first byte the lowest.
 pub enum Value {
@@ -12,19 +15,20 @@ pub enum Value {
     Exact { len: u8, bytes: u64 },
 }
 
-// One instruction: its opcode, its offset, its literal as the marker knows it, and where the next one starts.
+// One instruction: its opcode, its offset, its literal as the marker knows it, and where the next one starts. In this order of
+// the fields the compiled decoder is as short as it is where `Malformed` carries no offset.
 pub struct Instruction {
-    pub opcode: u8,
     pub offset: usize,
     pub literal: Value,
     pub next: usize,
+    pub opcode: u8,
 }
 
-// What stands at an offset: an instruction, the end, or one whose length or data bytes are missing.
+// What stands at an offset: an instruction, the end, or, with its offset, one whose length or data bytes are missing.
 pub enum Decoded {
     At(Instruction),
     End,
-    Malformed,
+    Malformed(usize),
 }
 
 // A value read as an index.
@@ -50,7 +54,7 @@ fn wide(x: u8) -> u64
 // The n bytes from start on as one number, the first the lowest.
 fn number(fragment: &[u8], start: usize, n: usize) -> u64
     requires { ⌜ (n ≤ 8) × (start + n ≤ length (now fragment)) ⌝ }
-    ensures { λ r. ⌜ r ≡ number (take n (drop start (now (fragment .entry)))) ⌝ }
+    ensures { λ r. ⌜ r ≡ Decoding.number (take n (drop start (now (fragment .entry)))) ⌝ }
 {
     let mut v: u64 = 0;
     let mut k = n;
@@ -68,13 +72,13 @@ fn pushes(fragment: &[u8], opcode: u8, offset: usize, start: usize, size: usize)
         ⌜
         r
         ≡ decodedFront
-        (pushes (start - (offset + 1)) size (drop start (now (fragment .entry))))
+        (Decoding.pushes (start - (offset + 1)) size (drop start (now (fragment .entry))))
         opcode
         offset
         ⌝ }
 {
     if fragment.len() - start < size {
-        return Decoded::Malformed;
+        return Decoded::Malformed(offset);
     }
     let next = start + size;
     if size > 8 {
@@ -101,11 +105,11 @@ fn pushes(fragment: &[u8], opcode: u8, offset: usize, start: usize, size: usize)
 // The instruction with this opcode, a length of n bytes behind it, and data of that length.
 fn sized(fragment: &[u8], opcode: u8, offset: usize, n: usize) -> Decoded
     requires { ⌜ (n ≤ 4) × (offset < length (now fragment)) ⌝ }
-    ensures { λ r. ⌜ r ≡ decodedFront (sized n (drop (offset + 1) (now (fragment .entry)))) opcode offset ⌝ }
+    ensures { λ r. ⌜ r ≡ decodedFront (Decoding.sized n (drop (offset + 1) (now (fragment .entry)))) opcode offset ⌝ }
 {
     let start = offset + 1;
     if fragment.len() - start < n {
-        return Decoded::Malformed;
+        return Decoded::Malformed(offset);
     }
     let size = number(fragment, start, n) as usize;
     pushes(fragment, opcode, offset, start + n, size)
@@ -113,7 +117,7 @@ fn sized(fragment: &[u8], opcode: u8, offset: usize, n: usize) -> Decoded
 
 // What an opcode that stands alone pushes.
 fn alone(opcode: u8) -> Value
-    ensures { λ r. ⌜ r ≡ valueOf (known (alone opcode)) ⌝ }
+    ensures { λ r. ⌜ r ≡ valueOf (known (Decoding.alone opcode)) ⌝ }
 {
     if opcode == 0x4f {
         return Value::Exact {
@@ -153,7 +157,8 @@ fn pushing(fragment: &[u8], opcode: u8, offset: usize) -> Decoded
 
 // What stands at an offset. An opcode that stands alone is answered here, so that the function is short where it is called.
 pub fn decode_at(fragment: &[u8], offset: usize) -> Decoded
-    ensures { λ r. ⌜ r ≡ decodedAt (now (fragment .entry)) offset ⌝ }
+    ensures yields { λ r. ⌜ yieldOf r ≡ yielded (codeAt (now (fragment .entry)) offset) ⌝ }
+    ensures same { λ r. ⌜ r ≡ decodedAt (now (fragment .entry)) offset ⌝ }
 {
     if fragment.len() <= offset {
         return Decoded::End;
@@ -173,11 +178,7 @@ pub fn decode_at(fragment: &[u8], offset: usize) -> Decoded
 
 // How many instructions there are, or where the fragment is malformed.
 pub fn count_instructions(fragment: &[u8]) -> Counted
-    ensures { λ r.
-        ⌜
-        r
-        ≡ countedOf (malformedAt (decode (now (fragment .entry)))) (length (instructions (decode (now (fragment .entry)))))
-        ⌝ }
+    ensures { λ r. ⌜ countedOf r ≡ countIn (decode (now (fragment .entry))) ⌝ }
 {
     let mut offset: usize = 0;
     let mut count: usize = 0;
@@ -200,7 +201,7 @@ pub fn count_instructions(fragment: &[u8]) -> Counted
             Decoded::End => {
                 return Counted::Whole(count);
             }
-            Decoded::Malformed => {
+            Decoded::Malformed(_) => {
                 return Counted::Malformed(offset);
             }
         }
@@ -218,7 +219,7 @@ fn last_byte(len: u8, bytes: u64) -> u64
 // Whether the last byte is neither 00 nor 80, or the byte before it has its top bit set.
 fn minimal(len: u8, bytes: u64) -> bool
     requires { ⌜ (1 ≤ len) × (len ≤ 8) ⌝ }
-    ensures { λ r. ⌜ r ≡ minimal (lowBytes len bytes) ⌝ }
+    ensures { λ r. ⌜ r ≡ Decoding.minimal (lowBytes len bytes) ⌝ }
 {
     if last_byte(len, bytes) % 128 != 0 {
         return true;
@@ -254,7 +255,8 @@ fn number_index(len: u8, bytes: u64) -> Index
 
 // A value read as an index.
 pub fn read_index(v: Value) -> Index
-    ensures { λ r. ⌜ r ≡ indexed (indexOf (bytesKnown (itemOf v))) ⌝ }
+    ensures reads { λ r. ⌜ readOf r ≡ readable marking (indexOf (bytesKnown (itemOf v))) ⌝ }
+    ensures same { λ r. ⌜ r ≡ indexed (indexOf (bytesKnown (itemOf v))) ⌝ }
 {
     match v {
         Value::Unknown => Index::Unknown,

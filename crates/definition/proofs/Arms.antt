@@ -8,10 +8,10 @@ use native.Mathlib.Omega.{arith}
 use borrow.Author.Tests.{leb-true, leb-false}
 use lib.Dec.{leb}
 use lib.ListN.{length, getD, set, length-set}
-use lib.Seq.{getD-set-same, getD-set-other}
+use lib.Seq.{getD-set-same, getD-set-other, length-sets}
 use Rattle.definition.specs.Decoding.{Instruction}
 use Rattle.definition.specs.Stacks.{Rules, total}
-use Rattle.definition.specs.Walk.{Arm, dead, live, Frame, Move, moves, refuses, move, mainHeight, altHeight, logRow, State, met, totalOf, onward, Walked, passed, follow, atEnd, walk}
+use Rattle.definition.specs.Walk.{Arm, dead, live, Frame, Move, moves, refuses, effect, heightsOf, logRow, State, met, totalOf, onward, WalkEnd, passed, follow, atEnd, walk}
 
 -- a move that must lead on, and to what
 abbrev pub Goes : Move → (Arm → List Frame → Type 0) → Type 0
@@ -21,7 +21,7 @@ Goes (refuses r) P = ⊥
 -- every instruction moves the marker on, and no conditional is left open
 abbrev pub Accepts : Rules → List Instruction → Arm → List Frame → Type 0
 Accepts R [] c fs = fs ≡ []
-Accepts R (i ∷ is) c fs = Goes (move R i (R .classOf (i .opcode)) c fs) (λ c fs. Accepts R is c fs)
+Accepts R (i ∷ is) c fs = Goes (effect R i (R .classFor (i .opcode)) c fs) (λ c fs. Accepts R is c fs)
 
 abbrev pub after : Move → (Arm → List Frame → Arm) → Arm
 after (moves c fs) next = next c fs
@@ -31,11 +31,33 @@ after (refuses r) next = dead
 abbrev pub armAt : Rules → List Instruction → Arm → List Frame → ℕ → Arm
 armAt R is c fs zero = c
 armAt R [] c fs (suc j) = dead
-armAt R (i ∷ is) c fs (suc j) = after (move R i (R .classOf (i .opcode)) c fs) (λ c fs. armAt R is c fs j)
+armAt R (i ∷ is) c fs (suc j) = after (effect R i (R .classFor (i .opcode)) c fs) (λ c fs. armAt R is c fs j)
 
 abbrev pub Alive : Arm → Type 0
 Alive dead = ⊥
 Alive (live s) = Unit {0}
+
+-- the two heights that the log says of an arm
+abbrev pub mainHeight : Arm → ℕ
+mainHeight dead = 65535
+mainHeight (live s) = length (s .main)
+
+abbrev pub altHeight : Arm → ℕ
+altHeight dead = 65535
+altHeight (live s) = length (s .alt)
+
+pub both-heights : (c : Arm) → heightsOf c ≡ (mainHeight c ∷ altHeight c ∷ [])
+both-heights dead = refl
+both-heights (live s) = refl
+
+-- a row is three stores
+pub row-stores : (k offset : ℕ) (c : Arm) (log : List ℕ)
+    → logRow k offset c log ≡ set (set (set log (3 * k) offset) (3 * k + 1) (mainHeight c)) (3 * k + 2) (altHeight c)
+unfolding logRow
+row-stores k offset c log =
+    let e : 3 * k + 1 ≡ suc (3 * k) = omega arith in
+    let f : 3 * k + 2 ≡ suc (suc (3 * k)) = omega arith in
+    rw (e, f, both-heights c)
 
 -- row k of the log is the arm's
 abbrev pub Row : List ℕ → ℕ → Arm → Type 0
@@ -63,31 +85,29 @@ module _ (k offset : ℕ) (c : Arm) (log : List ℕ) where
 
   row-length : length (logRow k offset c log) ≡ length log
   unfolding logRow
-  row-length = simp length-set
+  row-length = length-sets log (3 * k) (offset ∷ heightsOf c)
 
   row-before : (j : ℕ) → j < 3 * k → getD (logRow k offset c log) j 0 ≡ getD log j 0
-  unfolding logRow
-  row-before j h = getD-set-other two (3 * k + 2) j (altHeight c) 0 (omega arith) ∙ getD-set-other one (3 * k + 1) j (mainHeight c) 0 (omega arith)
-      ∙ getD-set-other log (3 * k) j offset 0 (omega arith)
+  row-before j h = rw row-stores (getD-set-other two (3 * k + 2) j (altHeight c) 0 (omega arith) ∙ getD-set-other one (3 * k + 1) j (mainHeight c) 0 (omega arith)
+      ∙ getD-set-other log (3 * k) j offset 0 (omega arith))
 
   row-written : 3 * k + 2 < length log → Row (logRow k offset c log) k c
-  unfolding logRow
-  row-written h = (
+  row-written h = rw row-stores (
     getD-set-other two (3 * k + 2) (3 * k + 1) (altHeight c) 0 (omega arith) ∙ getD-set-same one (3 * k + 1) (mainHeight c) 0 (simp length-set (omega arith)),
     getD-set-same two (3 * k + 2) (altHeight c) 0 (simp length-set h),
   )
 
 module _ (R : Rules) (t : State) where
-  through : {P : Type 0} (mv : Move) (s : State) (next : State → Walked) → follow mv s next ≡ passed t
+  through : {P : Type 0} (mv : Move) (s : State) (next : State → WalkEnd) → follow mv s next ≡ passed t
       → ((c : Arm) (fs : List Frame) → mv ≡ moves c fs → next (onward c fs s) ≡ passed t → P) → P
   through (moves c fs) s next h f = f c fs refl h
   through (refuses r) s next h f = let z : _≡_ {A = ℕ} 0 1 = cc in absurd (omega arith)
 
   -- an accepted walk moves on at each instruction, and the rest of it is accepted
   goes-on : {P : Type 0} (i : Instruction) (is : List Instruction) (s : State) → walk R (i ∷ is) s ≡ passed t
-      → ((c : Arm) (fs : List Frame) → move R i (R .classOf (i .opcode)) (s .arm) (s .frames) ≡ moves c fs → walk R is (onward c fs (met i s)) ≡ passed t → P) → P
+      → ((c : Arm) (fs : List Frame) → effect R i (R .classFor (i .opcode)) (s .arm) (s .frames) ≡ moves c fs → walk R is (onward c fs (met i s)) ≡ passed t → P) → P
   unfolding walk
-  goes-on i is s h f = through (move R i (R .classOf (i .opcode)) (s .arm) (s .frames)) (met i s) (λ u. walk R is u) h f
+  goes-on i is s h f = through (effect R i (R .classFor (i .opcode)) (s .arm) (s .frames)) (met i s) (λ u. walk R is u) h f
 
   -- and past the last one no conditional is open
   at-end : (s : State) → walk R [] s ≡ passed t → (s .frames ≡ []) × (s ≡ t)

@@ -10,14 +10,14 @@ use lib.Dec.{ltb}
 use lib.ListN.{length, getD, drop, replicate, length-replicate}
 use Rattle.definition.specs.Basics.{Bytes, pick}
 use Rattle.definition.specs.Decoding.{Instruction}
-use Rattle.definition.specs.Classes.{Class, IF, NOTIF, ELSE, ENDIF, RETURN, ordinary, Ordinary}
+use Rattle.definition.specs.Classes.{Class, IF, NOTIF, ELSE, ENDIF, RETURN, ordinary, plain}
 use Rattle.definition.specs.Refusals.{nesting, maxOpen}
-use Rattle.definition.specs.Stacks.{Rules, Stacks, Outcome, done, refused, dropItems, step}
-use Rattle.definition.specs.Walk.{Item, unknown, exact, marking, Arm, dead, live, First, notEnded, ended, Frame, Move, moves, refuses, moved, join, opened, onIf, conditional, onElse, onEndif, move}
-use Rattle.definition.specs.Replay.{Replay, replaying, resultsAfter, Mode, running, toElse, toEndif, Carried, goesOn, halts, faults, carriedOut, chosen, branches, carry, pastElse, pastEndif, Trace, reaches, traced, replay, trace, ShowsAll, ShowsStacks, AreStrings, ReplayOf}
+use Rattle.definition.specs.Stacks.{Rules, Stacks, Outcome, done, refused, dropItems, step, plainStep}
+use Rattle.definition.specs.Walk.{Item, unknown, exact, marking, Arm, dead, live, FirstArm, notEnded, ended, Frame, Move, moves, refuses, onOutcome, join, onIf, conditional, onElse, onEndif, effect}
+use Rattle.definition.specs.Replay.{Replay, replaying, Mode, running, jumping, Carried, goesOn, halts, fails, carriedOut, chosen, branches, carry, past, Trace, visit, onCarried, replayFrom, wholeReplay, ShowsAll, ShowsStacks, AreStrings, ReplayOf}
 use Rattle.definition.proofs.Related.{pairedStacks}
 use Rattle.definition.proofs.Arms.{Goes, Accepts, after, armAt, Alive}
-use Rattle.definition.proofs.Sound.{Leads, LiveAs, Joins, join-leads, Waits, Inv, Next, act, act-next}
+use Rattle.definition.proofs.Sound.{Leads, opened, LiveAs, Joins, join-leads, Waits, Inv, Next, act, act-next}
 
 -- Choices alone steer a replay that does not fault
 
@@ -29,15 +29,15 @@ pub data Turn : Type 0 where
 abbrev carried : Class → List Bool → Turn
 carried IF choices = turn (chosen (getD choices 0 true)) (drop 1 choices)
 carried NOTIF choices = turn (chosen (getD choices 0 true)) (drop 1 choices)
-carried ELSE choices = turn (toEndif 0) choices
+carried ELSE choices = turn (jumping false 0) choices
 carried ENDIF choices = turn running choices
 carried RETURN choices = over
 carried (ordinary o) choices = turn running choices
+carried (plain pops pushes) choices = turn running choices
 
 abbrev steer : Class → Mode → List Bool → Turn
 steer k running choices = carried k choices
-steer k (toElse n) choices = turn (pastElse k n) choices
-steer k (toEndif n) choices = turn (pastEndif k n) choices
+steer k (jumping toElse n) choices = turn (past k toElse n) choices
 
 abbrev Then : Turn → (Mode → List Bool → Type 0) → Type 0
 Then (turn m choices) P = P m choices
@@ -47,23 +47,23 @@ Then over P = ⊥
 abbrev Route : Rules → List Instruction → Mode → List Bool → ℕ → Type 0
 Route R is m choices zero = m ≡ running
 Route R [] m choices (suc j) = ⊥
-Route R (i ∷ is) m choices (suc j) = Then (steer (R .classOf (i .opcode)) m choices) (λ m choices. Route R is m choices j)
+Route R (i ∷ is) m choices (suc j) = Then (steer (R .classFor (i .opcode)) m choices) (λ m choices. Route R is m choices j)
 
 -- A live arm has a route
 
 -- a replay could be in this mode
-abbrev Opening : First → Arm → Type 0
+abbrev Opening : FirstArm → Arm → Type 0
 Opening notEnded s = Alive s
 Opening (ended a) s = ⊥
 
-abbrev Closing : First → Type 0
+abbrev Closing : FirstArm → Type 0
 Closing notEnded = ⊥
 Closing (ended a) = Alive a
 
 abbrev May : Mode → Arm → List Frame → Type 0
 May running c fs = Alive c
-May (toElse n) c fs = Waits n (λ f. Opening (f .first) (f .start)) fs
-May (toEndif n) c fs = Waits n (λ f. Closing (f .first)) fs
+May (jumping true n) c fs = Waits n (λ f. Opening (f .first) (f .start)) fs
+May (jumping false n) c fs = Waits n (λ f. Closing (f .first)) fs
 
 -- some mode before the instruction leads to this one, with no fewer choices
 abbrev Back : Class → Arm → List Frame → Mode → List Bool → Type 0
@@ -72,34 +72,37 @@ Back k c fs m′ choices′ = (m : Mode) × (choices : List Bool) × (May m c fs
 abbrev BackFrom : Class → Arm → List Frame → Arm → List Frame → Type 0
 BackFrom k c fs c′ fs′ = (m : Mode) (choices : List Bool) → May m c′ fs′ → Back k c fs m choices
 
--- an ordinary opcode changes neither the mode nor the frames
-moved-back : (o : Ordinary) (s : Stacks Item) (fs : List Frame) (p : Outcome Item) → Leads (moved p fs) (BackFrom (ordinary o) (live s) fs)
-moved-back o s fs (refused x) = tt
-moved-back o s fs (done t) = back
+-- a class that changes neither the mode nor the choices
+abbrev Passing : Class → Type 0
+Passing k = ((choices : List Bool) → carried k choices ≡ turn running choices) × ((toElse : Bool) (n : ℕ) → past k toElse n ≡ jumping toElse n)
+
+moved-back : (k : Class) → Passing k → (s : Stacks Item) (fs : List Frame) (p : Outcome Item) → Leads (onOutcome p fs) (BackFrom k (live s) fs)
+moved-back k q s fs (refused x) = tt
+moved-back k q s fs (done t) = back
   where
-    back : BackFrom (ordinary o) (live s) fs (live t) fs
-    back running choices h = (running, choices, tt, refl, omega arith)
-    back (toElse n) choices h = (toElse n, choices, h, refl, omega arith)
-    back (toEndif n) choices h = (toEndif n, choices, h, refl, omega arith)
+    back : BackFrom k (live s) fs (live t) fs
+    back running choices h = (running, choices, tt, q .0 choices, omega arith)
+    back (jumping true n) choices h = (jumping true n, choices, h, ap (λ m. turn m choices) (q .1 true n), omega arith)
+    back (jumping false n) choices h = (jumping false n, choices, h, ap (λ m. turn m choices) (q .1 false n), omega arith)
 
 -- a dead arm is left by jumps alone
-dead-back : (k : Class) (c : Arm) (fs : List Frame) → ((n : ℕ) → pastElse k n ≡ toElse n) → ((n : ℕ) → pastEndif k n ≡ toEndif n) → BackFrom k c fs dead fs
-dead-back k c fs e f running choices h = absurd h
-dead-back k c fs e f (toElse n) choices h = (toElse n, choices, h, ap (λ m. turn m choices) (e n), omega arith)
-dead-back k c fs e f (toEndif n) choices h = (toEndif n, choices, h, ap (λ m. turn m choices) (f n), omega arith)
+dead-back : (k : Class) (c : Arm) (fs : List Frame) → ((toElse : Bool) (n : ℕ) → past k toElse n ≡ jumping toElse n) → BackFrom k c fs dead fs
+dead-back k c fs e running choices h = absurd h
+dead-back k c fs e (jumping true n) choices h = (jumping true n, choices, h, ap (λ m. turn m choices) (e true n), omega arith)
+dead-back k c fs e (jumping false n) choices h = (jumping false n, choices, h, ap (λ m. turn m choices) (e false n), omega arith)
 
 -- IF or NOTIF
 abbrev Opener : Class → Type 0
 Opener k = ((choices : List Bool) → carried k choices ≡ turn (chosen (getD choices 0 true)) (drop 1 choices))
-    × ((n : ℕ) → pastElse k n ≡ toElse (suc n)) × ((n : ℕ) → pastEndif k n ≡ toEndif (suc n))
+    × ((toElse : Bool) (n : ℕ) → past k toElse n ≡ jumping toElse (suc n))
 
 -- the next choice, true or false, leads to the first arm or to the second
 open-back : (k : Class) → Opener k → (c c′ : Arm) (fs : List Frame) → (Alive c′ → Alive c) → BackFrom k c fs c′ (record { start = c′; first = notEnded } ∷ fs)
 open-back k q c c′ fs a running choices h = (running, true ∷ choices, a h, q .0 (true ∷ choices), omega arith)
-open-back k q c c′ fs a (toElse zero) choices h = (running, false ∷ choices, a h, q .0 (false ∷ choices), omega arith)
-open-back k q c c′ fs a (toElse (suc n)) choices h = (toElse n, choices, h, ap (λ m. turn m choices) (q .1 n), omega arith)
-open-back k q c c′ fs a (toEndif zero) choices h = absurd h
-open-back k q c c′ fs a (toEndif (suc n)) choices h = (toEndif n, choices, h, ap (λ m. turn m choices) (q .2 n), omega arith)
+open-back k q c c′ fs a (jumping true zero) choices h = (running, false ∷ choices, a h, q .0 (false ∷ choices), omega arith)
+open-back k q c c′ fs a (jumping true (suc n)) choices h = (jumping true n, choices, h, ap (λ m. turn m choices) (q .1 true n), omega arith)
+open-back k q c c′ fs a (jumping false zero) choices h = absurd h
+open-back k q c c′ fs a (jumping false (suc n)) choices h = (jumping false n, choices, h, ap (λ m. turn m choices) (q .1 false n), omega arith)
 
 if-back : (k : Class) → Opener k → (c : Arm) (fs : List Frame) → Leads (conditional c fs) (BackFrom k c fs)
 if-back k q c fs = nested (ltb (length fs) maxOpen)
@@ -117,16 +120,16 @@ if-back k q c fs = nested (ltb (length fs) maxOpen)
     nested false = tt
 
 -- the second arm is reached by a jump; what waits past the ENDIF ran to the ELSE
-else-back : (c : Arm) (f : Frame) (fs : List Frame) (t : First) → f .first ≡ t → Leads (onElse c (f .start) t fs) (BackFrom ELSE c (f ∷ fs))
+else-back : (c : Arm) (f : Frame) (fs : List Frame) (t : FirstArm) → f .first ≡ t → Leads (onElse c (f .start) t fs) (BackFrom ELSE c (f ∷ fs))
 else-back c f fs (ended a) e = tt
 else-back c f fs notEnded e = back
   where
     back : BackFrom ELSE c (f ∷ fs) (f .start) (record { start = f .start; first = ended c } ∷ fs)
-    back running choices h = (toElse 0, choices, rw e h, refl, omega arith)
-    back (toElse zero) choices h = absurd h
-    back (toElse (suc n)) choices h = (toElse (suc n), choices, h, refl, omega arith)
-    back (toEndif zero) choices h = (running, choices, h, refl, omega arith)
-    back (toEndif (suc n)) choices h = (toEndif (suc n), choices, h, refl, omega arith)
+    back running choices h = (jumping true 0, choices, rw e h, refl, omega arith)
+    back (jumping true zero) choices h = absurd h
+    back (jumping true (suc n)) choices h = (jumping true (suc n), choices, h, refl, omega arith)
+    back (jumping false zero) choices h = (running, choices, h, refl, omega arith)
+    back (jumping false (suc n)) choices h = (jumping false (suc n), choices, h, refl, omega arith)
 
 -- the joined arm is reached from a side that is live
 joins-back : (c : Arm) (f : Frame) (fs : List Frame) (a b : Arm) → ((Alive a) ⊎ (Alive b) → (choices : List Bool) → Back ENDIF c (f ∷ fs) running choices)
@@ -135,30 +138,32 @@ joins-back c f fs a b g = leads (join a b fs) (join-leads a b fs)
   where
     back : (c′ : Arm) (gs : List Frame) → Joins a b fs c′ gs → BackFrom ENDIF c (f ∷ fs) c′ gs
     back c′ gs j running choices h = g (j .1 h) choices
-    back c′ gs j (toElse n) choices h = (toElse (suc n), choices, rw (j .2) at h, refl, omega arith)
-    back c′ gs j (toEndif n) choices h = (toEndif (suc n), choices, rw (j .2) at h, refl, omega arith)
+    back c′ gs j (jumping true n) choices h = (jumping true (suc n), choices, rw (j .2) at h, refl, omega arith)
+    back c′ gs j (jumping false n) choices h = (jumping false (suc n), choices, rw (j .2) at h, refl, omega arith)
 
     leads : (mv : Move) → Leads mv (Joins a b fs) → Leads mv (BackFrom ENDIF c (f ∷ fs))
     leads (moves c′ gs) j = back c′ gs j
     leads (refuses x) j = tt
 
-endif-back : (c : Arm) (f : Frame) (fs : List Frame) (t : First) → f .first ≡ t → Leads (onEndif c (f .start) t fs) (BackFrom ENDIF c (f ∷ fs))
+endif-back : (c : Arm) (f : Frame) (fs : List Frame) (t : FirstArm) → f .first ≡ t → Leads (onEndif c (f .start) t fs) (BackFrom ENDIF c (f ∷ fs))
 endif-back c f fs notEnded e = joins-back c f fs c (f .start)
-    (λ l choices. ⊎-elim (λ h. (running, choices, h, refl, omega arith)) (λ h. (toElse 0, choices, rw e h, refl, omega arith)) l)
+    (λ l choices. ⊎-elim (λ h. (running, choices, h, refl, omega arith)) (λ h. (jumping true 0, choices, rw e h, refl, omega arith)) l)
 endif-back c f fs (ended a) e = joins-back c f fs a c
-    (λ l choices. ⊎-elim (λ h. (toEndif 0, choices, rw e h, refl, omega arith)) (λ h. (running, choices, h, refl, omega arith)) l)
+    (λ l choices. ⊎-elim (λ h. (jumping false 0, choices, rw e h, refl, omega arith)) (λ h. (running, choices, h, refl, omega arith)) l)
 
 module _ (R : Rules) where
-  back : (i : Instruction) (k : Class) (c : Arm) (fs : List Frame) → Leads (move R i k c fs) (BackFrom k c fs)
-  back i IF c fs = if-back IF ((λ choices. refl), (λ n. refl), (λ n. refl)) c fs
-  back i NOTIF c fs = if-back NOTIF ((λ choices. refl), (λ n. refl), (λ n. refl)) c fs
+  back : (i : Instruction) (k : Class) (c : Arm) (fs : List Frame) → Leads (effect R i k c fs) (BackFrom k c fs)
+  back i IF c fs = if-back IF ((λ choices. refl), (λ e n. refl)) c fs
+  back i NOTIF c fs = if-back NOTIF ((λ choices. refl), (λ e n. refl)) c fs
   back i ELSE c [] = tt
   back i ELSE c (f ∷ fs) = else-back c f fs (f .first) refl
   back i ENDIF c [] = tt
   back i ENDIF c (f ∷ fs) = endif-back c f fs (f .first) refl
-  back i RETURN c fs = dead-back RETURN c fs (λ n. refl) (λ n. refl)
-  back i (ordinary o) dead fs = dead-back (ordinary o) dead fs (λ n. refl) (λ n. refl)
-  back i (ordinary o) (live s) fs = moved-back o s fs (step marking R i o s)
+  back i RETURN c fs = dead-back RETURN c fs (λ e n. refl)
+  back i (ordinary o) dead fs = dead-back (ordinary o) dead fs (λ e n. refl)
+  back i (ordinary o) (live s) fs = moved-back (ordinary o) ((λ choices. refl), (λ e n. refl)) s fs (step marking R i o s)
+  back i (plain pops pushes) dead fs = dead-back (plain pops pushes) dead fs (λ e n. refl)
+  back i (plain pops pushes) (live s) fs = moved-back (plain pops pushes) ((λ choices. refl), (λ e n. refl)) s fs (plainStep marking (R .limit) pops pushes s)
 
   -- from a mode and choices that begin with those found, and end in the ones given
   abbrev Routed : List Instruction → Arm → List Frame → List Bool → ℕ → Type 0
@@ -168,9 +173,9 @@ module _ (R : Rules) where
   routes is c fs rest g zero h = (running, rest, h, refl, omega arith)
   routes [] c fs rest g (suc j) h = absurd h
   routes (i ∷ is) c fs rest g (suc j) h =
-      onto (move R i (R .classOf (i .opcode)) c fs) (back i (R .classOf (i .opcode)) c fs) g h (λ c fs g h. routes is c fs rest g j h)
+      onto (effect R i (R .classFor (i .opcode)) c fs) (back i (R .classFor (i .opcode)) c fs) g h (λ c fs g h. routes is c fs rest g j h)
     where
-      onto : (mv : Move) → Leads mv (BackFrom (R .classOf (i .opcode)) c fs) → Goes mv (λ c fs. Accepts R is c fs) → Alive (after mv (λ c fs. armAt R is c fs j))
+      onto : (mv : Move) → Leads mv (BackFrom (R .classFor (i .opcode)) c fs) → Goes mv (λ c fs. Accepts R is c fs) → Alive (after mv (λ c fs. armAt R is c fs j))
           → ((c : Arm) (fs : List Frame) → Accepts R is c fs → Alive (armAt R is c fs j) → Routed is c fs rest j) → Routed (i ∷ is) c fs rest (suc j)
       onto (moves c′ fs′) b g h f =
           let q = f c′ fs′ g h in
@@ -185,63 +190,58 @@ Steers (goesOn m r) (turn m′ choices) = (m ≡ m′) × (r .choices ≡ choice
 Steers (goesOn m r) over = ⊥
 Steers halts (turn m choices) = ⊥
 Steers halts over = Unit {0}
-Steers faults w = Unit {0}
+Steers fails w = Unit {0}
 
-branches-steers : (o : Outcome Bytes) (choices : List Bool) (results : List Bytes) → Steers (branches o choices results) (carried IF choices)
-branches-steers (done s) choices results = (refl, refl)
-branches-steers (refused x) choices results = tt
-
-carriedOut-steers : (o : Outcome Bytes) (choices : List Bool) (results : List Bytes) → Steers (carriedOut o choices results) (turn running choices)
-carriedOut-steers (done s) choices results = (refl, refl)
-carriedOut-steers (refused x) choices results = tt
+carriedOut-steers : (o : Outcome Bytes) (m : Mode) (choices : List Bool) (results : List Bytes) → Steers (carriedOut o m choices results) (turn m choices)
+carriedOut-steers (done s) m choices results = (refl, refl)
+carriedOut-steers (refused x) m choices results = tt
 
 carry-steers : (R : Rules) (i : Instruction) (k : Class) (r : Replay) → Steers (carry R i k r) (carried k (r .choices))
-carry-steers R i IF r = branches-steers (dropItems 1 (r .stacks)) (r .choices) (r .results)
-carry-steers R i NOTIF r = branches-steers (dropItems 1 (r .stacks)) (r .choices) (r .results)
+carry-steers R i IF r = carriedOut-steers (dropItems 1 (r .stacks)) _ _ _
+carry-steers R i NOTIF r = carriedOut-steers (dropItems 1 (r .stacks)) _ _ _
 carry-steers R i ELSE r = (refl, refl)
 carry-steers R i ENDIF r = (refl, refl)
 carry-steers R i RETURN r = tt
-carry-steers R i (ordinary o) r = carriedOut-steers (step (replaying (getD (r .results) 0 [])) R i o (r .stacks)) (r .choices) (resultsAfter o (r .results))
+carry-steers R i (ordinary o) r = carriedOut-steers (step (replaying (r .results)) R i o (r .stacks)) _ _ _
+carry-steers R i (plain pops pushes) r = carriedOut-steers (plainStep (replaying (r .results)) (R .limit) pops pushes (r .stacks)) _ _ _
 
 act-steers : (R : Rules) (i : Instruction) (k : Class) (m : Mode) (r : Replay) → Steers (act R i k m r) (steer k m (r .choices))
 act-steers R i k running r = carry-steers R i k r
-act-steers R i k (toElse n) r = (refl, refl)
-act-steers R i k (toEndif n) r = (refl, refl)
+act-steers R i k (jumping toElse n) r = (refl, refl)
 
 -- P is what is looked for in a trace: where it holds of a later part, it holds of the trace.
-module _ (R : Rules) (P : Trace → Type 0) (earlier : (k : ℕ) (u : Stacks Bytes) (t : Trace) → P t → P (reaches k u t)) where
+module _ (R : Rules) (P : Trace → Type 0) (earlier : (k : ℕ) (u : Stacks Bytes) (t : Trace) → P t → P (visit k u t)) where
   -- P holds of each replay that comes to the instruction j places on, there at place x, with stacks that its arm shows
   abbrev There : List Instruction → Arm → ℕ → ℕ → Type 0
-  There is c j x = (r : Replay) → LiveAs c (r .stacks) → P (replay R (drop j is) x running r)
+  There is c j x = (r : Replay) → LiveAs c (r .stacks) → P (replayFrom R (drop j is) x running r)
 
   traced-follows : (is : List Instruction) (k : ℕ) (u : Stacks Bytes) (j x : ℕ) (mv : Move) (a : Carried) (w : Turn) → Next mv a → Steers a w
       → Goes mv (λ c fs. Accepts R is c fs) → Then w (λ m choices. Route R is m choices j) → There is (after mv (λ c fs. armAt R is c fs j)) j x
       → ((c : Arm) (fs : List Frame) (m : Mode) (r : Replay) → Accepts R is c fs → Inv m (r .stacks) c fs → Route R is m (r .choices) j
-      → There is (armAt R is c fs j) j x → P (replay R is (k + 1) m r))
-      → P (traced a u (λ m r. replay R is (k + 1) m r))
+      → There is (armAt R is c fs j) j x → P (replayFrom R is (k + 1) m r))
+      → P (onCarried a u (λ m r. replayFrom R is (k + 1) m r))
   traced-follows is k u j x (moves c fs) (goesOn m r) (turn m′ choices) h s g p q f = f c fs m r g h (rw (s .0, s .1) p) q
   traced-follows is k u j x (moves c fs) (goesOn m r) over h s g p q f = absurd s
   traced-follows is k u j x (moves c fs) halts (turn m choices) h s g p q f = absurd s
   traced-follows is k u j x (moves c fs) halts over h s g p q f = absurd p
-  traced-follows is k u j x (moves c fs) faults w h s g p q f = absurd h
+  traced-follows is k u j x (moves c fs) fails w h s g p q f = absurd h
   traced-follows is k u j x (refuses y) a w h s g p q f = absurd g
 
   follows : (is : List Instruction) (k : ℕ) (c : Arm) (fs : List Frame) (m : Mode) (r : Replay) (j x : ℕ) → Accepts R is c fs → Inv m (r .stacks) c fs
-      → Route R is m (r .choices) j → k + j ≡ x → There is (armAt R is c fs j) j x → P (replay R is k m r)
-  unfolding replay
+      → Route R is m (r .choices) j → k + j ≡ x → There is (armAt R is c fs j) j x → P (replayFrom R is k m r)
+  unfolding replayFrom
   follows is k c fs m r zero x g h p e q =
       let z : k ≡ x = omega arith in
       rw (p, z) (q r (rw p at h))
   follows [] k c fs m r (suc j) x g h p e q = absurd p
   follows (i ∷ is) k c fs m r (suc j) x g h p e q =
-      onto m (traced-follows is k (r .stacks) j x (move R i (R .classOf (i .opcode)) c fs) (act R i (R .classOf (i .opcode)) m r)
-      (steer (R .classOf (i .opcode)) m (r .choices)) (act-next R i r (R .classOf (i .opcode)) m c fs h) (act-steers R i (R .classOf (i .opcode)) m r) g p q
+      onto m (traced-follows is k (r .stacks) j x (effect R i (R .classFor (i .opcode)) c fs) (act R i (R .classFor (i .opcode)) m r)
+      (steer (R .classFor (i .opcode)) m (r .choices)) (act-next R i r (R .classFor (i .opcode)) m c fs h) (act-steers R i (R .classFor (i .opcode)) m r) g p q
       (λ c fs m r g h p q. follows is (k + 1) c fs m r j x g h p (omega arith) q))
     where
-      onto : (m : Mode) → P (traced (act R i (R .classOf (i .opcode)) m r) (r .stacks) (λ m r. replay R is (k + 1) m r)) → P (replay R (i ∷ is) k m r)
+      onto : (m : Mode) → P (onCarried (act R i (R .classFor (i .opcode)) m r) (r .stacks) (λ m r. replayFrom R is (k + 1) m r)) → P (replayFrom R (i ∷ is) k m r)
       onto running t = earlier k (r .stacks) _ t
-      onto (toElse n) t = t
-      onto (toEndif n) t = t
+      onto (jumping toElse n) t = t
 
 -- A replay to start with
 
@@ -291,16 +291,16 @@ replayFor-is is s choices b h = record {
 
 -- wherever the arm of an accepted fragment is live, a replay comes
 pub comes : (R : Rules) (is : List Instruction) (s : Stacks Item) → ExactBytes s → Accepts R is (live s) [] → (j : ℕ) → Alive (armAt R is (live s) [] j)
-    → (P : Trace → Type 0) (earlier : (k : ℕ) (u : Stacks Bytes) (t : Trace) → P t → P (reaches k u t)) → There R P earlier is (armAt R is (live s) [] j) j j
-    → (r : Replay) × (ReplayOf is s r) × (P (trace R is r))
+    → (P : Trace → Type 0) (earlier : (k : ℕ) (u : Stacks Bytes) (t : Trace) → P t → P (visit k u t)) → There R P earlier is (armAt R is (live s) [] j) j j
+    → (r : Replay) × (ReplayOf is s r) × (P (wholeReplay R is r))
 comes R is s b g j h P earlier q = from (routes R is (live s) [] (replicate (length is) true) g j h)
   where
     none-waits : (m : Mode) → May m (live s) [] → m ≡ running
     none-waits running h = refl
-    none-waits (toElse n) h = absurd h
-    none-waits (toEndif n) h = absurd h
+    none-waits (jumping true n) h = absurd h
+    none-waits (jumping false n) h = absurd h
 
-    from : Routed R is (live s) [] (replicate (length is) true) j → (r : Replay) × (ReplayOf is s r) × (P (trace R is r))
+    from : Routed R is (live s) [] (replicate (length is) true) j → (r : Replay) × (ReplayOf is s r) × (P (wholeReplay R is r))
     from w =
         let long : length is ≤ length (w .1) = rw (length-replicate {A = Bool} (length is) true) at (w .4) in (
           replayFor is s (w .1),

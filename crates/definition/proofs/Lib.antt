@@ -9,3 +9,4 @@ pub mod TrueOfEveryReplay
 pub mod TrueOfPaper
 pub mod Witnesses
 pub mod PrintedPapers
+pub mod NumberForm

@@ -7,7 +7,7 @@ use lib.ListN.{length, replicate}
 use Rattle.definition.specs.Basics.{Bytes}
 use Rattle.definition.specs.Decoding.{front, decode, serialize, deserialize}
 use Rattle.definition.specs.Classes.{classNumber, classOf}
-use Rattle.definition.specs.Stacks.{builtIn, pushItem, dropItems, copyItems, rotateItems, tuckTop, nipSecond, moveToAlt, moveFromAlt, step}
+use Rattle.definition.specs.Stacks.{builtIn, pushItem, dropItems, copyItems, rotateItems, tuckTop, nipSecond, moveToAlt, moveFromAlt, step, plainStep}
 use Rattle.definition.specs.Walk.{Arm, dead, live, Verdict, joinStacks, logRow, walk, analysisOf, analysis}
 use Rattle.definition.specs.Papers.{PaperMarked, goodHeader, fragments, markFrom, dispatch, markPaper}
 
@@ -59,7 +59,7 @@ pub said : Paper → List ℕ
 said p = written (analysis builtIn (p .fragment) (p .main) (p .alt) (replicate 90 0) .verdict)
 
 pub sixteen : map said markedPapers ≡ map (λ (p : Paper). p .says) markedPapers
-unfolding said markedPapers analysis analysisOf walk logRow joinStacks step pushItem dropItems copyItems rotateItems tuckTop nipSecond moveToAlt moveFromAlt classOf classNumber decode front serialize deserialize
+unfolding said markedPapers analysis analysisOf walk logRow joinStacks step plainStep pushItem dropItems copyItems rotateItems tuckTop nipSecond moveToAlt moveFromAlt classOf classNumber decode front serialize deserialize
 sixteen = refl
 
 -- Section 6: `entry 0 peak 2 end 1 0`, `accepted`. The rows of its body, which starts from 1 parameter and 1 state field, and
@@ -76,7 +76,7 @@ paperSaid m = (m .paper .entry ∷ written (m .paper .verdict)) ∷ map written 
 pub sample : (paperSaid (markPaper builtIn samplePaper (replicate 20 9)) ≡ ((0 ∷ accepts 2 []) ∷ accepts 2 (1 ∷ 0 ∷ []) ∷ []))
     × (markPaper builtIn samplePaper (replicate 20 9) .log
     ≡ (0 ∷ 2 ∷ 0 ∷ 1 ∷ 1 ∷ 0 ∷ 2 ∷ 2 ∷ 0 ∷ 3 ∷ 1 ∷ 0 ∷ 4 ∷ 2 ∷ 0 ∷ 5 ∷ 2 ∷ 0 ∷ 9 ∷ 9 ∷ []))
-unfolding paperSaid samplePaper goodHeader fragments markFrom dispatch markPaper analysis analysisOf walk logRow joinStacks step pushItem dropItems copyItems rotateItems tuckTop nipSecond moveToAlt moveFromAlt classOf classNumber decode front serialize deserialize
+unfolding paperSaid samplePaper goodHeader fragments markFrom dispatch markPaper analysis analysisOf walk logRow joinStacks step plainStep pushItem dropItems copyItems rotateItems tuckTop nipSecond moveToAlt moveFromAlt classOf classNumber decode front serialize deserialize
 sample = (refl, refl)
 
 -- Two entries, of no parameter and of two; the initialiser drops two items.
@@ -89,5 +89,5 @@ twoEntries =
 
 pub fromMost : paperSaid (markPaper builtIn twoEntries (replicate 12 9))
     ≡ ((0 ∷ accepts 3 []) ∷ accepts 1 (1 ∷ 0 ∷ []) ∷ accepts 2 (1 ∷ 0 ∷ []) ∷ accepts 3 (0 ∷ 1 ∷ []) ∷ [])
-unfolding paperSaid twoEntries goodHeader fragments markFrom dispatch markPaper analysis analysisOf walk logRow joinStacks step pushItem dropItems copyItems rotateItems tuckTop nipSecond moveToAlt moveFromAlt classOf classNumber decode front serialize deserialize
+unfolding paperSaid twoEntries goodHeader fragments markFrom dispatch markPaper analysis analysisOf walk logRow joinStacks step plainStep pushItem dropItems copyItems rotateItems tuckTop nipSecond moveToAlt moveFromAlt classOf classNumber decode front serialize deserialize
 fromMost = refl

@@ -5,7 +5,7 @@ use lib.ListN.{replicate}
 use Rattle.definition.specs.Basics.{Bytes}
 use Rattle.definition.specs.Decoding.{front, decode, serialize, deserialize}
 use Rattle.definition.specs.Classes.{classNumber, classOf}
-use Rattle.definition.specs.Stacks.{pushItem, dropItems, copyItems, rotateItems, tuckTop, nipSecond, moveToAlt, moveFromAlt, step}
+use Rattle.definition.specs.Stacks.{pushItem, dropItems, copyItems, rotateItems, tuckTop, nipSecond, moveToAlt, moveFromAlt, step, plainStep}
 use Rattle.definition.specs.Walk.{joinStacks, logRow, walk, analysisOf, analysis}
 use Rattle.definition.specs.Papers.{goodHeader, fragments, markFrom, dispatch, markPaper}
 use Rattle.definition.specs.Lines.{text, decimal, line, refusedLine, lastLine, printed, stackmark}
@@ -13,13 +13,13 @@ use Rattle.definition.proofs.MarkedPapers.{samplePaper, twoEntries}
 
 -- "prints .."
 pub samplePrinted : stackmark samplePaper ≡ text "entry 0 peak 2 end 1 0\naccepted\n"
-unfolding stackmark printed lastLine refusedLine line decimal samplePaper goodHeader fragments markFrom dispatch markPaper analysis analysisOf walk logRow joinStacks step pushItem dropItems copyItems rotateItems tuckTop nipSecond moveToAlt moveFromAlt classOf classNumber decode front serialize deserialize
+unfolding stackmark printed lastLine refusedLine line decimal samplePaper goodHeader fragments markFrom dispatch markPaper analysis analysisOf walk logRow joinStacks step plainStep pushItem dropItems copyItems rotateItems tuckTop nipSecond moveToAlt moveFromAlt classOf classNumber decode front serialize deserialize
 samplePrinted = refl
 
 -- "`state` for `entry 0` at the initialiser"
 pub statePrinted : stackmark twoEntries
     ≡ text "entry 0 peak 1 end 1 0\nentry 1 peak 2 end 1 0\nstate peak 3 end 0 1\naccepted\n"
-unfolding stackmark printed lastLine refusedLine line decimal twoEntries goodHeader fragments markFrom dispatch markPaper analysis analysisOf walk logRow joinStacks step pushItem dropItems copyItems rotateItems tuckTop nipSecond moveToAlt moveFromAlt classOf classNumber decode front serialize deserialize
+unfolding stackmark printed lastLine refusedLine line decimal twoEntries goodHeader fragments markFrom dispatch markPaper analysis analysisOf walk logRow joinStacks step plainStep pushItem dropItems copyItems rotateItems tuckTop nipSecond moveToAlt moveFromAlt classOf classNumber decode front serialize deserialize
 statePrinted = refl
 
 -- Two entries. The first takes 102 parameters, and its body is RETURN: "`end none` if dead". The second takes none, pushes
@@ -33,7 +33,7 @@ secondDry =
 
 -- "A refused paper ends in `refused N at K O A B`": 7 in entry 1 at offset 2, needed 1 and had 0
 pub dryPrinted : stackmark secondDry ≡ text "entry 0 peak 102 end none\nrefused 7 at 1 2 1 0\n"
-unfolding stackmark printed lastLine refusedLine line decimal secondDry goodHeader fragments markFrom dispatch markPaper analysis analysisOf walk logRow joinStacks step pushItem dropItems copyItems rotateItems tuckTop nipSecond moveToAlt moveFromAlt classOf classNumber decode front serialize deserialize
+unfolding stackmark printed lastLine refusedLine line decimal secondDry goodHeader fragments markFrom dispatch markPaper analysis analysisOf walk logRow joinStacks step plainStep pushItem dropItems copyItems rotateItems tuckTop nipSecond moveToAlt moveFromAlt classOf classNumber decode front serialize deserialize
 dryPrinted = refl
 
 -- the empty input; "at most 8,001 bytes .., so its 21 always shows 8001"

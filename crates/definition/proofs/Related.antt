@@ -11,9 +11,9 @@ use lib.Dec.{leb}
 use lib.ListN.{length, take, drop, length-append, length-take, length-drop}
 use Rattle.definition.specs.Basics.{Bytes, pick}
 use Rattle.definition.specs.Decoding.{Instruction, Index, notKnown, noNumber, negative, index, indexOf, serialize, plus}
-use Rattle.definition.specs.Classes.{Ordinary, unmodelled, push, nothing, TOALT, FROMALT, DEPTH, SIZE, NIP, TUCK, PICK, ROLL, ZK, copies, rotates, drops, makes}
+use Rattle.definition.specs.Classes.{Ordinary, unmodelled, push, nothing, TOALT, FROMALT, DEPTH, SIZE, NIP, TUCK, PICK, ROLL, ZK, copies, rotates}
 use Rattle.definition.specs.Refusals.{Refusal, mainDry, stacksFull, altDry}
-use Rattle.definition.specs.Stacks.{Rules, Stacks, Outcome, done, refused, Items, Tag, noTag, groth16, r0Succinct, tagOf, total, needs, room, andThen, pushItem, popFrom, dropItems, copyItems, rotateItems, tuckTop, nipSecond, moveToAlt, moveFromAlt, sizeItem, readable, popIndex, zkDrop, zkBy, step}
+use Rattle.definition.specs.Stacks.{Rules, Stacks, Outcome, done, refused, ItemOps, Tag, noTag, groth16, r0Succinct, tagOf, total, needs, room, onDone, pushItem, popFrom, dropItems, copyItems, rotateItems, tuckTop, nipSecond, moveToAlt, moveFromAlt, sizeItem, readable, popIndex, zkDrop, zkBy, step, pushResults, plainStep}
 use Rattle.definition.specs.Walk.{Item, unknown, exact, known, bytesKnown, marking}
 use Rattle.definition.specs.Replay.{replaying, Shows, ShowsAll, ShowsStacks}
 
@@ -139,10 +139,10 @@ module _ {s : Stacks Item} {t : Stacks Bytes} (h : PairedStacks s t) where
 
 -- Operations one after the other
 
-andThen-agrees : {o : Outcome Item} {p : Outcome Bytes} (f : Stacks Item → Outcome Item) (g : Stacks Bytes → Outcome Bytes)
-    → Agree o p → ((s : Stacks Item) (t : Stacks Bytes) → PairedStacks s t → Agree (f s) (g t)) → Agree (andThen o f) (andThen p g)
-andThen-agrees f g (agree h) n = n _ _ h
-andThen-agrees f g stops n = stops
+onDone-agrees : {o : Outcome Item} {p : Outcome Bytes} (f : Stacks Item → Outcome Item) (g : Stacks Bytes → Outcome Bytes)
+    → Agree o p → ((s : Stacks Item) (t : Stacks Bytes) → PairedStacks s t → Agree (f s) (g t)) → Agree (onDone o refused f) (onDone p refused g)
+onDone-agrees f g (agree h) n = n _ _ h
+onDone-agrees f g stops n = stops
 
 popFrom-agrees : {l : List Item} {m : List Bytes} {a : List Item} {c : List Bytes} (f : Item → Stacks Item → Outcome Item) (g : Bytes → Stacks Bytes → Outcome Bytes)
     → Paired l m → Paired a c → ((x : Item) (b : Bytes) (s : Stacks Item) (t : Stacks Bytes) → Shows x b → PairedStacks s t → Agree (f x s) (g b t))
@@ -151,7 +151,7 @@ popFrom-agrees f g bottom k n = stops
 popFrom-agrees f g (above {x = x} {b = b} r h) k n = n x b _ _ r (record { main = h; alt = k })
 
 -- an index that the marker reads is the one that the replay reads
-readable-agrees : (v : Bytes) (x : Item) (b : Bytes) (f : ℕ → Outcome Item) (g : ℕ → Outcome Bytes) → Shows x b → ((n : ℕ) → Agree (f n) (g n))
+readable-agrees : (v : List Bytes) (x : Item) (b : Bytes) (f : ℕ → Outcome Item) (g : ℕ → Outcome Bytes) → Shows x b → ((n : ℕ) → Agree (f n) (g n))
     → Agree (readable marking (indexOf (bytesKnown x)) f) (readable (replaying v) (indexOf (some b)) g)
 readable-agrees v unknown b f g r n = stops
 readable-agrees v (exact l) b f g r n = rw r (same (indexOf (some b)))
@@ -162,20 +162,20 @@ readable-agrees v (exact l) b f g r n = rw r (same (indexOf (some b)))
     same negative = stops
     same (index k) = n k
 
-popIndex-agrees : (v : Bytes) {s : Stacks Item} {t : Stacks Bytes} (f : ℕ → Stacks Item → Outcome Item) (g : ℕ → Stacks Bytes → Outcome Bytes) → PairedStacks s t
+popIndex-agrees : (v : List Bytes) {s : Stacks Item} {t : Stacks Bytes} (f : ℕ → Stacks Item → Outcome Item) (g : ℕ → Stacks Bytes → Outcome Bytes) → PairedStacks s t
     → ((n : ℕ) (s′ : Stacks Item) (t′ : Stacks Bytes) → PairedStacks s′ t′ → Agree (f n s′) (g n t′)) → Agree (popIndex marking s f) (popIndex (replaying v) t g)
 popIndex-agrees v f g h n = popFrom-agrees _ _ (h .main) (h .alt) (λ x b s t r k. readable-agrees v x b _ _ r (λ i. n i s t k))
 
 -- SIZE: the length of an exact item is the real one
-size-shows : (v : Bytes) (x : Item) (b : Bytes) → Shows x b → Shows (sizeItem marking (bytesKnown x)) (sizeItem (replaying v) (some b))
+size-shows : (v : List Bytes) (x : Item) (b : Bytes) → Shows x b → Shows (sizeItem marking (bytesKnown x)) (sizeItem (replaying v) (some b))
 size-shows v unknown b r = tt
 size-shows v (exact l) b r = rw r (shows-known (serialize (plus (length b))))
 
-zkDrop-agrees : (v : Bytes) (limit n : ℕ) {s : Stacks Item} {t : Stacks Bytes} → PairedStacks s t → Agree (zkDrop marking limit n s) (zkDrop (replaying v) limit n t)
-zkDrop-agrees v limit n h = andThen-agrees _ _ (dropItems-agrees h n) (λ s t k. pushItem-agrees k limit _ _ (shows-known (serialize (plus 1))))
+zkDrop-agrees : (v : List Bytes) (limit n : ℕ) {s : Stacks Item} {t : Stacks Bytes} → PairedStacks s t → Agree (zkDrop marking limit n s) (zkDrop (replaying v) limit n t)
+zkDrop-agrees v limit n h = onDone-agrees _ _ (dropItems-agrees h n) (λ s t k. pushItem-agrees k limit _ _ (shows-known (serialize (plus 1))))
 
 -- a tag that the marker reads is the one that the replay reads
-zkBy-agrees : (v : Bytes) (limit : ℕ) (x : Item) (b : Bytes) {s : Stacks Item} {t : Stacks Bytes} → Shows x b → PairedStacks s t
+zkBy-agrees : (v : List Bytes) (limit : ℕ) (x : Item) (b : Bytes) {s : Stacks Item} {t : Stacks Bytes} → Shows x b → PairedStacks s t
     → Agree (zkBy marking limit (tagOf (bytesKnown x)) s) (zkBy (replaying v) limit (tagOf (some b)) t)
 zkBy-agrees v limit unknown b r h = stops
 zkBy-agrees v limit (exact l) b r h = rw r (same (tagOf (some b)) h)
@@ -189,7 +189,7 @@ zkBy-agrees v limit (exact l) b r h = rw r (same (tagOf (some b)) h)
     same r0Succinct h = zkDrop-agrees v limit 8 h
 
 -- whatever an ordinary instruction does, a replay follows the marker
-pub step-agrees : (v : Bytes) (R : Rules) (i : Instruction) (o : Ordinary) {s : Stacks Item} {t : Stacks Bytes} → PairedStacks s t
+pub step-agrees : (v : List Bytes) (R : Rules) (i : Instruction) (o : Ordinary) {s : Stacks Item} {t : Stacks Bytes} → PairedStacks s t
     → Agree (step marking R i o s) (step (replaying v) R i o t)
 unfolding step
 step-agrees v R i unmodelled h = stops
@@ -206,8 +206,17 @@ step-agrees v R i ROLL h = popIndex-agrees v _ _ h (λ n s t k. rotateItems-agre
 step-agrees v R i ZK h = popFrom-agrees _ _ (h .main) (h .alt) (λ x b s t r k. zkBy-agrees v (R .limit) x b r k)
 step-agrees v R i (copies depth count) h = copyItems-agrees h (R .limit) depth count
 step-agrees v R i (rotates count shift) h = rotateItems-agrees h count shift
-step-agrees v R i (drops k) h = dropItems-agrees h k
-step-agrees v R i (makes k) h = andThen-agrees _ _ (dropItems-agrees h k) (λ s t g. pushItem-agrees g (R .limit) _ _ tt)
+
+-- and whatever an instruction of a plain class does
+pub plainStep-agrees : (v : List Bytes) (limit pops pushes : ℕ) {s : Stacks Item} {t : Stacks Bytes} → PairedStacks s t
+    → Agree (plainStep marking limit pops pushes s) (plainStep (replaying v) limit pops pushes t)
+unfolding plainStep
+plainStep-agrees v limit pops pushes h = onDone-agrees _ _ (dropItems-agrees h pops) (λ s t g. results pushes g)
+  where
+    results : (n : ℕ) {s : Stacks Item} {t : Stacks Bytes} → PairedStacks s t
+        → Agree (pushResults marking limit n s) (pushResults (replaying v) limit n t)
+    results zero g = agree g
+    results (suc n) g = pushItem-agrees g limit _ _ tt
 
 -- The limit
 
@@ -268,20 +277,20 @@ module _ {A : Type 0} (limit : ℕ) where
       test true e = let n = leb-true 1 (length (s .alt)) e in simp (length-append, length-drop, length-take) (omega arith)
       test false e = tt
 
-  andThen-within : (o : Outcome A) (f : Stacks A → Outcome A) → Within limit o → ((t : Stacks A) → total t ≤ limit → Within limit (f t))
-      → Within limit (andThen o f)
-  andThen-within (done t) f h n = n t h
-  andThen-within (refused r) f h n = tt
+  onDone-within : (o : Outcome A) (f : Stacks A → Outcome A) → Within limit o → ((t : Stacks A) → total t ≤ limit → Within limit (f t))
+      → Within limit (onDone o refused f)
+  onDone-within (done t) f h n = n t h
+  onDone-within (refused r) f h n = tt
 
   popFrom-within : (l a : List A) (f : A → Stacks A → Outcome A) → length l + length a ≤ limit
       → ((x : A) (t : Stacks A) → total t ≤ limit → Within limit (f x t)) → Within limit (popFrom l a f)
   popFrom-within [] a f h n = tt
   popFrom-within (x ∷ l) a f h n = n x (record { main = l; alt = a }) (omega arith)
 
-  module _ (I : Items A) where
+  module _ (I : ItemOps A) where
     popIndex-within : (s : Stacks A) (f : ℕ → Stacks A → Outcome A) → total s ≤ limit
         → ((n : ℕ) (t : Stacks A) → total t ≤ limit → Within limit (f n t)) → Within limit (popIndex I s f)
-    popIndex-within s f h n = popFrom-within (s .main) (s .alt) _ h (λ x t k. read (indexOf (I .bytes x)) t k)
+    popIndex-within s f h n = popFrom-within (s .main) (s .alt) _ h (λ x t k. read (indexOf (I .toBytes x)) t k)
       where
         read : (i : Index) (t : Stacks A) → total t ≤ limit → Within limit (readable I i (λ j. f j t))
         read notKnown t k = tt
@@ -290,7 +299,7 @@ module _ {A : Type 0} (limit : ℕ) where
         read (index j) t k = n j t k
 
     zkDrop-within : (n : ℕ) (s : Stacks A) → total s ≤ limit → Within limit (zkDrop I limit n s)
-    zkDrop-within n s h = andThen-within (dropItems n s) _ (dropItems-within n s h) (λ t k. pushItem-within _ t)
+    zkDrop-within n s h = onDone-within (dropItems n s) _ (dropItems-within n s h) (λ t k. pushItem-within _ t)
 
     zkBy-within : (g : Tag) (s : Stacks A) → total s ≤ limit → Within limit (zkBy I limit g s)
     zkBy-within noTag s h = tt
@@ -300,7 +309,7 @@ module _ {A : Type 0} (limit : ℕ) where
     zkBy-within r0Succinct s h = zkDrop-within 8 s h
 
 -- no ordinary instruction leads over the limit
-pub step-within : {A : Type 0} (I : Items A) (R : Rules) (i : Instruction) (o : Ordinary) (s : Stacks A) → total s ≤ R .limit
+pub step-within : {A : Type 0} (I : ItemOps A) (R : Rules) (i : Instruction) (o : Ordinary) (s : Stacks A) → total s ≤ R .limit
     → Within (R .limit) (step I R i o s)
 unfolding step
 step-within I R i unmodelled s h = tt
@@ -314,8 +323,17 @@ step-within I R i NIP s h = nipSecond-within (R .limit) s h
 step-within I R i TUCK s h = tuckTop-within (R .limit) s
 step-within I R i PICK s h = popIndex-within (R .limit) I s _ h (λ n t k. copyItems-within (R .limit) _ 1 t)
 step-within I R i ROLL s h = popIndex-within (R .limit) I s _ h (λ n t k. rotateItems-within (R .limit) _ 1 t k)
-step-within I R i ZK s h = popFrom-within (R .limit) (s .main) (s .alt) _ h (λ x t k. zkBy-within (R .limit) I (tagOf (I .bytes x)) t k)
+step-within I R i ZK s h = popFrom-within (R .limit) (s .main) (s .alt) _ h (λ x t k. zkBy-within (R .limit) I (tagOf (I .toBytes x)) t k)
 step-within I R i (copies depth count) s h = copyItems-within (R .limit) depth count s
 step-within I R i (rotates count shift) s h = rotateItems-within (R .limit) count shift s h
-step-within I R i (drops k) s h = dropItems-within (R .limit) k s h
-step-within I R i (makes k) s h = andThen-within (R .limit) (dropItems k s) _ (dropItems-within (R .limit) k s h) (λ t g. pushItem-within (R .limit) _ t)
+
+-- nor one of a plain class
+pub plainStep-within : {A : Type 0} (I : ItemOps A) (limit pops pushes : ℕ) (s : Stacks A) → total s ≤ limit
+    → Within limit (plainStep I limit pops pushes s)
+unfolding plainStep
+plainStep-within {A = A} I limit pops pushes s h =
+    onDone-within limit (dropItems pops s) _ (dropItems-within limit pops s h) (λ t g. results pushes t g)
+  where
+    results : (n : ℕ) (t : Stacks A) → total t ≤ limit → Within limit (pushResults I limit n t)
+    results zero t g = g
+    results (suc n) t g = pushItem-within limit _ t

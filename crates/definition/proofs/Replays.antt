@@ -7,8 +7,8 @@ use lib.ListN.{replicate}
 use Rattle.definition.specs.Basics.{Bytes}
 use Rattle.definition.specs.Decoding.{front, decode, serialize, deserialize, instructions}
 use Rattle.definition.specs.Classes.{classNumber, classOf}
-use Rattle.definition.specs.Stacks.{builtIn, pushItem, dropItems, copyItems, rotateItems, tuckTop, nipSecond, moveToAlt, moveFromAlt, step}
-use Rattle.definition.specs.Replay.{Trace, reaches, offEnd, returned, faulted, replay, trace}
+use Rattle.definition.specs.Stacks.{builtIn, pushItem, dropItems, copyItems, rotateItems, tuckTop, nipSecond, moveToAlt, moveFromAlt, step, plainStep}
+use Rattle.definition.specs.Replay.{Trace, visit, offEnd, returned, faulted, replayFrom, wholeReplay}
 
 -- a fragment, the start items of main (top first), the choices, the given byte strings
 pub record Run : Type 0 where
@@ -22,13 +22,13 @@ run fragment main choices results = record { fragment = fragment; main = main; c
 
 -- the places reached, each a list of one number; then 100 (off the end), 101 (RETURN) or 102 (a fault); then main
 abbrev told : Trace → List Bytes
-told (reaches k s t) = (k ∷ []) ∷ told t
+told (visit k s t) = (k ∷ []) ∷ told t
 told (offEnd s) = (100 ∷ []) ∷ s .main
 told (returned s) = (101 ∷ []) ∷ s .main
 told faulted = (102 ∷ []) ∷ []
 
 abbrev ran : Run → List Bytes
-ran r = told (trace builtIn (instructions (decode (r .fragment))) (record { stacks = record { main = r .main; alt = [] }; choices = r .choices; results = r .results }))
+ran r = told (wholeReplay builtIn (instructions (decode (r .fragment))) (record { stacks = record { main = r .main; alt = [] }; choices = r .choices; results = r .results }))
 
 pub runs : List Run
 runs =
@@ -63,5 +63,5 @@ pub replays : map ran runs ≡
     ((0 ∷ []) ∷ (102 ∷ []) ∷ []) ∷
     ((0 ∷ []) ∷ (1 ∷ []) ∷ (102 ∷ []) ∷ []) ∷
     ((0 ∷ []) ∷ (102 ∷ []) ∷ []) ∷ [])
-unfolding runs replay step pushItem dropItems copyItems rotateItems tuckTop nipSecond moveToAlt moveFromAlt classOf classNumber decode front serialize deserialize
+unfolding runs replayFrom step plainStep pushItem dropItems copyItems rotateItems tuckTop nipSecond moveToAlt moveFromAlt classOf classNumber decode front serialize deserialize
 replays = refl

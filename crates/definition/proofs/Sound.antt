@@ -8,15 +8,15 @@ use Prim.Native.Nat.{ℕ, zero, suc, _+_, _≤_, _<_}
 use native.Mathlib.Omega.{arith}
 use borrow.Author.Tests.{eqb-true}
 use lib.Dec.{ltb, eqb}
-use lib.ListN.{length, getD}
+use lib.ListN.{length, getD, drop}
 use Rattle.definition.specs.Basics.{Bytes, pick}
 use Rattle.definition.specs.Decoding.{Instruction}
-use Rattle.definition.specs.Classes.{Class, IF, NOTIF, ELSE, ENDIF, RETURN, ordinary}
+use Rattle.definition.specs.Classes.{Class, IF, NOTIF, ELSE, ENDIF, RETURN, ordinary, plain}
 use Rattle.definition.specs.Refusals.{maxOpen, nesting, armsDiffer}
-use Rattle.definition.specs.Stacks.{Rules, Stacks, Outcome, done, refused, total, dropItems, step}
-use Rattle.definition.specs.Walk.{Item, unknown, exact, marking, Arm, dead, live, First, notEnded, ended, Frame, Move, moves, refuses, sameBytes, joinItem, joinItems, joinStacks, moved, join, opened, onIf, conditional, onElse, onEndif, move}
-use Rattle.definition.specs.Replay.{Replay, replaying, resultsAfter, Mode, running, toElse, toEndif, Carried, goesOn, halts, faults, carriedOut, chosen, branches, carry, pastElse, pastEndif, Trace, reaches, offEnd, returned, faulted, traced, replay, Reaches, Faults, RunsOff, HasTotal, Shows}
-use Rattle.definition.proofs.Related.{Paired, bottom, above, PairedStacks, Agree, agree, stops, dropItems-agrees, step-agrees, Within, dropItems-within, step-within}
+use Rattle.definition.specs.Stacks.{Rules, Stacks, Outcome, done, refused, total, onDone, dropItems, step, plainStep}
+use Rattle.definition.specs.Walk.{Item, unknown, exact, marking, Arm, dead, live, FirstArm, notEnded, ended, Frame, Move, moves, refuses, sameBytes, joinItem, joinItems, joinStacks, onOutcome, join, opens, onIf, conditional, onElse, onEndif, effect}
+use Rattle.definition.specs.Replay.{Replay, replaying, Mode, running, jumping, Carried, goesOn, halts, fails, carriedOut, chosen, branches, carry, past, Trace, visit, offEnd, returned, faulted, onCarried, replayFrom, ReachedAt, EndsInFault, RunsOffWith, HasTotal, Shows}
+use Rattle.definition.proofs.Related.{Paired, bottom, above, PairedStacks, Agree, agree, stops, dropItems-agrees, step-agrees, plainStep-agrees, Within, dropItems-within, step-within, plainStep-within}
 use Rattle.definition.proofs.Arms.{Goes, Accepts, after, armAt, Alive}
 
 -- Joins
@@ -87,7 +87,7 @@ join-leads (live s) (live t) fs = heights (eqb (length (s .main)) (length (t .ma
     joined = record { main = joinItems (s .main) (t .main); alt = joinItems (s .alt) (t .alt) }
 
     heights : (b : Bool) → (eqb (length (s .main)) (length (t .main)) && eqb (length (s .alt)) (length (t .alt))) ≡ b
-        → Leads (moved (pick b (done joined) (refused armsDiffer)) fs) (Joins (live s) (live t) fs)
+        → Leads (onOutcome (pick b (done joined) (refused armsDiffer)) fs) (Joins (live s) (live t) fs)
     heights true e =
         let f = and-true (eqb (length (s .main)) (length (t .main))) (eqb (length (s .alt)) (length (t .alt))) e in
         let m = eqb-true (length (s .main)) (length (t .main)) (f .0) in
@@ -109,12 +109,12 @@ Waits zero P (f ∷ fs) = P f
 Waits (suc n) P (f ∷ fs) = Waits n P fs
 
 -- its second arm, still to come, starts with these stacks
-abbrev Opens : Stacks Bytes → First → Arm → Type 0
+abbrev Opens : Stacks Bytes → FirstArm → Arm → Type 0
 Opens u notEnded s = LiveAs s u
 Opens u (ended a) s = ⊥
 
 -- its first arm has ended with these stacks
-abbrev Ended : Stacks Bytes → First → Type 0
+abbrev Ended : Stacks Bytes → FirstArm → Type 0
 Ended u notEnded = ⊥
 Ended u (ended a) = LiveAs a u
 
@@ -122,29 +122,32 @@ Ended u (ended a) = LiveAs a u
 -- one, n conditionals out.
 abbrev pub Inv : Mode → Stacks Bytes → Arm → List Frame → Type 0
 Inv running u c fs = LiveAs c u
-Inv (toElse n) u c fs = Waits n (λ f. Opens u (f .first) (f .start)) fs
-Inv (toEndif n) u c fs = Waits n (λ f. Ended u (f .first)) fs
+Inv (jumping true n) u c fs = Waits n (λ f. Opens u (f .first) (f .start)) fs
+Inv (jumping false n) u c fs = Waits n (λ f. Ended u (f .first)) fs
 
 -- where the marker moves on, the replay does not fault, and the two still agree
 abbrev pub Next : Move → Carried → Type 0
 Next (moves c fs) (goesOn m r) = Inv m (r .stacks) c fs
 Next (moves c fs) halts = Unit {0}
-Next (moves c fs) faults = ⊥
+Next (moves c fs) fails = ⊥
 Next (refuses x) a = Unit {0}
 
 -- an instruction met in any mode: carried out, or jumped over
 abbrev pub act : Rules → Instruction → Class → Mode → Replay → Carried
 act R i k running r = carry R i k r
-act R i k (toElse n) r = goesOn (pastElse k n) r
-act R i k (toEndif n) r = goesOn (pastEndif k n) r
+act R i k (jumping toElse n) r = goesOn (past k toElse n) r
+
+-- a conditional opens with what an operation yields
+abbrev pub opened : Outcome Item → List Frame → Move
+opened o fs = onDone o refuses (λ s. opens (live s) fs)
 
 module _ (R : Rules) (i : Instruction) (r : Replay) where
   -- an ordinary opcode carried out, and one jumped over
-  moved-next : {o : Outcome Item} {p : Outcome Bytes} (fs : List Frame) (results : List Bytes) → Agree o p → Next (moved o fs) (carriedOut p (r .choices) results)
+  moved-next : {o : Outcome Item} {p : Outcome Bytes} (fs : List Frame) (results : List Bytes) → Agree o p → Next (onOutcome o fs) (carriedOut p running (r .choices) results)
   moved-next fs results (agree h) = h
   moved-next fs results stops = tt
 
-  moved-waits : (m : Mode) (o : Outcome Item) (fs : List Frame) → ((c : Arm) → Inv m (r .stacks) c fs) → Next (moved o fs) (goesOn m r)
+  moved-waits : (m : Mode) (o : Outcome Item) (fs : List Frame) → ((c : Arm) → Inv m (r .stacks) c fs) → Next (onOutcome o fs) (goesOn m r)
   moved-waits m (done s) fs h = h (live s)
   moved-waits m (refused x) fs h = tt
 
@@ -158,11 +161,12 @@ module _ (R : Rules) (i : Instruction) (r : Replay) where
   chosen-next true fs h = h
   chosen-next false fs h = h
 
-  opened-next : {o : Outcome Item} {p : Outcome Bytes} (fs : List Frame) → Agree o p → Next (opened o fs) (branches p (r .choices) (r .results))
+  opened-next : {o : Outcome Item} {p : Outcome Bytes} (fs : List Frame) → Agree o p
+      → Next (opened o fs) (carriedOut p (chosen (getD (r .choices) 0 true)) (drop 1 (r .choices)) (r .results))
   opened-next fs (agree h) = chosen-next (getD (r .choices) 0 true) fs h
   opened-next fs stops = tt
 
-  if-next : (c : Arm) (fs : List Frame) → LiveAs c (r .stacks) → Next (conditional c fs) (branches (dropItems 1 (r .stacks)) (r .choices) (r .results))
+  if-next : (c : Arm) (fs : List Frame) → LiveAs c (r .stacks) → Next (conditional c fs) (branches r)
   if-next dead fs h = absurd h
   if-next (live s) fs h = nested (ltb (length fs) maxOpen) (opened (dropItems 1 s) fs) _ (opened-next fs (dropItems-agrees h 1))
 
@@ -178,19 +182,19 @@ module _ (R : Rules) (i : Instruction) (r : Replay) where
       open-waits (live s) = opened-waits (dropItems 1 s)
 
   -- ELSE: met in the first arm, jumped to, met in the second arm, and met further in
-  else-next : (c s : Arm) (t : First) (fs : List Frame) → LiveAs c (r .stacks) → Next (onElse c s t fs) (goesOn (toEndif 0) r)
+  else-next : (c s : Arm) (t : FirstArm) (fs : List Frame) → LiveAs c (r .stacks) → Next (onElse c s t fs) (goesOn (jumping false 0) r)
   else-next c s notEnded fs h = h
   else-next c s (ended a) fs h = tt
 
-  else-opens : (c s : Arm) (t : First) (fs : List Frame) → Opens (r .stacks) t s → Next (onElse c s t fs) (goesOn running r)
+  else-opens : (c s : Arm) (t : FirstArm) (fs : List Frame) → Opens (r .stacks) t s → Next (onElse c s t fs) (goesOn running r)
   else-opens c s notEnded fs h = h
   else-opens c s (ended a) fs h = tt
 
-  else-past : (c s : Arm) (t : First) (fs : List Frame) → Ended (r .stacks) t → Next (onElse c s t fs) (goesOn (toEndif 0) r)
+  else-past : (c s : Arm) (t : FirstArm) (fs : List Frame) → Ended (r .stacks) t → Next (onElse c s t fs) (goesOn (jumping false 0) r)
   else-past c s notEnded fs h = absurd h
   else-past c s (ended a) fs h = tt
 
-  else-waits : (m : Mode) (c s : Arm) (t : First) (fs : List Frame) → ((c : Arm) (f : Frame) → Inv m (r .stacks) c (f ∷ fs)) → Next (onElse c s t fs) (goesOn m r)
+  else-waits : (m : Mode) (c s : Arm) (t : FirstArm) (fs : List Frame) → ((c : Arm) (f : Frame) → Inv m (r .stacks) c (f ∷ fs)) → Next (onElse c s t fs) (goesOn m r)
   else-waits m c s notEnded fs h = h s (record { start = s; first = ended c })
   else-waits m c s (ended a) fs h = tt
 
@@ -209,93 +213,100 @@ module _ (R : Rules) (i : Instruction) (r : Replay) where
       leads (moves c gs) j = rw (j .2) (h c)
       leads (refuses x) j = tt
 
-  endif-next : (c s : Arm) (t : First) (fs : List Frame) → LiveAs c (r .stacks) → Next (onEndif c s t fs) (goesOn running r)
+  endif-next : (c s : Arm) (t : FirstArm) (fs : List Frame) → LiveAs c (r .stacks) → Next (onEndif c s t fs) (goesOn running r)
   endif-next c s notEnded fs h = joins-next c s fs (inl h)
   endif-next c s (ended a) fs h = joins-next a c fs (inr h)
 
-  endif-opens : (c s : Arm) (t : First) (fs : List Frame) → Opens (r .stacks) t s → Next (onEndif c s t fs) (goesOn running r)
+  endif-opens : (c s : Arm) (t : FirstArm) (fs : List Frame) → Opens (r .stacks) t s → Next (onEndif c s t fs) (goesOn running r)
   endif-opens c s notEnded fs h = joins-next c s fs (inr h)
   endif-opens c s (ended a) fs h = absurd h
 
-  endif-past : (c s : Arm) (t : First) (fs : List Frame) → Ended (r .stacks) t → Next (onEndif c s t fs) (goesOn running r)
+  endif-past : (c s : Arm) (t : FirstArm) (fs : List Frame) → Ended (r .stacks) t → Next (onEndif c s t fs) (goesOn running r)
   endif-past c s notEnded fs h = absurd h
   endif-past c s (ended a) fs h = joins-next a c fs (inl h)
 
-  endif-waits : (m : Mode) (c s : Arm) (t : First) (fs : List Frame) → ((c : Arm) → Inv m (r .stacks) c fs) → Next (onEndif c s t fs) (goesOn m r)
+  endif-waits : (m : Mode) (c s : Arm) (t : FirstArm) (fs : List Frame) → ((c : Arm) → Inv m (r .stacks) c fs) → Next (onEndif c s t fs) (goesOn m r)
   endif-waits m c s notEnded fs h = joins-waits m c s fs h
   endif-waits m c s (ended a) fs h = joins-waits m a c fs h
 
   -- one instruction of any class, in any mode
-  pub act-next : (k : Class) (m : Mode) (c : Arm) (fs : List Frame) → Inv m (r .stacks) c fs → Next (move R i k c fs) (act R i k m r)
+  pub act-next : (k : Class) (m : Mode) (c : Arm) (fs : List Frame) → Inv m (r .stacks) c fs → Next (effect R i k c fs) (act R i k m r)
   act-next IF running c fs h = if-next c fs h
-  act-next IF (toElse n) c fs h = if-waits (toElse (suc n)) c fs (λ c f. h)
-  act-next IF (toEndif n) c fs h = if-waits (toEndif (suc n)) c fs (λ c f. h)
+  act-next IF (jumping true n) c fs h = if-waits (jumping true (suc n)) c fs (λ c f. h)
+  act-next IF (jumping false n) c fs h = if-waits (jumping false (suc n)) c fs (λ c f. h)
   act-next NOTIF running c fs h = if-next c fs h
-  act-next NOTIF (toElse n) c fs h = if-waits (toElse (suc n)) c fs (λ c f. h)
-  act-next NOTIF (toEndif n) c fs h = if-waits (toEndif (suc n)) c fs (λ c f. h)
+  act-next NOTIF (jumping true n) c fs h = if-waits (jumping true (suc n)) c fs (λ c f. h)
+  act-next NOTIF (jumping false n) c fs h = if-waits (jumping false (suc n)) c fs (λ c f. h)
   act-next ELSE m c [] h = tt
   act-next ELSE running c (f ∷ fs) h = else-next c (f .start) (f .first) fs h
-  act-next ELSE (toElse zero) c (f ∷ fs) h = else-opens c (f .start) (f .first) fs h
-  act-next ELSE (toElse (suc n)) c (f ∷ fs) h = else-waits (toElse (suc n)) c (f .start) (f .first) fs (λ c f. h)
-  act-next ELSE (toEndif zero) c (f ∷ fs) h = else-past c (f .start) (f .first) fs h
-  act-next ELSE (toEndif (suc n)) c (f ∷ fs) h = else-waits (toEndif (suc n)) c (f .start) (f .first) fs (λ c f. h)
+  act-next ELSE (jumping true zero) c (f ∷ fs) h = else-opens c (f .start) (f .first) fs h
+  act-next ELSE (jumping true (suc n)) c (f ∷ fs) h = else-waits (jumping true (suc n)) c (f .start) (f .first) fs (λ c f. h)
+  act-next ELSE (jumping false zero) c (f ∷ fs) h = else-past c (f .start) (f .first) fs h
+  act-next ELSE (jumping false (suc n)) c (f ∷ fs) h = else-waits (jumping false (suc n)) c (f .start) (f .first) fs (λ c f. h)
   act-next ENDIF m c [] h = tt
   act-next ENDIF running c (f ∷ fs) h = endif-next c (f .start) (f .first) fs h
-  act-next ENDIF (toElse zero) c (f ∷ fs) h = endif-opens c (f .start) (f .first) fs h
-  act-next ENDIF (toElse (suc n)) c (f ∷ fs) h = endif-waits (toElse n) c (f .start) (f .first) fs (λ c. h)
-  act-next ENDIF (toEndif zero) c (f ∷ fs) h = endif-past c (f .start) (f .first) fs h
-  act-next ENDIF (toEndif (suc n)) c (f ∷ fs) h = endif-waits (toEndif n) c (f .start) (f .first) fs (λ c. h)
+  act-next ENDIF (jumping true zero) c (f ∷ fs) h = endif-opens c (f .start) (f .first) fs h
+  act-next ENDIF (jumping true (suc n)) c (f ∷ fs) h = endif-waits (jumping true n) c (f .start) (f .first) fs (λ c. h)
+  act-next ENDIF (jumping false zero) c (f ∷ fs) h = endif-past c (f .start) (f .first) fs h
+  act-next ENDIF (jumping false (suc n)) c (f ∷ fs) h = endif-waits (jumping false n) c (f .start) (f .first) fs (λ c. h)
   act-next RETURN running c fs h = tt
-  act-next RETURN (toElse n) c fs h = h
-  act-next RETURN (toEndif n) c fs h = h
+  act-next RETURN (jumping true n) c fs h = h
+  act-next RETURN (jumping false n) c fs h = h
   act-next (ordinary o) running dead fs h = absurd h
-  act-next (ordinary o) running (live s) fs h = moved-next fs (resultsAfter o (r .results)) (step-agrees (getD (r .results) 0 []) R i o h)
-  act-next (ordinary o) (toElse n) dead fs h = h
-  act-next (ordinary o) (toElse n) (live s) fs h = moved-waits (toElse n) (step marking R i o s) fs (λ c. h)
-  act-next (ordinary o) (toEndif n) dead fs h = h
-  act-next (ordinary o) (toEndif n) (live s) fs h = moved-waits (toEndif n) (step marking R i o s) fs (λ c. h)
+  act-next (ordinary o) running (live s) fs h = moved-next fs (r .results) (step-agrees (r .results) R i o h)
+  act-next (ordinary o) (jumping true n) dead fs h = h
+  act-next (ordinary o) (jumping true n) (live s) fs h = moved-waits (jumping true n) (step marking R i o s) fs (λ c. h)
+  act-next (ordinary o) (jumping false n) dead fs h = h
+  act-next (ordinary o) (jumping false n) (live s) fs h = moved-waits (jumping false n) (step marking R i o s) fs (λ c. h)
+  act-next (plain pops pushes) running dead fs h = absurd h
+  act-next (plain pops pushes) running (live s) fs h =
+      moved-next fs (drop pushes (r .results)) (plainStep-agrees (r .results) (R .limit) pops pushes h)
+  act-next (plain pops pushes) (jumping true n) dead fs h = h
+  act-next (plain pops pushes) (jumping true n) (live s) fs h = moved-waits (jumping true n) (plainStep marking (R .limit) pops pushes s) fs (λ c. h)
+  act-next (plain pops pushes) (jumping false n) dead fs h = h
+  act-next (plain pops pushes) (jumping false n) (live s) fs h = moved-waits (jumping false n) (plainStep marking (R .limit) pops pushes s) fs (λ c. h)
 
 -- Whole replays
 
 module _ (R : Rules) (A : ℕ → Arm) (n : ℕ) where
   -- A trace that follows the arms A of a fragment of n instructions.
   abbrev pub Good : Trace → Type 0
-  Good (reaches k u t) = (k < n) × (LiveAs (A k) u) × (Good t)
+  Good (visit k u t) = (k < n) × (LiveAs (A k) u) × (Good t)
   Good (offEnd u) = LiveAs (A n) u
   Good (returned u) = (k : ℕ) × (k ≤ n) × (LiveAs (A k) u)
   Good faulted = ⊥
 
   no-mode-waits : (m : Mode) (u : Stacks Bytes) (c : Arm) (fs : List Frame) → fs ≡ [] → Inv m u c fs → LiveAs c u
   no-mode-waits running u c fs e h = h
-  no-mode-waits (toElse k) u c fs e h = absurd (rw e at h)
-  no-mode-waits (toEndif k) u c fs e h = absurd (rw e at h)
+  no-mode-waits (jumping true k) u c fs e h = absurd (rw e at h)
+  no-mode-waits (jumping false k) u c fs e h = absurd (rw e at h)
 
   -- what holds of the rest of the replay, wherever the marker moves on to
   abbrev Rest : List Instruction → ℕ → Type 0
   Rest is k = (c : Arm) (fs : List Frame) (m : Mode) (r : Replay) → ((j : ℕ) → A (k + j) ≡ armAt R is c fs j) → Accepts R is c fs → Inv m (r .stacks) c fs
-      → Good (replay R is k m r)
+      → Good (replayFrom R is k m r)
 
   traced-good : (is : List Instruction) (k : ℕ) (u : Stacks Bytes) (mv : Move) (a : Carried) → Next mv a → Goes mv (λ c fs. Accepts R is c fs)
       → ((j : ℕ) → A (k + suc j) ≡ after mv (λ c fs. armAt R is c fs j)) → (a ≡ halts → (k ≤ n) × (LiveAs (A k) u)) → Rest is (k + 1)
-      → Good (traced a u (λ m r. replay R is (k + 1) m r))
+      → Good (onCarried a u (λ m r. replayFrom R is (k + 1) m r))
   traced-good is k u (moves c fs) (goesOn m r) h g e l f = f c fs m r (λ j. ap A (omega arith) ∙ e j) g h
   traced-good is k u (moves c fs) halts h g e l f = (k, l refl .0, l refl .1)
-  traced-good is k u (moves c fs) faults h g e l f = absurd h
+  traced-good is k u (moves c fs) fails h g e l f = absurd h
   traced-good is k u (refuses x) a h g e l f = absurd g
 
   -- the trace from an instruction on
   act-good : (i : Instruction) (is : List Instruction) (k : ℕ) (c : Arm) (fs : List Frame) (m : Mode) (r : Replay)
       → ((j : ℕ) → A (k + j) ≡ armAt R (i ∷ is) c fs j) → Accepts R (i ∷ is) c fs → Inv m (r .stacks) c fs
-      → (act R i (R .classOf (i .opcode)) m r ≡ halts → (k ≤ n) × (LiveAs (A k) (r .stacks))) → Rest is (k + 1)
-      → Good (traced (act R i (R .classOf (i .opcode)) m r) (r .stacks) (λ m r. replay R is (k + 1) m r))
+      → (act R i (R .classFor (i .opcode)) m r ≡ halts → (k ≤ n) × (LiveAs (A k) (r .stacks))) → Rest is (k + 1)
+      → Good (onCarried (act R i (R .classFor (i .opcode)) m r) (r .stacks) (λ m r. replayFrom R is (k + 1) m r))
   act-good i is k c fs m r e g h l f =
-      traced-good is k (r .stacks) (move R i (R .classOf (i .opcode)) c fs) (act R i (R .classOf (i .opcode)) m r)
-      (act-next R i r (R .classOf (i .opcode)) m c fs h) g (λ j. e (suc j)) l f
+      traced-good is k (r .stacks) (effect R i (R .classFor (i .opcode)) c fs) (act R i (R .classFor (i .opcode)) m r)
+      (act-next R i r (R .classFor (i .opcode)) m c fs h) g (λ j. e (suc j)) l f
 
   -- a replay that agrees with the marker, where the rest of the walk is accepted, goes on as the marker does
   pub sound : (is : List Instruction) (k : ℕ) (c : Arm) (fs : List Frame) (m : Mode) (r : Replay)
-      → ((j : ℕ) → A (k + j) ≡ armAt R is c fs j) → k + length is ≡ n → Accepts R is c fs → Inv m (r .stacks) c fs → Good (replay R is k m r)
-  unfolding replay
+      → ((j : ℕ) → A (k + j) ≡ armAt R is c fs j) → k + length is ≡ n → Accepts R is c fs → Inv m (r .stacks) c fs → Good (replayFrom R is k m r)
+  unfolding replayFrom
   sound [] k c fs m r e l g h = subst (λ a. LiveAs a (r .stacks)) (sym (e 0) ∙ ap A l) (no-mode-waits m (r .stacks) c fs g h)
   sound (i ∷ is) k c fs running r e l g h =
       let here : LiveAs (A k) (r .stacks) = subst (λ a. LiveAs a (r .stacks)) (sym (e 0) ∙ ap A (omega arith)) h in (
@@ -303,35 +314,32 @@ module _ (R : Rules) (A : ℕ → Arm) (n : ℕ) where
         here,
         act-good i is k c fs running r e g h (λ z. (omega arith, here)) (λ c fs m r e g h. sound is (k + 1) c fs m r e (omega arith) g h),
       )
-  sound (i ∷ is) k c fs (toElse d) r e l g h =
-      act-good i is k c fs (toElse d) r e g h (λ z. let y : _≡_ {A = ℕ} 0 1 = cc in absurd (omega arith))
-      (λ c fs m r e g h. sound is (k + 1) c fs m r e (omega arith) g h)
-  sound (i ∷ is) k c fs (toEndif d) r e l g h =
-      act-good i is k c fs (toEndif d) r e g h (λ z. let y : _≡_ {A = ℕ} 0 1 = cc in absurd (omega arith))
+  sound (i ∷ is) k c fs (jumping toElse d) r e l g h =
+      act-good i is k c fs (jumping toElse d) r e g h (λ z. let y : _≡_ {A = ℕ} 0 1 = cc in absurd (omega arith))
       (λ c fs m r e g h. sound is (k + 1) c fs m r e (omega arith) g h)
 
   -- what a trace that follows the arms says: of faults, of what it reaches, of the end and of its totals
-  pub good-faults : (t : Trace) → Good t → Faults t → ⊥
-  good-faults (reaches k u t) g h = good-faults t (g .2) h
+  pub good-faults : (t : Trace) → Good t → EndsInFault t → ⊥
+  good-faults (visit k u t) g h = good-faults t (g .2) h
   good-faults (offEnd u) g h = h
   good-faults (returned u) g h = h
   good-faults faulted g h = g
 
-  pub good-reaches : (t : Trace) → Good t → (k : ℕ) (u : Stacks Bytes) → Reaches k u t → (k < n) × (LiveAs (A k) u)
-  good-reaches (reaches j v t) g k u h =
+  pub good-reaches : (t : Trace) → Good t → (k : ℕ) (u : Stacks Bytes) → ReachedAt k u t → (k < n) × (LiveAs (A k) u)
+  good-reaches (visit j v t) g k u h =
       ⊎-elim (λ e. (rw (← e .0) (g .0), rw (← e .0, ← e .1) (g .1))) (λ l. good-reaches t (g .2) k u l) h
   good-reaches (offEnd v) g k u h = absurd h
   good-reaches (returned v) g k u h = absurd h
   good-reaches faulted g k u h = absurd h
 
-  pub good-runsOff : (t : Trace) → Good t → (u : Stacks Bytes) → RunsOff u t → LiveAs (A n) u
-  good-runsOff (reaches j v t) g u h = good-runsOff t (g .2) u h
+  pub good-runsOff : (t : Trace) → Good t → (u : Stacks Bytes) → RunsOffWith u t → LiveAs (A n) u
+  good-runsOff (visit j v t) g u h = good-runsOff t (g .2) u h
   good-runsOff (offEnd v) g u h = rw (← h) g
   good-runsOff (returned v) g u h = absurd h
   good-runsOff faulted g u h = absurd h
 
   pub good-total : (t : Trace) → Good t → (x : ℕ) → HasTotal x t → (k : ℕ) × (u : Stacks Bytes) × (k ≤ n) × (LiveAs (A k) u) × (total u ≡ x)
-  good-total (reaches j v t) g x h = ⊎-elim (λ e. (j, v, omega (arith, g .0), g .1, e)) (λ l. good-total t (g .2) x l) h
+  good-total (visit j v t) g x h = ⊎-elim (λ e. (j, v, omega (arith, g .0), g .1, e)) (λ l. good-total t (g .2) x l) h
   good-total (offEnd v) g x h = (n, v, omega arith, g, h)
   good-total (returned v) g x h = (g .0, v, g .1, g .2, h)
   good-total faulted g x h = absurd h
@@ -342,39 +350,39 @@ module _ (R : Rules) (x : ℕ) where
   abbrev Stays : Carried → Type 0
   Stays (goesOn m r) = total (r .stacks) ≤ R .limit
   Stays halts = Unit {0}
-  Stays faults = Unit {0}
+  Stays fails = Unit {0}
 
-  branches-stays : (o : Outcome Bytes) (choices : List Bool) (results : List Bytes) → Within (R .limit) o → Stays (branches o choices results)
-  branches-stays (done s) choices results h = h
-  branches-stays (refused r) choices results h = tt
+  carriedOut-stays : (o : Outcome Bytes) (m : Mode) (choices : List Bool) (results : List Bytes) → Within (R .limit) o → Stays (carriedOut o m choices results)
+  carriedOut-stays (done s) m choices results h = h
+  carriedOut-stays (refused r) m choices results h = tt
 
-  carriedOut-stays : (o : Outcome Bytes) (choices : List Bool) (results : List Bytes) → Within (R .limit) o → Stays (carriedOut o choices results)
-  carriedOut-stays (done s) choices results h = h
-  carriedOut-stays (refused r) choices results h = tt
+  branches-stays : (r : Replay) → total (r .stacks) ≤ R .limit → Stays (branches r)
+  branches-stays r h = carriedOut-stays (dropItems 1 (r .stacks)) _ _ _ (dropItems-within (R .limit) 1 (r .stacks) h)
 
   carry-stays : (i : Instruction) (k : Class) (r : Replay) → total (r .stacks) ≤ R .limit → Stays (carry R i k r)
-  carry-stays i IF r h = branches-stays (dropItems 1 (r .stacks)) (r .choices) (r .results) (dropItems-within (R .limit) 1 (r .stacks) h)
-  carry-stays i NOTIF r h = branches-stays (dropItems 1 (r .stacks)) (r .choices) (r .results) (dropItems-within (R .limit) 1 (r .stacks) h)
+  carry-stays i IF r h = branches-stays r h
+  carry-stays i NOTIF r h = branches-stays r h
   carry-stays i ELSE r h = h
   carry-stays i ENDIF r h = h
   carry-stays i RETURN r h = tt
   carry-stays i (ordinary o) r h =
-      carriedOut-stays (step (replaying (getD (r .results) 0 [])) R i o (r .stacks)) (r .choices) (resultsAfter o (r .results))
-      (step-within (replaying (getD (r .results) 0 [])) R i o (r .stacks) h)
+      carriedOut-stays (step (replaying (r .results)) R i o (r .stacks)) _ _ _ (step-within (replaying (r .results)) R i o (r .stacks) h)
+  carry-stays i (plain pops pushes) r h =
+      carriedOut-stays (plainStep (replaying (r .results)) (R .limit) pops pushes (r .stacks)) _ _ _
+      (plainStep-within (replaying (r .results)) (R .limit) pops pushes (r .stacks) h)
 
   traced-stays : (a : Carried) (u : Stacks Bytes) (next : Mode → Replay → Trace) → total u ≤ R .limit → Stays a
-      → ((m : Mode) (r : Replay) → total (r .stacks) ≤ R .limit → HasTotal x (next m r) → x ≤ R .limit) → HasTotal x (traced a u next) → x ≤ R .limit
+      → ((m : Mode) (r : Replay) → total (r .stacks) ≤ R .limit → HasTotal x (next m r) → x ≤ R .limit) → HasTotal x (onCarried a u next) → x ≤ R .limit
   traced-stays (goesOn m r) u next h s f p = f m r s p
   traced-stays halts u next h s f p = rw (← p) h
-  traced-stays faults u next h s f p = absurd p
+  traced-stays fails u next h s f p = absurd p
 
   -- a replay that starts within the limit stays within it
-  pub stays-within : (is : List Instruction) (k : ℕ) (m : Mode) (r : Replay) → total (r .stacks) ≤ R .limit → HasTotal x (replay R is k m r) → x ≤ R .limit
-  unfolding replay
+  pub stays-within : (is : List Instruction) (k : ℕ) (m : Mode) (r : Replay) → total (r .stacks) ≤ R .limit → HasTotal x (replayFrom R is k m r) → x ≤ R .limit
+  unfolding replayFrom
   stays-within [] k m r h p = rw (← p) h
   stays-within (i ∷ is) k running r h p =
       ⊎-elim (λ e. rw (← e) h)
-      (λ q. traced-stays (carry R i (R .classOf (i .opcode)) r) (r .stacks) (λ m t. replay R is (k + 1) m t) h (carry-stays i (R .classOf (i .opcode)) r h)
+      (λ q. traced-stays (carry R i (R .classFor (i .opcode)) r) (r .stacks) (λ m t. replayFrom R is (k + 1) m t) h (carry-stays i (R .classFor (i .opcode)) r h)
       (λ m t g q. stays-within is (k + 1) m t g q) q) p
-  stays-within (i ∷ is) k (toElse n) r h p = stays-within is (k + 1) (pastElse (R .classOf (i .opcode)) n) r h p
-  stays-within (i ∷ is) k (toEndif n) r h p = stays-within is (k + 1) (pastEndif (R .classOf (i .opcode)) n) r h p
+  stays-within (i ∷ is) k (jumping toElse n) r h p = stays-within is (k + 1) (past (R .classFor (i .opcode)) toElse n) r h p

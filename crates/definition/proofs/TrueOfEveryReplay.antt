@@ -13,19 +13,19 @@ use lib.ListN.{length, getD, take, drop, replicate, length-drop, length-replicat
 use Rattle.definition.specs.Basics.{Bytes, pick}
 use Rattle.definition.specs.Decoding.{Instruction, Code, decode, instructions, malformedAt}
 use Rattle.definition.specs.Refusals.{Refusal, malformedFragment, nesting, altDry, badIndex, badTag, armsDiffer, strayElse, secondElse, strayEndif, openIf, badHeader, tallyFull, longFragment, unmodelledOpcode, opcodeCount, scriptSize, longPaper, startTooLarge, shortLog, stacksFull, mainDry, dispatchTooLarge, maxFragment, refusedAt}
-use Rattle.definition.specs.Stacks.{Rules, builtIn, Stacks, total}
-use Rattle.definition.specs.Walk.{Item, unknown, Arm, dead, live, mainHeight, altHeight, State, totalOf, Walked, passed, stopped, walk, Marked, refusedEarly, marked, begin, tested, analysisOf, unknowns, analysis}
-use Rattle.definition.specs.Replay.{Replay, running, Trace, reaches, offEnd, returned, faulted, replay, trace, Reaches, RunsOff, HasTotal, ShowsArm, AreStrings, ReplayOf, heightsAt, Demand3, TrueOfEveryReplay}
+use Rattle.definition.specs.Stacks.{Rules, builtIn, Stacks, total, stackHeights}
+use Rattle.definition.specs.Walk.{Item, unknown, Arm, dead, live, heightsOf, State, totalOf, WalkEnd, passed, stopped, walk, Marked, refusedEarly, answered, begin, tested, analysisOf, unknowns, analysis}
+use Rattle.definition.specs.Replay.{Replay, running, Trace, visit, offEnd, returned, faulted, replayFrom, wholeReplay, ReachedAt, RunsOffWith, HasTotal, TotalsWithin, ShowsArm, AreStrings, ReplayOf, EveryReplay, SomeReplay, heightsAt, LiveRow, SomeReplayReaches, Demand3, TrueOfEveryReplay}
 use Rattle.definition.proofs.Related.{pairedStacks, shownStacks, paired-length, paired-total}
-use Rattle.definition.proofs.Arms.{Accepts, armAt, Alive, Row, Tops, accepts, end-at, log-length, row-at, peak-over, peak-at}
+use Rattle.definition.proofs.Arms.{Accepts, armAt, Alive, mainHeight, altHeight, both-heights, Row, Tops, accepts, end-at, log-length, row-at, peak-over, peak-at}
 use Rattle.definition.proofs.Sound.{LiveAs, Good, sound, good-faults, good-reaches, good-runsOff, good-total, stays-within}
 use Rattle.definition.proofs.Complete.{stringsFor, ExactBytes, comes}
 
 -- A live arm
 
-live-heights : (c : Arm) (u : Stacks Bytes) → LiveAs c u → (mainHeight c ≡ length (u .main)) × (altHeight c ≡ length (u .alt)) × (totalOf c ≡ total u)
+live-heights : (c : Arm) (u : Stacks Bytes) → LiveAs c u → (heightsOf c ≡ stackHeights u) × (totalOf c ≡ total u)
 live-heights dead u h = absurd h
-live-heights (live s) u h = (paired-length (h .main), paired-length (h .alt), paired-total h)
+live-heights (live s) u h = (rw (paired-length (h .main), paired-length (h .alt)), paired-total h)
 
 live-shows : (c : Arm) (u : Stacks Bytes) → LiveAs c u → ShowsArm c u
 live-shows dead u h = h
@@ -51,34 +51,34 @@ heights-there log k h = two-at log (3 * k + 1) (3 * k + 2) (omega arith) h
 two-same : (a b c d : ℕ) → (a ∷ b ∷ []) ≡ (c ∷ d ∷ []) → (a ≡ c) × (b ≡ d)
 two-same a b c d e = (ap (λ (l : List ℕ). getD l 0 0) e, ap (λ (l : List ℕ). getD l 1 0) e)
 
-row-heights : (log : List ℕ) (k : ℕ) (c : Arm) → 3 * k + 2 < length log → Row log k c → heightsAt k log ≡ (mainHeight c ∷ altHeight c ∷ [])
-row-heights log k c h r = rw (heights-there log k h, r .0, r .1)
+row-heights : (log : List ℕ) (k : ℕ) (c : Arm) → 3 * k + 2 < length log → Row log k c → heightsAt k log ≡ heightsOf c
+row-heights log k c h r = rw (heights-there log k h, r .0, r .1) (sym (both-heights c))
 
-logged-alive : (log : List ℕ) (k : ℕ) (c : Arm) → heightsAt k log ≡ (mainHeight c ∷ altHeight c ∷ []) → (heightsAt k log ≡ (65535 ∷ 65535 ∷ []) → ⊥) → Alive c
+logged-alive : (log : List ℕ) (k : ℕ) (c : Arm) → heightsAt k log ≡ heightsOf c → LiveRow k log → Alive c
 logged-alive log k dead h n = absurd (n h)
 logged-alive log k (live s) h n = tt
 
 -- A running replay reaches the next instruction, or runs off the end; either way its total is counted.
 
-reaches-total : (k : ℕ) (u : Stacks Bytes) (t : Trace) → Reaches k u t → HasTotal (total u) t
-reaches-total k u (reaches j v t) h = ⊎-elim (λ e. inl (ap (λ (w : Stacks Bytes). total w) (e .1))) (λ l. inr (reaches-total k u t l)) h
+reaches-total : (k : ℕ) (u : Stacks Bytes) (t : Trace) → ReachedAt k u t → HasTotal (total u) t
+reaches-total k u (visit j v t) h = ⊎-elim (λ e. inl (ap (λ (w : Stacks Bytes). total w) (e .1))) (λ l. inr (reaches-total k u t l)) h
 reaches-total k u (offEnd v) h = absurd h
 reaches-total k u (returned v) h = absurd h
 reaches-total k u faulted h = absurd h
 
 module _ (R : Rules) (k : ℕ) (r : Replay) where
-  first-reached : (is : List Instruction) → 0 < length is → Reaches k (r .stacks) (replay R is k running r)
-  unfolding replay
+  first-reached : (is : List Instruction) → 0 < length is → ReachedAt k (r .stacks) (replayFrom R is k running r)
+  unfolding replayFrom
   first-reached [] h = absurd (omega arith)
   first-reached (i ∷ is) h = inl (refl, refl)
 
-  nothing-left : (is : List Instruction) → length is ≡ 0 → RunsOff (r .stacks) (replay R is k running r)
-  unfolding replay
+  nothing-left : (is : List Instruction) → length is ≡ 0 → RunsOffWith (r .stacks) (replayFrom R is k running r)
+  unfolding replayFrom
   nothing-left [] h = refl
   nothing-left (i ∷ is) h = absurd (omega arith)
 
-  total-here : (is : List Instruction) → HasTotal (total (r .stacks)) (replay R is k running r)
-  unfolding replay
+  total-here : (is : List Instruction) → HasTotal (total (r .stacks)) (replayFrom R is k running r)
+  unfolding replayFrom
   total-here [] = refl
   total-here (i ∷ is) = inl refl
 
@@ -94,49 +94,47 @@ module _ (R : Rules) (is : List Instruction) (s : Stacks Item) (log : List ℕ) 
   moves-on = accepts R t is (begin s log) accepted
 
   -- every replay follows these arms
-  follows : (r : Replay) → ReplayOf is s r → Good R A (length is) (trace R is r)
+  follows : (r : Replay) → ReplayOf is s r → Good R A (length is) (wholeReplay R is r)
   follows r p = sound R A (length is) is 0 (live s) [] running r (λ j. let e : 0 + j ≡ j = omega arith in ap A e) (omega arith) moves-on (pairedStacks (p .start))
 
   -- and the log tells of them
-  row : (k : ℕ) → k < length is → heightsAt k (t .log) ≡ (mainHeight (A k) ∷ altHeight (A k) ∷ [])
+  row : (k : ℕ) → k < length is → heightsAt k (t .log) ≡ heightsOf (A k)
   row k h =
       row-heights (t .log) k (A k) (omega (arith, log-length R t is (begin s log) accepted))
       (subst (λ j. Row (t .log) j (A k)) (omega arith) (row-at R t is (begin s log) accepted (omega arith) k h))
 
   -- withinLimit
-  within : (r : Replay) → ReplayOf is s r → (n : ℕ) → HasTotal n (trace R is r) → n ≤ R .limit
+  within : EveryReplay R is s (λ z. TotalsWithin (R .limit) z)
   within r p n h = stays-within R n is 0 running r (rw (← paired-total (pairedStacks (p .start))) start) h
 
   -- heights
-  logged : (r : Replay) → ReplayOf is s r → (k : ℕ) (u : Stacks Bytes) → Reaches k u (trace R is r)
-      → heightsAt k (t .log) ≡ (length (u .main) ∷ length (u .alt) ∷ [])
+  logged : EveryReplay R is s (λ z. (k : ℕ) (u : Stacks Bytes) → ReachedAt k u z → heightsAt k (t .log) ≡ stackHeights u)
   logged r p k u h =
-      let g = good-reaches R A (length is) (trace R is r) (follows r p) k u h in
-      let e = live-heights (A k) u (g .1) in
-      row k (g .0) ∙ rw (e .0, e .1)
+      let g = good-reaches R A (length is) (wholeReplay R is r) (follows r p) k u h in
+      row k (g .0) ∙ live-heights (A k) u (g .1) .0
 
   -- ending
-  end-live : (r : Replay) → ReplayOf is s r → (u : Stacks Bytes) → RunsOff u (trace R is r) → LiveAs (t .arm) u
-  end-live r p u h = subst (λ c. LiveAs c u) (sym (end-at R t is (begin s log) accepted)) (good-runsOff R A (length is) (trace R is r) (follows r p) u h)
+  end-live : EveryReplay R is s (λ z. (u : Stacks Bytes) → RunsOffWith u z → LiveAs (t .arm) u)
+  end-live r p u h = subst (λ c. LiveAs c u) (sym (end-at R t is (begin s log) accepted)) (good-runsOff R A (length is) (wholeReplay R is r) (follows r p) u h)
 
   -- liveness: a row that is not dead is reached ..
-  reached : (k : ℕ) → k < length is → (heightsAt k (t .log) ≡ (65535 ∷ 65535 ∷ []) → ⊥) → (r : Replay) × (u : Stacks Bytes) × (ReplayOf is s r) × (Reaches k u (trace R is r))
+  reached : (k : ℕ) → k < length is → LiveRow k (t .log) → SomeReplayReaches R is s k
   reached k lt h =
-      let c = comes R is s exacts moves-on k (logged-alive (t .log) k (A k) (row k lt) h) (λ z. (u : Stacks Bytes) × (Reaches k u z)) (λ j v z q. (q .0, inr (q .1)))
-      (λ r l. (r .stacks, first-reached R k r (drop k is) (rw length-drop (omega arith)))) in
-      (c .0, c .2 .0, c .1, c .2 .1)
+      comes R is s exacts moves-on k (logged-alive (t .log) k (A k) (row k lt) h) (λ z. (u : Stacks Bytes) × (ReachedAt k u z)) (λ j v z q. (q .0, inr (q .1)))
+      (λ r l. (r .stacks, first-reached R k r (drop k is) (rw length-drop (omega arith))))
 
   -- .. and what is reached has a row that is not dead: a height is at most the limit
-  not-dead : (k : ℕ) → ((r : Replay) × (u : Stacks Bytes) × (ReplayOf is s r) × (Reaches k u (trace R is r))) → heightsAt k (t .log) ≡ (65535 ∷ 65535 ∷ []) → ⊥
+  not-dead : (k : ℕ) → SomeReplayReaches R is s k → LiveRow k (t .log)
   not-dead k q d =
-      let e = logged (q .0) (q .2) k (q .1) (q .3) in
-      let l = within (q .0) (q .2) (total (q .1)) (reaches-total k (q .1) (trace R is (q .0)) (q .3)) in
+      let u = q .2 in
+      let e = logged (q .0) (q .1) k (u .0) (u .1) in
+      let l = within (q .0) (q .1) (total (u .0)) (reaches-total k (u .0) (wholeReplay R is (q .0)) (u .1)) in
       omega (arith, two-same _ _ _ _ (sym e ∙ d) .0)
 
   -- noEnd: where the end is live, some replay runs off the end
-  runs-off : Alive (t .arm) → ((r : Replay) → ReplayOf is s r → (u : Stacks Bytes) → RunsOff u (trace R is r) → ⊥) → ⊥
+  runs-off : Alive (t .arm) → EveryReplay R is s (λ z. (u : Stacks Bytes) → RunsOffWith u z → ⊥) → ⊥
   runs-off a f =
-      let c = comes R is s exacts moves-on (length is) (subst Alive (end-at R t is (begin s log) accepted) a) (λ z. (u : Stacks Bytes) × (RunsOff u z)) (λ j v z q. q)
+      let c = comes R is s exacts moves-on (length is) (subst Alive (end-at R t is (begin s log) accepted) a) (λ z. (u : Stacks Bytes) × (RunsOffWith u z)) (λ j v z q. q)
       (λ r l. (r .stacks, nothing-left R (length is) r (drop (length is) is) (rw length-drop (omega arith)))) in
       f (c .0) (c .1) (c .2 .0) (c .2 .1)
 
@@ -145,24 +143,24 @@ module _ (R : Rules) (is : List Instruction) (s : Stacks Item) (log : List ℕ) 
   peak-place = ⊎-elim (λ e. (0, (tt, e))) (λ q. (q .0, q .2)) (peak-at R t is (begin s log) accepted)
 
   -- peakBounds
-  bounded : (r : Replay) → ReplayOf is s r → (n : ℕ) → HasTotal n (trace R is r) → n ≤ t .peak
+  bounded : EveryReplay R is s (λ z. TotalsWithin (t .peak) z)
   bounded r p n h =
-      let g = good-total R A (length is) (trace R is r) (follows r p) n h in
+      let g = good-total R A (length is) (wholeReplay R is r) (follows r p) n h in
       let e = live-heights (A (g .0)) (g .1) (g .3) in
       let q = peak-over R t is (begin s log) accepted (omega arith) (g .0) (g .2) in
-      omega (arith, e .2, g .4)
+      omega (arith, e .1, g .4)
 
   -- peakReached: a replay comes to that arm's place, and there its total is counted
-  peaked : (r : Replay) × (ReplayOf is s r) × (HasTotal (t .peak) (trace R is r))
+  peaked : SomeReplay R is s (λ z. HasTotal (t .peak) z)
   peaked =
       let p = peak-place in
       comes R is s exacts moves-on (p .0) (p .1 .0) (λ z. HasTotal (t .peak) z) (λ j v z q. inr q)
-      (λ r l. subst (λ n. HasTotal n (replay R (drop (p .0) is) (p .0) running r)) (sym (live-heights (A (p .0)) (r .stacks) l .2) ∙ sym (p .1 .1))
+      (λ r l. subst (λ n. HasTotal n (replayFrom R (drop (p .0) is) (p .0) running r)) (sym (live-heights (A (p .0)) (r .stacks) l .1) ∙ sym (p .1 .1))
       (total-here R (p .0) r (drop (p .0) is)))
 
-  pub trueOfWalk : Demand3 R is s (marked (passed t))
+  pub trueOfWalk : Demand3 R is s (answered (passed t))
   trueOfWalk = record {
-    noFault = λ r p h. good-faults R A (length is) (trace R is r) (follows r p) h;
+    noFault = λ r p h. good-faults R A (length is) (wholeReplay R is r) (follows r p) h;
     withinLimit = within;
     heights = logged;
     ending = λ r p u h. live-shows (t .arm) u (end-live r p u h);
@@ -203,7 +201,7 @@ refused-number at (dispatchTooLarge n m) h = omega (arith, h)
 module _ (R : Rules) (P : Marked → Type 0) where
   ofCode : (code : Code) (s : Stacks Item) (log : List ℕ)
       → ((t : State) → 3 * length (instructions code) ≤ length log → walk R (instructions code) (begin s log) ≡ passed t
-      → P (marked (passed t)))
+      → P (answered (passed t)))
       → analysisOf R code s log .verdict .answer .number ≡ 0 → P (analysisOf R code s log)
   unfolding analysisOf
   ofCode code s log f h = whole (malformedAt code) h
@@ -211,14 +209,14 @@ module _ (R : Rules) (P : Marked → Type 0) where
       is : List Instruction
       is = instructions code
 
-      ended : 3 * length is ≤ length log → (w : Walked) → walk R is (begin s log) ≡ w → marked w .verdict .answer .number ≡ 0
-          → P (marked w)
+      ended : 3 * length is ≤ length log → (w : WalkEnd) → walk R is (begin s log) ≡ w → answered w .verdict .answer .number ≡ 0
+          → P (answered w)
       ended l (passed t) e h = f t l e
       ended l (stopped r t) e h = absurd (refused-number (t .offset) r h)
 
       lent : (b : Bool) → leb (3 * length is) (length log) ≡ b
-          → pick b (marked (walk R is (begin s log))) (refusedEarly 0 (shortLog (3 * length is) (length log)) log) .verdict .answer .number ≡ 0
-          → P (pick b (marked (walk R is (begin s log))) (refusedEarly 0 (shortLog (3 * length is) (length log)) log))
+          → pick b (answered (walk R is (begin s log))) (refusedEarly 0 (shortLog (3 * length is) (length log)) log) .verdict .answer .number ≡ 0
+          → P (pick b (answered (walk R is (begin s log))) (refusedEarly 0 (shortLog (3 * length is) (length log)) log))
       lent true e h = ended (leb-true (3 * length is) (length log) e) (walk R is (begin s log)) refl h
       lent false e h = absurd (omega (arith, h))
 
@@ -228,7 +226,7 @@ module _ (R : Rules) (P : Marked → Type 0) where
 
   pub ofAnalysis : (fragment : Bytes) (main alt : ℕ) (log : List ℕ)
       → (main + alt ≤ R .limit → (t : State) → 3 * length (instructions (decode fragment)) ≤ length log
-      → walk R (instructions (decode fragment)) (begin (unknowns main alt) log) ≡ passed t → P (marked (passed t)))
+      → walk R (instructions (decode fragment)) (begin (unknowns main alt) log) ≡ passed t → P (answered (passed t)))
       → analysis R fragment main alt log .verdict .answer .number ≡ 0 → P (analysis R fragment main alt log)
   unfolding analysis
   ofAnalysis fragment main alt log f h = long (ltb maxFragment (length fragment)) h

@@ -15,7 +15,7 @@ use Rattle.definition.specs.Decoding.{Instruction, decode, instructions}
 use Rattle.definition.specs.Refusals.{maxPaper, badHeader, dispatchTooLarge, longPaper}
 use Rattle.definition.specs.Stacks.{Rules, Stacks, builtIn}
 use Rattle.definition.specs.Walk.{Item, dead, Verdict, Marked, begin, unknowns, analysis}
-use Rattle.definition.specs.Replay.{Replay, Mode, running, toElse, toEndif, Carried, goesOn, halts, faults, carry, pastElse, pastEndif, Trace, traced, replay, Reaches, heightsAt, Demand3}
+use Rattle.definition.specs.Replay.{Replay, Mode, running, jumping, Carried, goesOn, halts, fails, carry, past, Trace, onCarried, replayFrom, ReachedAt, heightsAt, Demand3}
 use Rattle.definition.specs.Papers.{Entry, Fragment, PaperMarked, after, markFrom, dispatch, refusedPaper, markPaper, goodHeader, stateFields, entries, fragments, EachTrue, TrueOfPaper}
 use Rattle.definition.proofs.Arms.{rows-all, log-length}
 use Rattle.definition.proofs.TrueOfEveryReplay.{ofAnalysis, trueOfEveryReplay}
@@ -25,20 +25,19 @@ use Rattle.definition.proofs.TrueOfEveryReplay.{ofAnalysis, trueOfEvery
 -- a replay reaches places below the number of instructions
 module _ (R : Rules) (k : ℕ) (u : Stacks Bytes) where
   traced-below : (n : ℕ) (a : Carried) (s : Stacks Bytes) (next : Mode → Replay → Trace)
-      → ((m : Mode) (r : Replay) → Reaches k u (next m r) → k < n) → Reaches k u (traced a s next) → k < n
+      → ((m : Mode) (r : Replay) → ReachedAt k u (next m r) → k < n) → ReachedAt k u (onCarried a s next) → k < n
   traced-below n (goesOn m r) s next f h = f m r h
   traced-below n halts s next f h = absurd h
-  traced-below n faults s next f h = absurd h
+  traced-below n fails s next f h = absurd h
 
-  reached-below : (is : List Instruction) (j : ℕ) (m : Mode) (r : Replay) → Reaches k u (replay R is j m r) → k < j + length is
-  unfolding replay
+  reached-below : (is : List Instruction) (j : ℕ) (m : Mode) (r : Replay) → ReachedAt k u (replayFrom R is j m r) → k < j + length is
+  unfolding replayFrom
   reached-below [] j m r h = absurd h
   reached-below (i ∷ is) j running r h =
       ⊎-elim (λ e. omega (arith, e .0))
-      (λ q. traced-below (j + suc (length is)) (carry R i (R .classOf (i .opcode)) r) (r .stacks) (λ m t. replay R is (j + 1) m t)
+      (λ q. traced-below (j + suc (length is)) (carry R i (R .classFor (i .opcode)) r) (r .stacks) (λ m t. replayFrom R is (j + 1) m t)
       (λ m t g. omega (arith, reached-below is (j + 1) m t g)) q) h
-  reached-below (i ∷ is) j (toElse n) r h = omega (arith, reached-below is (j + 1) (pastElse (R .classOf (i .opcode)) n) r h)
-  reached-below (i ∷ is) j (toEndif n) r h = omega (arith, reached-below is (j + 1) (pastEndif (R .classOf (i .opcode)) n) r h)
+  reached-below (i ∷ is) j (jumping toElse n) r h = omega (arith, reached-below is (j + 1) (past (R .classFor (i .opcode)) toElse n) r h)
 
 -- demand 3 holds of any log with the same heights for each instruction
 other-log : (R : Rules) (is : List Instruction) (s : Stacks Item) (m : Marked) (log : List ℕ)

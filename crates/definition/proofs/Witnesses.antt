@@ -10,9 +10,9 @@ use Rattle.definition.specs.Basics.{Bytes}
 use Rattle.definition.specs.Decoding.{front, decode, instructions, serialize, deserialize}
 use Rattle.definition.specs.Classes.{classNumber, classOf}
 use Rattle.definition.specs.Refusals.{accepted, answer}
-use Rattle.definition.specs.Stacks.{builtIn, Stacks, pushItem, dropItems, copyItems, step}
+use Rattle.definition.specs.Stacks.{builtIn, Stacks, pushItem, dropItems, copyItems, step, plainStep}
 use Rattle.definition.specs.Walk.{live, unknown, joinStacks, logRow, walk, analysisOf, unknowns, analysis}
-use Rattle.definition.specs.Replay.{Replay, reaches, offEnd, returned, faulted, replay, trace, Faults, ShowsAll, ReplayOf, Demand3}
+use Rattle.definition.specs.Replay.{Replay, visit, offEnd, returned, faulted, replayFrom, wholeReplay, EndsInFault, ShowsAll, ReplayOf, Demand3}
 use Rattle.definition.proofs.Complete.{no-bytes}
 use Rattle.definition.proofs.TrueOfEveryReplay.{trueOfEveryReplay}
 
@@ -36,12 +36,12 @@ pub nestedMarked : analysis builtIn nested 2 0 (replicate 42 0)
           0 ∷ 2 ∷ 0 ∷ 1 ∷ 3 ∷ 0 ∷ 2 ∷ 2 ∷ 0 ∷ 3 ∷ 1 ∷ 0 ∷ 4 ∷ 2 ∷ 0 ∷ 5 ∷ 1 ∷ 0 ∷ 6 ∷ 2 ∷ 0 ∷ 7 ∷ 65535 ∷ 65535 ∷ 8 ∷ 65535 ∷ 65535 ∷ 9 ∷ 2 ∷ 0 ∷
           10 ∷ 2 ∷ 0 ∷ 11 ∷ 1 ∷ 0 ∷ 12 ∷ 2 ∷ 0 ∷ 13 ∷ 2 ∷ 0 ∷ [];
     }
-unfolding nested analysis analysisOf walk logRow joinStacks step pushItem dropItems copyItems classOf classNumber decode front serialize deserialize
+unfolding nested analysis analysisOf walk logRow joinStacks step plainStep pushItem dropItems copyItems classOf classNumber decode front serialize deserialize
 nestedMarked = refl
 
 -- so the theorem speaks of it
 pub nestedTrue : Demand3 builtIn (instructions (decode nested)) (unknowns 2 0) (analysis builtIn nested 2 0 (replicate 42 0))
-unfolding nested analysis analysisOf walk logRow joinStacks step pushItem dropItems copyItems classOf classNumber decode front serialize deserialize
+unfolding nested analysis analysisOf walk logRow joinStacks step plainStep pushItem dropItems copyItems classOf classNumber decode front serialize deserialize
 nestedTrue = trueOfEveryReplay nested 2 0 (replicate 42 0) refl
 
 -- Three replays of it, from the items 07 and 08 09, the first on top.
@@ -61,28 +61,28 @@ nestedReplay choices h = record {
 
 -- into both first arms: it meets each ELSE, and jumps past each ENDIF
 pub inner : (ReplayOf (instructions (decode nested)) (unknowns 2 0) (from items (replicate 14 true)))
-    × (trace builtIn (instructions (decode nested)) (from items (replicate 14 true))
-    ≡ reaches 0 (on items) (reaches 1 (on ((1 ∷ []) ∷ items)) (reaches 2 (on items) (reaches 3 (on ((8 ∷ 9 ∷ []) ∷ []))
-    (reaches 4 (on ([] ∷ (8 ∷ 9 ∷ []) ∷ [])) (reaches 9 (on ([] ∷ (8 ∷ 9 ∷ []) ∷ [])) (reaches 13 (on ([] ∷ (8 ∷ 9 ∷ []) ∷ []))
+    × (wholeReplay builtIn (instructions (decode nested)) (from items (replicate 14 true))
+    ≡ visit 0 (on items) (visit 1 (on ((1 ∷ []) ∷ items)) (visit 2 (on items) (visit 3 (on ((8 ∷ 9 ∷ []) ∷ []))
+    (visit 4 (on ([] ∷ (8 ∷ 9 ∷ []) ∷ [])) (visit 9 (on ([] ∷ (8 ∷ 9 ∷ []) ∷ [])) (visit 13 (on ([] ∷ (8 ∷ 9 ∷ []) ∷ []))
     (offEnd (on ((8 ∷ 9 ∷ []) ∷ (8 ∷ 9 ∷ []) ∷ []))))))))))
-unfolding nested replay step pushItem dropItems copyItems classOf classNumber decode front serialize deserialize
+unfolding nested replayFrom step plainStep pushItem dropItems copyItems classOf classNumber decode front serialize deserialize
 inner = (nestedReplay (replicate 14 true) refl, refl)
 
 -- past the outer ELSE, over the inner conditional: it meets the outer ENDIF
 pub outer : (ReplayOf (instructions (decode nested)) (unknowns 2 0) (from items (false ∷ replicate 13 true)))
-    × (trace builtIn (instructions (decode nested)) (from items (false ∷ replicate 13 true))
-    ≡ reaches 0 (on items) (reaches 1 (on ((1 ∷ []) ∷ items)) (reaches 10 (on items) (reaches 11 (on ((8 ∷ 9 ∷ []) ∷ []))
-    (reaches 12 (on ([] ∷ (8 ∷ 9 ∷ []) ∷ [])) (reaches 13 (on ([] ∷ (8 ∷ 9 ∷ []) ∷ []))
+    × (wholeReplay builtIn (instructions (decode nested)) (from items (false ∷ replicate 13 true))
+    ≡ visit 0 (on items) (visit 1 (on ((1 ∷ []) ∷ items)) (visit 10 (on items) (visit 11 (on ((8 ∷ 9 ∷ []) ∷ []))
+    (visit 12 (on ([] ∷ (8 ∷ 9 ∷ []) ∷ [])) (visit 13 (on ([] ∷ (8 ∷ 9 ∷ []) ∷ []))
     (offEnd (on ((8 ∷ 9 ∷ []) ∷ (8 ∷ 9 ∷ []) ∷ [])))))))))
-unfolding nested replay step pushItem dropItems copyItems classOf classNumber decode front serialize deserialize
+unfolding nested replayFrom step plainStep pushItem dropItems copyItems classOf classNumber decode front serialize deserialize
 outer = (nestedReplay (false ∷ replicate 13 true) refl, refl)
 
 -- into the outer first arm and past the inner ELSE: it ends at RETURN
 pub returns : (ReplayOf (instructions (decode nested)) (unknowns 2 0) (from items (true ∷ false ∷ replicate 12 true)))
-    × (trace builtIn (instructions (decode nested)) (from items (true ∷ false ∷ replicate 12 true))
-    ≡ reaches 0 (on items) (reaches 1 (on ((1 ∷ []) ∷ items)) (reaches 2 (on items) (reaches 5 (on ((8 ∷ 9 ∷ []) ∷ []))
-    (reaches 6 (on ((2 ∷ []) ∷ (8 ∷ 9 ∷ []) ∷ [])) (returned (on ((2 ∷ []) ∷ (8 ∷ 9 ∷ []) ∷ []))))))))
-unfolding nested replay step pushItem dropItems copyItems classOf classNumber decode front serialize deserialize
+    × (wholeReplay builtIn (instructions (decode nested)) (from items (true ∷ false ∷ replicate 12 true))
+    ≡ visit 0 (on items) (visit 1 (on ((1 ∷ []) ∷ items)) (visit 2 (on items) (visit 5 (on ((8 ∷ 9 ∷ []) ∷ []))
+    (visit 6 (on ((2 ∷ []) ∷ (8 ∷ 9 ∷ []) ∷ [])) (returned (on ((2 ∷ []) ∷ (8 ∷ 9 ∷ []) ∷ []))))))))
+unfolding nested replayFrom step plainStep pushItem dropItems copyItems classOf classNumber decode front serialize deserialize
 returns = (nestedReplay (true ∷ false ∷ replicate 12 true) refl, refl)
 
 -- 63 51 79 68 from (1, 0) is refused, 7 at 2: PICK at index 1 needs two items and has none
@@ -90,14 +90,14 @@ pub dry : Bytes
 dry = 0x63 ∷ 0x51 ∷ 0x79 ∷ 0x68 ∷ []
 
 pub dryMarked : analysis builtIn dry 1 0 (replicate 12 0) .verdict .answer ≡ answer 7 2 2 0
-unfolding dry analysis analysisOf walk logRow joinStacks step pushItem dropItems copyItems classOf classNumber decode front serialize deserialize
+unfolding dry analysis analysisOf walk logRow joinStacks step plainStep pushItem dropItems copyItems classOf classNumber decode front serialize deserialize
 dryMarked = refl
 
 -- and the replay that enters its arm faults there
 pub faulty : (ReplayOf (instructions (decode dry)) (unknowns 1 0) (from ([] ∷ []) (replicate 4 true)))
-    × (trace builtIn (instructions (decode dry)) (from ([] ∷ []) (replicate 4 true))
-    ≡ reaches 0 (on ([] ∷ [])) (reaches 1 (on []) (reaches 2 (on ((1 ∷ []) ∷ [])) faulted)))
-unfolding dry replay step pushItem dropItems copyItems classOf classNumber decode front serialize deserialize
+    × (wholeReplay builtIn (instructions (decode dry)) (from ([] ∷ []) (replicate 4 true))
+    ≡ visit 0 (on ([] ∷ [])) (visit 1 (on []) (visit 2 (on ((1 ∷ []) ∷ [])) faulted)))
+unfolding dry replayFrom step plainStep pushItem dropItems copyItems classOf classNumber decode front serialize deserialize
 faulty = (
   record {
     start = record { main = (tt, tt); alt = tt };
@@ -115,13 +115,13 @@ pub cautious : Bytes
 cautious = 0x51 ∷ 0x63 ∷ 0x51 ∷ 0x67 ∷ 0x52 ∷ 0x68 ∷ 0x79 ∷ []
 
 pub cautiousMarked : analysis builtIn cautious 3 0 (replicate 21 0) .verdict .answer ≡ answer 9 6 0 0
-unfolding cautious analysis analysisOf walk logRow joinStacks step pushItem dropItems copyItems classOf classNumber decode front serialize deserialize
+unfolding cautious analysis analysisOf walk logRow joinStacks step plainStep pushItem dropItems copyItems classOf classNumber decode front serialize deserialize
 cautiousMarked = refl
 
 -- .. and no replay of it faults: PICK finds its item at 1 and at 2
 picks : (main alt : List Bytes) (choices : List Bool) (results : List Bytes) → ShowsAll (replicate 3 unknown) main → ShowsAll [] alt
-    → Faults (trace builtIn (instructions (decode cautious)) (record { stacks = record { main = main; alt = alt }; choices = choices; results = results })) → ⊥
-unfolding cautious replay step pushItem dropItems copyItems classOf classNumber decode front serialize deserialize
+    → EndsInFault (wholeReplay builtIn (instructions (decode cautious)) (record { stacks = record { main = main; alt = alt }; choices = choices; results = results })) → ⊥
+unfolding cautious replayFrom step plainStep pushItem dropItems copyItems classOf classNumber decode front serialize deserialize
 picks [] alt choices results m a h = m
 picks (x ∷ []) alt choices results m a h = m .1
 picks (x ∷ y ∷ []) alt choices results m a h = m .1 .1
@@ -131,5 +131,5 @@ picks (x ∷ y ∷ z ∷ []) [] (false ∷ choices) results m a h = h
 picks (x ∷ y ∷ z ∷ []) (b ∷ alt) choices results m a h = a
 picks (x ∷ y ∷ z ∷ w ∷ l) alt choices results m a h = m .1 .1 .1
 
-pub noneFaults : (r : Replay) → ReplayOf (instructions (decode cautious)) (unknowns 3 0) r → Faults (trace builtIn (instructions (decode cautious)) r) → ⊥
+pub noneFaults : (r : Replay) → ReplayOf (instructions (decode cautious)) (unknowns 3 0) r → EndsInFault (wholeReplay builtIn (instructions (decode cautious)) r) → ⊥
 noneFaults r p h = picks (r .stacks .main) (r .stacks .alt) (r .choices) (r .results) (p .start .main) (p .start .alt) h

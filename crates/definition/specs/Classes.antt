@@ -6,20 +6,21 @@ use lib.Dec.{leb}
 use lib.ListN.{getD}
 use Rattle.definition.specs.Basics.{pick}
 
--- what an ordinary opcode does to the stacks (Section 3)
+-- what an ordinary opcode, other than the plain ones, does to the stacks (Section 3)
 pub data Ordinary : Type 0 where
   unmodelled push nothing TOALT FROMALT DEPTH SIZE NIP TUCK PICK ROLL ZK : Ordinary
   -- depth and count; count and shift
   copies rotates : ℕ → ℕ → Ordinary
-  -- pops this many, and pushes no item, or one
-  drops makes : ℕ → Ordinary
 
 -- what an opcode is to the walk (Section 4) and to a replay (Section 5)
 pub data Class : Type 0 where
   IF NOTIF ELSE ENDIF RETURN : Class
   ordinary : Ordinary → Class
+  -- ordinary too, and given by how many items it pops and pushes: `plain 2 1` is "2 and 1". None pushes more than one.
+  plain : (pops pushes : ℕ) → Class
 
--- "Class numbers: unmodelled 0, push 1, nothing 2, then IF 3 to (2 and 1) 31 as listed": the class at its number
+-- "Class numbers: unmodelled 0, push 1, nothing 2, then IF 3 to (2 and 1) 31 as listed; in lines two and three each opcode is a
+-- class": the class at its number
 abbrev pub classes : List Class
 classes =
     ordinary unmodelled ∷ ordinary push ∷ ordinary nothing ∷
@@ -27,14 +28,13 @@ classes =
     ordinary NIP ∷ ordinary TUCK ∷ ordinary PICK ∷ ordinary ROLL ∷ ordinary ZK ∷
     ordinary (copies 1 1) ∷ ordinary (copies 2 2) ∷ ordinary (copies 3 3) ∷ ordinary (copies 2 1) ∷ ordinary (copies 4 2) ∷
     ordinary (rotates 3 1) ∷ ordinary (rotates 6 2) ∷ ordinary (rotates 2 1) ∷ ordinary (rotates 4 2) ∷
-    ordinary (drops 1) ∷ ordinary (drops 2) ∷ ordinary (makes 0) ∷
-    ordinary (makes 1) ∷ ordinary (makes 3) ∷ ordinary (makes 2) ∷ []
+    plain 1 0 ∷ plain 2 0 ∷ plain 0 1 ∷ plain 1 1 ∷ plain 3 1 ∷ plain 2 1 ∷ []
 
 -- the class of a class number; unmodelled above 31
 abbrev pub classAt : ℕ → Class
 classAt n = getD classes n (ordinary unmodelled)
 
--- codes from .. to are of class
+-- the codes from `from` to `to` have this class number
 pub data Range : Type 0 where
   range : (from to class : ℕ) → Range
 

@@ -15,7 +15,7 @@ number [] = 0
 number (b ∷ l) = b + 256 * number l
 
 -- "To the marker an instruction is its opcode, its offset and a literal, unknown or exact". Here the literal is all the
--- bytes that the instruction pushes, none for one that pushes no literal; what the marker knows of it is `known` of Walk.
+-- bytes that the instruction pushes, no bytes for one that pushes no literal; what the marker knows of it is `known` of Walk.
 pub record Instruction : Type 0 where
   pub opcode : ℕ
   pub offset : ℕ
@@ -37,7 +37,7 @@ alone opcode =
 abbrev pub pushes : ℕ → ℕ → Bytes → Front
 pushes before size rest = pick (leb size (length rest)) (whole (before + size) (take size rest)) short
 
--- the data behind a length of n bytes
+-- the data behind a length of n bytes: behind 4d, 02 00 aa bb cc is `whole 4` with aa bb, the length and two bytes of data
 abbrev pub sized : ℕ → Bytes → Front
 sized n rest = pick (leb n (length rest)) (pushes n (number (take n rest)) (drop n rest)) short
 
@@ -59,10 +59,11 @@ pub data Code : Type 0 where
 
 -- "Missing length or data bytes make the fragment malformed"; else the code goes on behind the instruction
 abbrev pub onFront : Front → ℕ → ℕ → (ℕ → Code) → Code
-onFront (whole after literal) opcode offset rest = then (record { opcode = opcode; offset = offset; literal = literal }) (rest after)
-onFront short opcode offset rest = malformed offset
+onFront (whole after literal) opcode offset next = then (record { opcode = opcode; offset = offset; literal = literal }) (next after)
+onFront short opcode offset next = malformed offset
 
--- the code of these bytes, the first of them at `offset`; `passing` of them belong to the instruction before
+-- The code of these bytes, the first of them at `offset`; `passing` of them belong to the instruction before. Of 02 aa bb 51 at
+-- 0, 02 is an instruction with the literal aa bb, after which 2 bytes are passed, aa and bb; at 3 stands 51; then the code ends.
 abbrev pub decodeFrom : ℕ → ℕ → Bytes → Code
 decodeFrom passing offset [] = ends
 decodeFrom zero offset (b ∷ rest) = onFront (front b rest) b offset (λ after. decodeFrom after (offset + 1) rest)
@@ -91,13 +92,14 @@ pub data Integer : Type 0 where
   plus : ℕ → Integer
   minus : ℕ → Integer
 
--- n in bytes, lowest first, with no 00 at the end; zero is empty. `most` counts down: n itself is always enough.
+-- n in bytes, lowest first, with no 00 at the end: 300 is 2c 01; zero is empty. `most` is how many bytes at most: n are enough.
 abbrev pub digits : ℕ → ℕ → Bytes
 digits zero n = []
 digits (suc most) zero = []
 digits (suc most) (suc n) = suc n % 256 ∷ digits most (suc n / 256)
 
--- "top bit of the last byte is the sign": the sign, 00 or 80, into that bit, or into one more byte where the bit is taken
+-- "top bit of the last byte is the sign": the sign, 00 or 80, into that bit, or into one more byte where the bit is taken.
+-- 05 with 80 is 85; 80 with 00 is 80 00.
 abbrev pub signed : ℕ → Bytes → Bytes
 signed sign [] = []
 signed sign (b ∷ []) = pick (ltb b 0x80) ((b + sign) ∷ []) (b ∷ sign ∷ [])
@@ -121,7 +123,7 @@ minimal (b ∷ []) = not (eqb b 0x00 || eqb b 0x80)
 minimal (b ∷ c ∷ []) = leb 0x80 b || not (eqb c 0x00 || eqb c 0x80)
 minimal (b ∷ c ∷ d ∷ l) = minimal (c ∷ d ∷ l)
 
--- what these bytes, in number form, stand for; the sign bit, 80 in the last byte, is taken off
+-- What these bytes, in number form, stand for; the sign bit, 80 in the last byte, is taken off: 85 is minus 5, 85 - 80 being 5.
 abbrev pub value : Bytes → Integer
 value l = pick (ltb (last l) 0x80) (plus (number l)) (minus (number l - 0x80 * 256 ^ (length l - 1)))
 
@@ -129,7 +131,7 @@ value l = pick (ltb (last l) 0x80) (plus (number l)) (minus (number l - 0x80 * 2
 unfoldable pub deserialize : Bytes → Option Integer
 deserialize l = pick (leb (length l) 8 && minimal l) (some (value l)) none
 
--- Reading an item as an index. The three that are none are one refusal, 9.
+-- reading an item as an index; the first three cases are one refusal, 9 (`readable` of Stacks)
 pub data Index : Type 0 where
   notKnown : Index
   noNumber : Index

@@ -12,12 +12,14 @@ use Rattle.definition.specs.Stacks.{Rules, builtIn}
 use Rattle.definition.specs.Walk.{Arm, dead, live, Verdict}
 use Rattle.definition.specs.Papers.{PaperVerdict, PaperMarked, entryCount, markPaper}
 
--- a quoted text as bytes: the code of each character. `\n` is the newline that ends a line.
+-- A quoted text as bytes: the code of each character; `S.[]` and `S._∷_` are [] and ∷ of texts. `\n` is the newline that ends a
+-- line.
 abbrev pub text : String → Bytes
 text S.[] = []
 text (S._∷_ c s) = code c ∷ text s
 
--- n in decimal, highest digit first; 48 is the code of 0. `most` counts down: n itself is always enough.
+-- n in decimal, highest digit first: of 305 the text of 30 and then 53, since 48 is the code of 0. `most` is how many digits at
+-- most behind the first: n are enough.
 abbrev pub decimalWithin : ℕ → ℕ → Bytes
 decimalWithin zero n = (48 + n % 10) ∷ []
 decimalWithin (suc most) n = pick (ltb n 10) [] (decimalWithin most (n / 10)) ++ ((48 + n % 10) ∷ [])
@@ -54,7 +56,7 @@ refusedLine entry a =
     labelled "refused " (a .number) ++ labelled " at " entry ++ labelled " " (a .offset) ++ labelled " " (a .first)
     ++ labelled " " (a .second) ++ text "\n"
 
--- `accepted`, or that
+-- `accepted`, or the line of the refusal
 unfoldable pub lastLine : PaperVerdict → Bytes
 lastLine p = pick (eqb (p .verdict .answer .number) 0) (text "accepted\n") (refusedLine (p .entry) (p .verdict .answer))
 
@@ -66,6 +68,7 @@ linesOf entries m = lines entries 0 (m .verdicts) ++ lastLine (m .paper)
 unfoldable pub printed : Rules → Bytes → List ℕ → Bytes
 printed R paper log = linesOf (entryCount paper) (markPaper R paper log)
 
--- "`stackmark` reads a paper from standard input, at most 8,001 bytes .., and lends a log of 24,000 numbers"
+-- "`stackmark` reads a paper from standard input, at most 8,001 bytes, so its 21 always shows 8001, and lends a log of 24,000
+-- numbers"
 unfoldable pub stackmark : Bytes → Bytes
 stackmark input = printed builtIn (take 8001 input) (replicate 24000 0)

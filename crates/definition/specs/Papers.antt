@@ -20,7 +20,8 @@ abbrev pub operations : List Instruction → ℕ
 operations [] = 0
 operations (i ∷ is) = pick (ltb 0x60 (i .opcode)) 1 0 + operations is
 
--- "malformed; then opcodes above 60 number over 201; then over 10,000 bytes"
+-- "an entry of its own, not part of marking a paper: malformed; then opcodes above 60 number over 201; then over 10,000 bytes; it
+-- answers number, offset and figures only"
 abbrev pub limitsOf : Option ℕ → ℕ → ℕ → Answer
 limitsOf (some offset) count size = refusedAt offset malformedFragment
 limitsOf none count size =
@@ -33,7 +34,7 @@ limitCheck fragment = limitsOf (malformedAt (decode fragment)) (operations (inst
 
 -- A paper's header
 
--- "u16 fields, lowest byte first": the one at this offset
+-- "u16 fields, lowest byte first": the one at this offset; 0e 00 is 14
 abbrev pub field : Bytes → ℕ → ℕ
 field paper offset = number (take 2 (drop offset paper))
 
@@ -81,7 +82,7 @@ entries paper = entriesAt paper 8 (entryCount paper)
 abbrev pub headerSize : Bytes → ℕ
 headerSize paper = 8 + 6 * entryCount paper
 
--- "Parts lie after this header and within the paper"
+-- "Parts lie after this header and within the paper", an empty one too
 abbrev pub within : ℕ → ℕ → Part → Bool
 within from to p = leb from (p .offset) && leb (p .offset + p .size) to
 
@@ -155,12 +156,13 @@ pub record PaperMarked : Type 0 where
 abbrev pub refusedPaper : ℕ → Refusal → List ℕ → PaperMarked
 refusedPaper entry r log = record { paper = record { entry = entry; verdict = refusedVerdict 0 r 0 }; verdicts = []; log = log }
 
--- the same, with v in front of the accepted verdicts
+-- m, with v in front of its accepted verdicts
 abbrev pub after : Verdict → PaperMarked → PaperMarked
 after v m = record { paper = m .paper; verdicts = v ∷ m .verdicts; log = m .log }
 
 -- Marks fragment k and those after it; rows and peak are those of the fragments before. "Rows of all fragments follow one
--- another; 4 weighs each fragment against what the log has left."
+-- another; 4 weighs each fragment against what the log has left": with 2 rows before, the first 6 numbers stay and the rest is
+-- lent. "A paper keeps and counts rows of earlier fragments; accepted, it has their greatest peak and end none."
 unfoldable pub markFrom : Rules → ℕ → ℕ → ℕ → List Fragment → List ℕ → PaperMarked
 markFrom R k rows peak [] log =
     record { paper = record { entry = 0; verdict = record { answer = accepted; rows = rows; peak = peak; end = dead } }; verdicts = []; log = log }
@@ -221,7 +223,7 @@ abbrev pub shownOf : Front → Bytes → Bytes
 shownOf (whole after literal) l = take (1 + after) l
 shownOf short l = l
 
--- what stands at the front
+-- "The display takes the body and the initialiser and hands back part of one": what stands at the front of these bytes
 abbrev pub shownAt : Bytes → Bytes
 shownAt [] = []
 shownAt (b ∷ rest) = shownOf (front b rest) (b ∷ rest)

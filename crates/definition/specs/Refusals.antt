@@ -7,7 +7,7 @@ pub data Refusal : Type 0 where
   longFragment unmodelledOpcode opcodeCount scriptSize longPaper : ℕ → Refusal
   startTooLarge shortLog stacksFull mainDry dispatchTooLarge : ℕ → ℕ → Refusal
 
--- the greatest counts of sections 4, 6 and 7; the stack limit, 244, is one of the rules (Stacks)
+-- the greatest counts of sections 6 and 7; the stack limit, 244, is one of the rules (Stacks)
 abbrev pub maxFragment : ℕ
 maxFragment = 10000
 
@@ -34,7 +34,8 @@ answer number offset first second = record { number = number; offset = offset; f
 abbrev pub accepted : Answer
 accepted = answer 0 0 0 0
 
--- the table; "unnamed figures are 0"
+-- The table; "unnamed figures are 0". "Offset is the instruction's, 0 for 1, 2, 4 and 17 to 22": it is given where the refusal
+-- arises.
 abbrev pub refusedAt : ℕ → Refusal → Answer
 refusedAt at (longFragment length) = answer 1 at length maxFragment
 refusedAt at (startTooLarge sum limit) = answer 2 at sum limit

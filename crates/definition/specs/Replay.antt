@@ -8,155 +8,136 @@ use Prim.Native.Nat.{ℕ, zero, suc, _+_, _*_, _≤_, _<_}
 use lib.ListN.{length, getD, take, drop}
 use Rattle.definition.specs.Basics.{Bytes}
 use Rattle.definition.specs.Decoding.{Instruction, instructions, decode}
-use Rattle.definition.specs.Classes.{Class, IF, NOTIF, ELSE, ENDIF, RETURN, ordinary, Ordinary, unmodelled, push, nothing, TOALT, FROMALT, DEPTH, SIZE, NIP, TUCK, PICK, ROLL, ZK, copies, rotates, drops, makes}
-use Rattle.definition.specs.Stacks.{Rules, Stacks, Outcome, done, refused, Items, total, dropItems, step}
-use Rattle.definition.specs.Walk.{Item, unknown, exact, Arm, dead, live, Marked, unknowns, analysis}
+use Rattle.definition.specs.Classes.{Class, IF, NOTIF, ELSE, ENDIF, RETURN, ordinary, plain}
+use Rattle.definition.specs.Stacks.{Rules, Stacks, Outcome, ItemOps, total, stackHeights, onDone, dropItems, step, plainStep}
+use Rattle.definition.specs.Walk.{Item, unknown, exact, Arm, dead, live, heightsOf, Marked, unknowns, analysis}
 
 -- The replay
 
--- what a replay has: its stacks, and what is left of the choices and of the given byte strings
+-- What a replay has between two steps: its stacks, and what is left of the choices and of the given byte strings. "Items are byte
+-- strings of any length."
 pub record Replay : Type 0 where
   pub stacks : Stacks Bytes
   pub choices : List Bool
   pub results : List Bytes
 
--- "with real bytes, .. a literal is pushed whole, SIZE pushes the real length"; `next` is the next of the byte strings
-abbrev pub replaying : Bytes → Items Bytes
-replaying next = record { literal = λ l. l; bytes = some; result = next }
+-- "A step does what section 3 says with real bytes, .. a literal is pushed whole, SIZE pushes the real length, an unknown result
+-- of a plain class is the next of the given byte strings". (`ReplayOf` sees to it that one is left, and so for the choices.)
+abbrev pub replaying : List Bytes → ItemOps Bytes
+replaying results = record { fromBytes = λ l. l; toBytes = some; result = getD results 0 [] }
 
--- what is left of the byte strings: "an unknown result of a plain class is the next" of them
-abbrev pub resultsAfter : Ordinary → List Bytes → List Bytes
-resultsAfter (makes k) results = drop 1 results
-resultsAfter (drops k) results = results
-resultsAfter (copies depth count) results = results
-resultsAfter (rotates count shift) results = results
-resultsAfter unmodelled results = results
-resultsAfter push results = results
-resultsAfter nothing results = results
-resultsAfter TOALT results = results
-resultsAfter FROMALT results = results
-resultsAfter DEPTH results = results
-resultsAfter SIZE results = results
-resultsAfter NIP results = results
-resultsAfter TUCK results = results
-resultsAfter PICK results = results
-resultsAfter ROLL results = results
-resultsAfter ZK results = results
-
--- It carries instructions out, or jumps over them: past the ELSE (past ENDIF if none), or past the ENDIF, with n
--- conditionals opened since the jump began.
+-- It carries instructions out, or jumps over them: past the ENDIF, or past the ELSE if there is one (`true`). The number
+-- counts the conditionals opened since the jump began.
 pub data Mode : Type 0 where
   running : Mode
-  toElse : ℕ → Mode
-  toEndif : ℕ → Mode
+  jumping : (toElse : Bool) → ℕ → Mode
 
 -- an instruction carried out: the replay goes on, has ended, or faults
 pub data Carried : Type 0 where
   goesOn : Mode → Replay → Carried
   halts : Carried
-  faults : Carried
+  fails : Carried
 
--- on from an outcome; a refusal is a fault
-abbrev pub carriedOut : Outcome Bytes → List Bool → List Bytes → Carried
-carriedOut (done s) choices results = goesOn running (record { stacks = s; choices = choices; results = results })
-carriedOut (refused r) choices results = faults
+-- On in this mode with what an operation yields. A refusal is a fault: "It faults on a missing item, no room, an unreadable or
+-- negative index, a bad tag, an unmodelled opcode", which are all that Stacks can refuse.
+abbrev pub carriedOut : Outcome Bytes → Mode → List Bool → List Bytes → Carried
+carriedOut o mode choices results =
+    onDone o (λ r. fails) (λ s. goesOn mode (record { stacks = s; choices = choices; results = results }))
 
--- "the next choice enters the first arm or jumps past its ELSE"
+-- "the next choice enters the first arm or jumps past its ELSE (past ENDIF if none)"
 abbrev pub chosen : Bool → Mode
 chosen true = running
-chosen false = toElse 0
+chosen false = jumping true 0
 
 -- "IF and NOTIF pop, then the next choice"
-abbrev pub branches : Outcome Bytes → List Bool → List Bytes → Carried
-branches (done s) choices results =
-    goesOn (chosen (getD choices 0 true)) (record { stacks = s; choices = drop 1 choices; results = results })
-branches (refused r) choices results = faults
+abbrev pub branches : Replay → Carried
+branches r = carriedOut (dropItems 1 (r .stacks)) (chosen (getD (r .choices) 0 true)) (drop 1 (r .choices)) (r .results)
 
--- one instruction carried out, by its class
+-- One instruction carried out, by its class. "A replay that meets ELSE jumps past the ENDIF; ENDIF itself does nothing. RETURN
+-- ends it." A plain class that pushes uses up one byte string.
 abbrev pub carry : Rules → Instruction → Class → Replay → Carried
-carry R i IF r = branches (dropItems 1 (r .stacks)) (r .choices) (r .results)
-carry R i NOTIF r = branches (dropItems 1 (r .stacks)) (r .choices) (r .results)
-carry R i ELSE r = goesOn (toEndif 0) r
+carry R i IF r = branches r
+carry R i NOTIF r = branches r
+carry R i ELSE r = goesOn (jumping false 0) r
 carry R i ENDIF r = goesOn running r
 carry R i RETURN r = halts
-carry R i (ordinary o) r =
-    carriedOut (step (replaying (getD (r .results) 0 [])) R i o (r .stacks)) (r .choices) (resultsAfter o (r .results))
+carry R i (ordinary o) r = carriedOut (step (replaying (r .results)) R i o (r .stacks)) running (r .choices) (r .results)
+carry R i (plain pops pushes) r =
+    carriedOut (plainStep (replaying (r .results)) (R .limit) pops pushes (r .stacks)) running (r .choices) (drop pushes (r .results))
 
--- the mode after jumping over an instruction, on the way past the ELSE; and past the ENDIF
-abbrev pub pastElse : Class → ℕ → Mode
-pastElse IF n = toElse (suc n)
-pastElse NOTIF n = toElse (suc n)
-pastElse ELSE zero = running
-pastElse ELSE (suc n) = toElse (suc n)
-pastElse ENDIF zero = running
-pastElse ENDIF (suc n) = toElse n
-pastElse RETURN n = toElse n
-pastElse (ordinary o) n = toElse n
-
-abbrev pub pastEndif : Class → ℕ → Mode
-pastEndif IF n = toEndif (suc n)
-pastEndif NOTIF n = toEndif (suc n)
-pastEndif ELSE n = toEndif n
-pastEndif ENDIF zero = running
-pastEndif ENDIF (suc n) = toEndif n
-pastEndif RETURN n = toEndif n
-pastEndif (ordinary o) n = toEndif n
+-- the mode after an instruction that is jumped over
+abbrev pub past : Class → Bool → ℕ → Mode
+past IF toElse n = jumping toElse (suc n)
+past NOTIF toElse n = jumping toElse (suc n)
+past ELSE true zero = running
+past ELSE false zero = jumping false zero
+past ELSE toElse (suc n) = jumping toElse (suc n)
+past ENDIF toElse zero = running
+past ENDIF toElse (suc n) = jumping toElse n
+past RETURN toElse n = jumping toElse n
+past (ordinary o) toElse n = jumping toElse n
+past (plain pops pushes) toElse n = jumping toElse n
 
 -- What a replay did: the instructions that it reached, each by its place in the fragment, counted from 0, with the stacks
--- just before it, and how it ended: past the last instruction, at RETURN, or with a fault.
+-- just before it, and how it ended: past the last instruction, at RETURN, or with a fault. "A replay reaches an instruction that
+-- it carries out or faults on, not one that it jumps over."
 pub data Trace : Type 0 where
-  reaches : ℕ → Stacks Bytes → Trace → Trace
+  visit : ℕ → Stacks Bytes → Trace → Trace
   offEnd : Stacks Bytes → Trace
   returned : Stacks Bytes → Trace
   faulted : Trace
 
 -- on from an instruction carried out
-abbrev pub traced : Carried → Stacks Bytes → (Mode → Replay → Trace) → Trace
-traced (goesOn m r) s next = next m r
-traced halts s next = returned s
-traced faults s next = faulted
+abbrev pub onCarried : Carried → Stacks Bytes → (Mode → Replay → Trace) → Trace
+onCarried (goesOn m r) s next = next m r
+onCarried halts s next = returned s
+onCarried fails s next = faulted
 
 -- the replay from the instruction at place k on
-unfoldable pub replay : Rules → List Instruction → ℕ → Mode → Replay → Trace
-replay R [] k m r = offEnd (r .stacks)
-replay R (i ∷ is) k running r =
-    reaches k (r .stacks) (traced (carry R i (R .classOf (i .opcode)) r) (r .stacks) (λ m t. replay R is (k + 1) m t))
-replay R (i ∷ is) k (toElse n) r = replay R is (k + 1) (pastElse (R .classOf (i .opcode)) n) r
-replay R (i ∷ is) k (toEndif n) r = replay R is (k + 1) (pastEndif (R .classOf (i .opcode)) n) r
+unfoldable pub replayFrom : Rules → List Instruction → ℕ → Mode → Replay → Trace
+replayFrom R [] k m r = offEnd (r .stacks)
+replayFrom R (i ∷ is) k running r =
+    visit k (r .stacks) (onCarried (carry R i (R .classFor (i .opcode)) r) (r .stacks) (λ m t. replayFrom R is (k + 1) m t))
+replayFrom R (i ∷ is) k (jumping toElse n) r = replayFrom R is (k + 1) (past (R .classFor (i .opcode)) toElse n) r
 
 -- the whole replay
-abbrev pub trace : Rules → List Instruction → Replay → Trace
-trace R is r = replay R is 0 running r
+abbrev pub wholeReplay : Rules → List Instruction → Replay → Trace
+wholeReplay R is r = replayFrom R is 0 running r
 
 -- What is said of a trace
 
 -- it reaches the instruction at place k, with these stacks just before it
-abbrev pub Reaches : ℕ → Stacks Bytes → Trace → Type 0
-Reaches k s (reaches j u t) = ((j ≡ k) × (u ≡ s)) ⊎ Reaches k s t
-Reaches k s (offEnd u) = ⊥
-Reaches k s (returned u) = ⊥
-Reaches k s faulted = ⊥
+abbrev pub ReachedAt : ℕ → Stacks Bytes → Trace → Type 0
+ReachedAt k s (visit j u t) = ((j ≡ k) × (u ≡ s)) ⊎ ReachedAt k s t
+ReachedAt k s (offEnd u) = ⊥
+ReachedAt k s (returned u) = ⊥
+ReachedAt k s faulted = ⊥
 
 -- it faults
-abbrev pub Faults : Trace → Type 0
-Faults (reaches j u t) = Faults t
-Faults (offEnd u) = ⊥
-Faults (returned u) = ⊥
-Faults faulted = Unit {0}
+abbrev pub EndsInFault : Trace → Type 0
+EndsInFault (visit j u t) = EndsInFault t
+EndsInFault (offEnd u) = ⊥
+EndsInFault (returned u) = ⊥
+EndsInFault faulted = Unit {0}
 
--- it runs off the end, with these stacks
-abbrev pub RunsOff : Stacks Bytes → Trace → Type 0
-RunsOff s (reaches j u t) = RunsOff s t
-RunsOff s (offEnd u) = u ≡ s
-RunsOff s (returned u) = ⊥
-RunsOff s faulted = ⊥
+-- it runs off the end, with these stacks: "when it comes past the last instruction, never at RETURN, at once on the empty
+-- fragment"
+abbrev pub RunsOffWith : Stacks Bytes → Trace → Type 0
+RunsOffWith s (visit j u t) = RunsOffWith s t
+RunsOffWith s (offEnd u) = u ≡ s
+RunsOffWith s (returned u) = ⊥
+RunsOffWith s faulted = ⊥
 
--- n is one of its totals, "taken at the start and after each step"
+-- n is one of its totals: "Totals are taken at the start and after each step"
 abbrev pub HasTotal : ℕ → Trace → Type 0
-HasTotal n (reaches j u t) = (total u ≡ n) ⊎ HasTotal n t
+HasTotal n (visit j u t) = (total u ≡ n) ⊎ HasTotal n t
 HasTotal n (offEnd u) = total u ≡ n
 HasTotal n (returned u) = total u ≡ n
 HasTotal n faulted = ⊥
+
+-- none of its totals is over this
+abbrev pub TotalsWithin : ℕ → Trace → Type 0
+TotalsWithin most t = (n : ℕ) → HasTotal n t → n ≤ most
 
 -- What the marker knows, and what a replay holds
 
@@ -193,7 +174,7 @@ AreStrings [] = Unit {0}
 AreStrings (b ∷ l) = AreBytes b × AreStrings l
 
 -- A replay of these instructions from stacks that s shows. "Choices and byte strings are two lists, each at least as long as
--- the fragment has instructions."
+-- the fragment has instructions; what is left over goes unused."
 pub record ReplayOf (is : List Instruction) (s : Stacks Item) (r : Replay) : Type 0 where
   pub start : ShowsStacks s (r .stacks)
   pub main : AreStrings (r .stacks .main)
@@ -202,34 +183,50 @@ pub record ReplayOf (is : List Instruction) (s : Stacks Item) (r : Replay) : Typ
   pub enoughChoices : length is ≤ length (r .choices)
   pub enoughResults : length is ≤ length (r .results)
 
+-- what every replay does is as P says
+abbrev pub EveryReplay : Rules → List Instruction → Stacks Item → (Trace → Type 0) → Type 0
+EveryReplay R is s P = (r : Replay) → ReplayOf is s r → P (wholeReplay R is r)
+
+-- some replay does as P says
+abbrev pub SomeReplay : Rules → List Instruction → Stacks Item → (Trace → Type 0) → Type 0
+SomeReplay R is s P = (r : Replay) × (ReplayOf is s r) × (P (wholeReplay R is r))
+
 -- Demand 3
 
--- the two heights in the row of the instruction at place k; fewer than two numbers where the log has no such row
+-- the two heights in the row of the instruction at place k, of 0 2 0 1 1 0 those of place 1 are 1 0; fewer than two numbers where
+-- the log has no such row
 abbrev pub heightsAt : ℕ → List ℕ → List ℕ
 heightsAt k log = take 2 (drop (3 * k + 1) log)
 
+-- the row of place k is live, not 65,535 twice
+abbrev pub LiveRow : ℕ → List ℕ → Type 0
+LiveRow k log = heightsAt k log ≡ heightsOf dead → ⊥
+
+-- some replay comes to place k
+abbrev pub SomeReplayReaches : Rules → List Instruction → Stacks Item → ℕ → Type 0
+SomeReplayReaches R is s k = SomeReplay R is s (λ t. (u : Stacks Bytes) × (ReachedAt k u t))
+
 -- what the marker answered for these instructions from the stacks s is true of every replay
 pub record Demand3 (R : Rules) (is : List Instruction) (s : Stacks Item) (m : Marked) : Type 0 where
-  -- every replay: no fault
-  pub noFault : (r : Replay) → ReplayOf is s r → Faults (trace R is r) → ⊥
-  -- never over the limit, 244 items
-  pub withinLimit : (r : Replay) → ReplayOf is s r → (n : ℕ) → HasTotal n (trace R is r) → n ≤ R .limit
-  -- the logged heights at each instruction reached
-  pub heights : (r : Replay) → ReplayOf is s r → (k : ℕ) (t : Stacks Bytes) → Reaches k t (trace R is r)
-      → heightsAt k (m .log) ≡ (length (t .main) ∷ length (t .alt) ∷ [])
-  -- the marker's end stacks at the end: their heights, and the bytes of each exact item
-  pub ending : (r : Replay) → ReplayOf is s r → (t : Stacks Bytes) → RunsOff t (trace R is r) → ShowsArm (m .verdict .end) t
-  -- live, not 65,535 twice, exactly where some replay comes
-  pub liveness : (k : ℕ) → k < length is
-      → ((heightsAt k (m .log) ≡ (65535 ∷ 65535 ∷ []) → ⊥) ↔ ((r : Replay) × (t : Stacks Bytes) × (ReplayOf is s r) × (Reaches k t (trace R is r))))
-  -- no end exactly when none runs off the end
-  pub noEnd : (m .verdict .end ≡ dead) ↔ ((r : Replay) → ReplayOf is s r → (t : Stacks Bytes) → RunsOff t (trace R is r) → ⊥)
-  -- the peak exact: no total of any replay is over it, and one replay comes to it
-  pub peakBounds : (r : Replay) → ReplayOf is s r → (n : ℕ) → HasTotal n (trace R is r) → n ≤ m .verdict .peak
-  pub peakReached : (r : Replay) × (ReplayOf is s r) × (HasTotal (m .verdict .peak) (trace R is r))
+  -- no replay faults
+  pub noFault : EveryReplay R is s (λ t. EndsInFault t → ⊥)
+  -- none ever holds more items than the limit, 244
+  pub withinLimit : EveryReplay R is s (λ t. TotalsWithin (R .limit) t)
+  -- at each instruction reached the heights are the logged ones
+  pub heights : EveryReplay R is s (λ t. (k : ℕ) (u : Stacks Bytes) → ReachedAt k u t → heightsAt k (m .log) ≡ stackHeights u)
+  -- one that runs off the end has the marker's end stacks: their heights, and the bytes of each exact item
+  pub ending : EveryReplay R is s (λ t. (u : Stacks Bytes) → RunsOffWith u t → ShowsArm (m .verdict .end) u)
+  -- a row is live exactly where some replay comes
+  pub liveness : (k : ℕ) → k < length is → (LiveRow k (m .log) ↔ SomeReplayReaches R is s k)
+  -- there are no end stacks exactly when no replay runs off the end
+  pub noEnd : (m .verdict .end ≡ dead) ↔ EveryReplay R is s (λ t. (u : Stacks Bytes) → RunsOffWith u t → ⊥)
+  -- the peak is exact: no total of any replay is over it, and one replay comes to it
+  pub peakBounds : EveryReplay R is s (λ t. TotalsWithin (m .verdict .peak) t)
+  pub peakReached : SomeReplay R is s (λ t. HasTotal (m .verdict .peak) t)
 
--- Demand 3 as one claim: where the analysis accepts a fragment from these heights, what it answers is true of every replay
+-- "Demand 3 is one claim about whole replays": of `builtIn` and of every fragment, all start heights and every log, where the
+-- analysis accepts, what it answers is true of every replay.
 abbrev pub TrueOfEveryReplay : Rules → Bytes → ℕ → ℕ → List ℕ → Type 0
 TrueOfEveryReplay R fragment main alt log =
-    analysis R fragment main alt log .verdict .answer .number ≡ 0
+    (analysis R fragment main alt log) .verdict .answer .number ≡ 0
     → Demand3 R (instructions (decode fragment)) (unknowns main alt) (analysis R fragment main alt log)

@@ -4,12 +4,13 @@ use mathlib.Core.List.{List, [], _∷_}
 use mathlib.Core.Option.{Option, none, some}
 use Prim.Native.Nat.{ℕ, _+_, _*_, max}
 use lib.Dec.{ltb, leb, eqb}
-use lib.ListN.{length, set, replicate}
+use lib.ListN.{length, replicate}
+use lib.Seq.{sets}
 use Rattle.definition.specs.Basics.{Bytes, pick}
 use Rattle.definition.specs.Decoding.{Instruction, Code, decode, instructions, malformedAt}
-use Rattle.definition.specs.Classes.{Class, IF, NOTIF, ELSE, ENDIF, RETURN, ordinary}
+use Rattle.definition.specs.Classes.{Class, IF, NOTIF, ELSE, ENDIF, RETURN, ordinary, plain}
 use Rattle.definition.specs.Refusals.{Refusal, Answer, accepted, refusedAt, longFragment, maxFragment, startTooLarge, malformedFragment, shortLog, nesting, maxOpen, armsDiffer, strayElse, secondElse, strayEndif, openIf, tallyFull}
-use Rattle.definition.specs.Stacks.{Rules, Stacks, Outcome, done, refused, Items, total, dropItems, step}
+use Rattle.definition.specs.Stacks.{Rules, Stacks, Outcome, done, refused, ItemOps, total, stackHeights, onDone, dropItems, step, plainStep}
 
 -- What the marker knows of an item
 
@@ -28,25 +29,25 @@ bytesKnown unknown = none
 bytesKnown (exact l) = some l
 
 -- Section 3, "the plain classes push unknown items"
-abbrev pub marking : Items Item
-marking = record { literal = known; bytes = bytesKnown; result = unknown }
+abbrev pub marking : ItemOps Item
+marking = record { fromBytes = known; toBytes = bytesKnown; result = unknown }
 
 -- Arms and conditionals
 
--- an arm: dead, or live with its stacks
+-- "An arm may hold conditionals, and each conditional holds one or two arms". An arm: dead, or live with its stacks.
 pub data Arm : Type 0 where
   dead : Arm
   live : Stacks Item → Arm
 
--- the first arm of an open conditional has not ended, or has ended at its ELSE
-pub data First : Type 0 where
-  notEnded : First
-  ended : Arm → First
+-- the first arm of an open conditional: it has not ended, or it ended at its ELSE, as this arm
+pub data FirstArm : Type 0 where
+  notEnded : FirstArm
+  ended : Arm → FirstArm
 
 -- an open conditional: where its second arm starts, and its first arm
 pub record Frame : Type 0 where
   pub start : Arm
-  pub first : First
+  pub first : FirstArm
 
 -- what an instruction does: the arm after it with the open conditionals, innermost first, or a refusal
 pub data Move : Type 0 where
@@ -79,73 +80,73 @@ joinStacks s t =
     (done (record { main = joinItems (s .main) (t .main); alt = joinItems (s .alt) (t .alt) }))
     (refused armsDiffer)
 
--- on from an outcome
-abbrev pub moved : Outcome Item → List Frame → Move
-moved (done s) fs = moves (live s) fs
-moved (refused r) fs = refuses r
+-- the arm goes on with what an operation yields
+abbrev pub onOutcome : Outcome Item → List Frame → Move
+onOutcome o fs = onDone o refuses (λ s. moves (live s) fs)
 
 -- "ENDIF joins: if one side is dead the other stands"
 abbrev pub join : Arm → Arm → List Frame → Move
 join dead b fs = moves b fs
 join (live s) dead fs = moves (live s) fs
-join (live s) (live t) fs = moved (joinStacks s t) fs
+join (live s) (live t) fs = onOutcome (joinStacks s t) fs
+
+-- What a conditional does to the arm c and to its frame, the innermost (a dead c stays dead):
+--
+--   instruction         arm afterwards          frame before             frame afterwards
+--   IF, NOTIF           c without its top       none                     start: c without its top; first arm not ended
+--   ELSE                start                   first arm not ended      start as before; first arm ended as c
+--   ENDIF, no ELSE      c joined with start     first arm not ended      none
+--   ENDIF after ELSE    a joined with c         first arm ended as a     none
 
 -- a conditional opens: both of its arms start from here
 abbrev pub opens : Arm → List Frame → Move
 opens c fs = moves c (record { start = c; first = notEnded } ∷ fs)
 
--- it opens on an outcome
-abbrev pub opened : Outcome Item → List Frame → Move
-opened (done s) fs = opens (live s) fs
-opened (refused r) fs = refuses r
-
 -- "IF and NOTIF pop one item; the second arm, or the empty one if there is no ELSE, starts from there"
 abbrev pub onIf : Arm → List Frame → Move
 onIf dead fs = opens dead fs
-onIf (live s) fs = opened (dropItems 1 s) fs
+onIf (live s) fs = onDone (dropItems 1 s) refuses (λ t. opens (live t) fs)
 
 -- Section 7: "IF or NOTIF, live or dead, with 24 open"; "at 5 nothing is popped yet"
 abbrev pub conditional : Arm → List Frame → Move
 conditional c fs = pick (ltb (length fs) maxOpen) (onIf c fs) (refuses nesting)
 
 -- at ELSE the first arm, c, has ended, and the second starts where the conditional opened
-abbrev pub onElse : Arm → Arm → First → List Frame → Move
+abbrev pub onElse : Arm → Arm → FirstArm → List Frame → Move
 onElse c start notEnded fs = moves start (record { start = start; first = ended c } ∷ fs)
 onElse c start (ended a) fs = refuses secondElse
 
 -- at ENDIF the arm c joins the other one: the empty one "if there is no ELSE"
-abbrev pub onEndif : Arm → Arm → First → List Frame → Move
+abbrev pub onEndif : Arm → Arm → FirstArm → List Frame → Move
 onEndif c start notEnded fs = join c start fs
 onEndif c start (ended a) fs = join a c fs
 
--- one instruction, by its class. "While dead, ordinary opcodes are skipped, unmodelled ones too, and conditionals are
--- still matched."
-abbrev pub move : Rules → Instruction → Class → Arm → List Frame → Move
-move R i IF c fs = conditional c fs
-move R i NOTIF c fs = conditional c fs
-move R i ELSE c [] = refuses strayElse
-move R i ELSE c (f ∷ fs) = onElse c (f .start) (f .first) fs
-move R i ENDIF c [] = refuses strayEndif
-move R i ENDIF c (f ∷ fs) = onEndif c (f .start) (f .first) fs
-move R i RETURN c fs = moves dead fs
-move R i (ordinary o) dead fs = moves dead fs
-move R i (ordinary o) (live s) fs = moved (step marking R i o s) fs
+-- One instruction, by its class. "RETURN makes the arm dead until its ELSE or ENDIF. While dead, ordinary opcodes are skipped,
+-- unmodelled ones too, and conditionals are still matched."
+abbrev pub effect : Rules → Instruction → Class → Arm → List Frame → Move
+effect R i IF c fs = conditional c fs
+effect R i NOTIF c fs = conditional c fs
+effect R i ELSE c [] = refuses strayElse
+effect R i ELSE c (f ∷ fs) = onElse c (f .start) (f .first) fs
+effect R i ENDIF c [] = refuses strayEndif
+effect R i ENDIF c (f ∷ fs) = onEndif c (f .start) (f .first) fs
+effect R i RETURN c fs = moves dead fs
+effect R i (ordinary o) dead fs = moves dead fs
+effect R i (ordinary o) (live s) fs = onOutcome (step marking R i o s) fs
+effect R i (plain pops pushes) dead fs = moves dead fs
+effect R i (plain pops pushes) (live s) fs = onOutcome (plainStep marking (R .limit) pops pushes s) fs
 
 -- The log
 
 -- "main height, alt height just before it, or 65,535 twice if dead"
-abbrev pub mainHeight : Arm → ℕ
-mainHeight dead = 65535
-mainHeight (live s) = length (s .main)
+abbrev pub heightsOf : Arm → List ℕ
+heightsOf dead = 65535 ∷ 65535 ∷ []
+heightsOf (live s) = stackHeights s
 
--- the same of alt
-abbrev pub altHeight : Arm → ℕ
-altHeight dead = 65535
-altHeight (live s) = length (s .alt)
-
--- "three to an instruction": row k of the log
+-- "three to an instruction": the log with the offset and these heights as row k, counted from 0; row 1 is elements 3, 4 and 5.
+-- Offsets below 10,000, heights up to 244 and 65,535 are u16 numbers.
 unfoldable pub logRow : ℕ → ℕ → Arm → List ℕ → List ℕ
-logRow k offset c log = set (set (set log (3 * k) offset) (3 * k + 1) (mainHeight c)) (3 * k + 2) (altHeight c)
+logRow k offset c log = sets log (3 * k) (offset ∷ heightsOf c)
 
 -- The walk
 
@@ -175,7 +176,7 @@ abbrev pub totalOf : Arm → ℕ
 totalOf dead = 0
 totalOf (live s) = total s
 
--- It leads on to the arm c. "peak (greatest total at the start or after any live instruction)": what stands after a live
+-- The instruction leads on to the arm c. "peak (greatest total at the start or after any live instruction)": what stands after a live
 -- RETURN, ELSE or ENDIF was counted before.
 abbrev pub onward : Arm → List Frame → State → State
 onward c fs s = record {
@@ -188,24 +189,24 @@ onward c fs s = record {
 }
 
 -- how a walk ends: accepted or refused, with the state that it has then
-pub data Walked : Type 0 where
-  passed : State → Walked
-  stopped : Refusal → State → Walked
+pub data WalkEnd : Type 0 where
+  passed : State → WalkEnd
+  stopped : Refusal → State → WalkEnd
 
 -- after the move of the instruction met last
-abbrev pub follow : Move → State → (State → Walked) → Walked
+abbrev pub follow : Move → State → (State → WalkEnd) → WalkEnd
 follow (moves c fs) s next = next (onward c fs s)
 follow (refuses r) s next = stopped r s
 
 -- past the last instruction: Section 7, 16, "open IF", given "at the last instruction"
-abbrev pub atEnd : List Frame → State → Walked
+abbrev pub atEnd : List Frame → State → WalkEnd
 atEnd [] s = passed s
 atEnd (f ∷ fs) s = stopped openIf s
 
 -- the walk over these instructions
-unfoldable pub walk : Rules → List Instruction → State → Walked
+unfoldable pub walk : Rules → List Instruction → State → WalkEnd
 walk R [] s = atEnd (s .frames) s
-walk R (i ∷ is) s = follow (move R i (R .classOf (i .opcode)) (s .arm) (s .frames)) (met i s) (λ t. walk R is t)
+walk R (i ∷ is) s = follow (effect R i (R .classFor (i .opcode)) (s .arm) (s .frames)) (met i s) (λ t. walk R is t)
 
 -- The verdict
 
@@ -231,9 +232,9 @@ refusedEarly offset r log = record { verdict = refusedVerdict offset r 0; log = 
 
 -- Section 7, "5 to 16 leave rows up to and with the refused instruction, the rest as lent; acceptance leaves a row for every
 -- instruction, the rest as lent"
-abbrev pub marked : Walked → Marked
-marked (passed s) = record { verdict = record { answer = accepted; rows = s .rows; peak = s .peak; end = s .arm }; log = s .log }
-marked (stopped r s) = record { verdict = refusedVerdict (s .offset) r (s .rows); log = s .log }
+abbrev pub answered : WalkEnd → Marked
+answered (passed s) = record { verdict = record { answer = accepted; rows = s .rows; peak = s .peak; end = s .arm }; log = s .log }
+answered (stopped r s) = record { verdict = refusedVerdict (s .offset) r (s .rows); log = s .log }
 
 -- the walk's beginning, from any stacks
 abbrev pub begin : Stacks Item → List ℕ → State
@@ -243,7 +244,7 @@ begin s log = record { arm = live s; frames = []; offset = 0; rows = 0; peak = t
 abbrev pub tested : Rules → Option ℕ → List Instruction → Stacks Item → List ℕ → Marked
 tested R (some offset) is s log = refusedEarly offset malformedFragment log
 tested R none is s log =
-    pick (leb (3 * length is) (length log)) (marked (walk R is (begin s log))) (refusedEarly 0 (shortLog (3 * length is) (length log)) log)
+    pick (leb (3 * length is) (length log)) (answered (walk R is (begin s log))) (refusedEarly 0 (shortLog (3 * length is) (length log)) log)
 
 -- the analysis of decoded code, from any stacks
 unfoldable pub analysisOf : Rules → Code → Stacks Item → List ℕ → Marked
@@ -269,26 +270,26 @@ pub record Tally : Type 0 where
   pub rows : ℕ
   pub peak : ℕ
 
--- the answer, 0 or 22, and the tally afterwards
-pub record Tallied : Type 0 where
+-- "the answer is 0 or 22", and the tally afterwards
+pub record TallyAnswer : Type 0 where
   pub answer : Answer
   pub tally : Tally
 
 -- the tally with one verdict more, of which `accepts`, 0 or 1, are accepted
-abbrev pub gained : Tally → ℕ → ℕ → ℕ → Tally
-gained t accepts rows peak = record {
+abbrev pub oneMore : Tally → ℕ → ℕ → ℕ → Tally
+oneMore t accepts rows peak = record {
   fragments = t .fragments + 1;
   accepts = t .accepts + accepts;
   rows = t .rows + rows;
   peak = max (t .peak) peak;
 }
 
--- no sum passes 4,294,967,295
+-- no sum passes 4,294,967,295; the peak is no sum
 abbrev pub fits : Tally → Bool
 fits t = leb (t .fragments) 4294967295 && leb (t .accepts) 4294967295 && leb (t .rows) 4294967295
 
 -- "gains one verdict a call"; Section 7, "22 leaves the tally unchanged"
-unfoldable pub tally : Tally → Verdict → Tallied
-tally t v =
-    let new : Tally = gained t (pick (eqb (v .answer .number) 0) 1 0) (v .rows) (v .peak) in
+unfoldable pub gain : Tally → Verdict → TallyAnswer
+gain t v =
+    let new : Tally = oneMore t (pick (eqb (v .answer .number) 0) 1 0) (v .rows) (v .peak) in
     pick (fits new) (record { answer = accepted; tally = new }) (record { answer = refusedAt 0 tallyFull; tally = t })

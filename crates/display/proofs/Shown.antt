@@ -39,14 +39,14 @@ module _ (s : Bytes) (offset : ℕ) where
   shown-end h = rw (drop-of-length-le s (code-ends s offset h .1))
 
   -- malformed: the rest
-  pub shown-malformed : decodedAt s offset ≡ Malformed → take (length s - offset) (drop offset s) ≡ shownAt (drop offset s)
-  shown-malformed h = rw (take-all (length s - offset) (drop offset s) (rw length-drop (omega arith))) (by (drop offset s) (sym (decoded-rest (drop offset s) refl) ∙ h))
+  pub shown-malformed : {at : ℕ} → decodedAt s offset ≡ Malformed at → take (length s - offset) (drop offset s) ≡ shownAt (drop offset s)
+  shown-malformed {at} h = rw (take-all (length s - offset) (drop offset s) (rw length-drop (omega arith))) (by (drop offset s) (sym (decoded-rest (drop offset s) refl) ∙ h))
     where
-      short-front : (b : ℕ) (l : Bytes) (f : Front) → decodedFront f b offset ≡ Malformed → l ≡ shownOf f l
+      short-front : (b : ℕ) (l : Bytes) (f : Front) → decodedFront f b offset ≡ Malformed at → l ≡ shownOf f l
       short-front b l (whole after literal) e = absurd (let z : _≡_ {A = ℕ} 0 1 = cc in omega arith)
       short-front b l short e = refl
 
-      by : (l : Bytes) → decodedRest l offset ≡ Malformed → l ≡ shownAt l
+      by : (l : Bytes) → decodedRest l offset ≡ Malformed at → l ≡ shownAt l
       by [] e = refl
       by (b ∷ rest) e = short-front b (b ∷ rest) (front b rest) e
 

@@ -1,2 +1,4 @@
 mod Places
 mod Parts
+mod Counters
+mod Items

@@ -1,19 +1,24 @@
-// The functions for C and Rust callers. Numbers pass as themselves, a slice as a pointer and then a length. Nothing is
-// asked of the caller beyond that: bad input is refused with a number of document 01.
+// The functions for C and Rust callers. Numbers pass as themselves, a slice as a pointer and then a length, an array as a
+// pointer. Nothing is asked of the caller beyond that: bad input is refused with a number of document 01.
 ghost use mathlib.Core.List.{[], _∷_};
 ghost use mathlib.Core.Path.{_≡_};
 ghost use Prim.Native.Nat.{_+_, _≤_, min};
 ghost use lib.ListN.{length, take, drop};
+ghost use Rattle.definition.specs.Lines.{printed};
 ghost use Rattle.definition.specs.Papers.{limitCheck, markPaper, byMark, display};
 ghost use Rattle.definition.specs.Stacks.{builtIn};
 ghost use Rattle.definition.specs.Walk.{analysis};
+ghost use Rattle.definition.specs.Walk as Walk;
 ghost use Rattle.limits.specs.View.{answerOf};
 ghost use Rattle.paper.specs.View.{paperOf};
-ghost use Rattle.stack_analysis.specs.View.{packedVerdict};
-ghost use Rattle.export.specs.View.{flag, written, verdictNumbers, answerNumbers, paperNumbers, displayStart, partNumbers};
+ghost use Rattle.tally.specs.View.{tallyOf, Gives};
+ghost use Rattle.export.specs.View.{flag, written, verdictNumbers, endNumbers, answerNumbers, paperNumbers, displayStart, partNumbers, tallyFrom, tallyNumbers};
+ghost use Rattle.export.specs.Parts.{summaryNumbers, structNumbers};
+use ends::EndStacks;
 use limits::Answer;
 use paper::PaperVerdict;
-use stack_analysis::Verdict;
+use stack_analysis::Summary;
+use tally::Tally;
 
 fn flag(b: bool) -> u64
     ensures { λ r. ⌜ r ≡ flag b ⌝ }
@@ -24,10 +29,16 @@ fn flag(b: bool) -> u64
     0
 }
 
+fn wide(x: u8) -> u64
+    ensures { λ r. ⌜ r ≡ x ⌝ }
+{
+    x as u64
+}
+
 // The verdict's numbers into the lent places, where there are nine of them: number, offset, two figures, rows, peak,
 // whether there is an end (1 or 0), and the heights of its main and alt.
-fn write(v: Verdict, out: &mut [u64])
-    ensures { λ _. ⌜ now (out .exit) ≡ written (verdictNumbers v) (now (out .entry)) ⌝ }
+fn write(v: Summary, out: &mut [u64])
+    ensures { λ _. ⌜ now (out .exit) ≡ written (summaryNumbers v) (now (out .entry)) ⌝ }
 {
     if out.len() < 9 {
         return;
@@ -39,8 +50,29 @@ fn write(v: Verdict, out: &mut [u64])
     out[4] = v.rows as u64;
     out[5] = v.peak as u64;
     out[6] = flag(v.ended);
-    out[7] = v.end.mains as u64;
-    out[8] = v.end.alts as u64;
+    out[7] = v.main as u64;
+    out[8] = v.alt as u64;
+}
+
+// The items of end stacks into the lent places, where there are three of them to an item: its length, its bytes as one
+// number, its mark, which is 0.
+fn write_items(e: EndStacks, items: &mut [u64])
+    requires { ⌜ e .main + e .alt ≤ 244 ⌝ }
+    ensures { λ _. ⌜ now (items .exit) ≡ written (structNumbers e) (now (items .entry)) ⌝ }
+{
+    let count = (e.main + e.alt) as usize;
+    if items.len() < 3 * count {
+        return;
+    }
+    let lens = e.lens;
+    let bytes = e.bytes;
+    let mut k: usize = 0;
+    while k < count {
+        items[3 * k] = wide(lens[k]);
+        items[3 * k + 1] = bytes[k];
+        items[3 * k + 2] = 0;
+        k += 1;
+    }
 }
 
 // The limit check's answer into the lent places, where there are four of them: number, offset, two figures.
@@ -93,6 +125,38 @@ fn smaller(a: usize, b: usize) -> usize
     b
 }
 
+// A text into the lent bytes, where they have room for it.
+fn write_text(from: &[u8], text: &mut [u8])
+    ensures { λ _. ⌜ now (text .exit) ≡ written (now (from .entry)) (now (text .entry)) ⌝ }
+{
+    if text.len() < from.len() {
+        return;
+    }
+    text::write_word(text, 0, from);
+}
+
+// A text's size into the lent places, where there is one.
+fn write_size(size: usize, out: &mut [u64])
+    ensures { λ _. ⌜ now (out .exit) ≡ written (size ∷ []) (now (out .entry)) ⌝ }
+{
+    if out.len() < 1 {
+        return;
+    }
+    out[0] = size as u64;
+}
+
+// The tally of four counters: fragments, accepted, rows, greatest peak.
+fn tally_from(counters: &[u32; 4]) -> Tally
+    ensures { λ r. ⌜ tallyOf r ≡ tallyFrom (now (counters .entry)) ⌝ }
+{
+    Tally {
+        fragments: counters[0],
+        accepts: counters[1],
+        rows: counters[2],
+        peak: counters[3],
+    }
+}
+
 // Where the part that is displayed starts in its fragment.
 fn display_start(body: &[u8], init: &[u8], offset: usize, mark: u32) -> usize
     ensures { λ r. ⌜ r ≡ displayStart (now (body .entry)) (now (init .entry)) offset mark ⌝ }
@@ -119,9 +183,7 @@ pub extern "C" fn listochur_analyze(
     ensures number { λ r.
         ⌜
         r
-        ≡ packedVerdict
-        (analysis builtIn (now (fragment .entry)) main alt (now (log .entry)) .verdict)
-        .number
+        ≡ analysis builtIn (now (fragment .entry)) main alt (now (log .entry)) .verdict .answer .number
         ⌝ }
     ensures logged { λ r.
         ⌜
@@ -133,14 +195,70 @@ pub extern "C" fn listochur_analyze(
         now (out .exit)
         ≡ written
         (verdictNumbers
-        (packedVerdict
-        (analysis builtIn (now (fragment .entry)) main alt (now (log .entry)) .verdict)))
+        (analysis builtIn (now (fragment .entry)) main alt (now (log .entry)) .verdict))
+        (now (out .entry))
+        ⌝ }
+{
+    let v = stack_analysis::analyze_heights(fragment, main, alt, log);
+    let number = v.number;
+    write(v, out);
+    number
+}
+
+// The same, and in `items` the items of the end stacks, three numbers to an item: main from bottom to top and then alt from
+// bottom to top.
+#[no_mangle]
+pub extern "C" fn listochur_analyze_items(
+    fragment: &[u8],
+    main: u32,
+    alt: u32,
+    log: &mut [u16],
+    items: &mut [u64],
+    out: &mut [u64],
+) -> u32
+    ensures number { λ r.
+        ⌜
+        r
+        ≡ analysis builtIn (now (fragment .entry)) main alt (now (log .entry)) .verdict .answer .number
+        ⌝ }
+    ensures logged { λ r.
+        ⌜
+        now (log .exit)
+        ≡ analysis builtIn (now (fragment .entry)) main alt (now (log .entry)) .log
+        ⌝ }
+    ensures listed { λ r.
+        ⌜
+        now (items .exit)
+        ≡ written
+        (endNumbers
+        (analysis builtIn (now (fragment .entry)) main alt (now (log .entry)) .verdict .end))
+        (now (items .entry))
+        ⌝ }
+    ensures written { λ r.
+        ⌜
+        now (out .exit)
+        ≡ written
+        (verdictNumbers
+        (analysis builtIn (now (fragment .entry)) main alt (now (log .entry)) .verdict))
         (now (out .entry))
         ⌝ }
 {
     let v = stack_analysis::analyze(fragment, main, alt, log);
     let number = v.number;
-    write(v, out);
+    let end = v.end;
+    let heights = Summary {
+        number,
+        offset: v.offset,
+        first: v.first,
+        second: v.second,
+        rows: v.rows,
+        peak: v.peak,
+        ended: v.ended,
+        main: end.main,
+        alt: end.alt,
+    };
+    write_items(end, items);
+    write(heights, out);
     number
 }
 
@@ -222,4 +340,73 @@ pub extern "C" fn listochur_display<'a>(
     let start = display_start(body, init, offset, mark);
     write_part(start, size, out);
     size
+}
+
+// What `stackmark` prints of a paper, in `text` where it has room: the verdict's number, the size of the text in `out`, and
+// the rows of all fragments in `log`.
+#[no_mangle]
+pub extern "C" fn listochur_mark_lines(
+    paper: &[u8],
+    log: &mut [u16],
+    text: &mut [u8],
+    out: &mut [u64],
+) -> u32
+    ensures number { λ r.
+        ⌜
+        r
+        ≡ markPaper builtIn (now (paper .entry)) (now (log .entry)) .paper .verdict .answer .number
+        ⌝ }
+    ensures logged { λ r.
+        ⌜ now (log .exit) ≡ markPaper builtIn (now (paper .entry)) (now (log .entry)) .log ⌝ }
+    ensures printed { λ r.
+        ⌜
+        now (text .exit)
+        ≡ written
+        (printed builtIn (now (paper .entry)) (now (log .entry)))
+        (now (text .entry))
+        ⌝ }
+    ensures written { λ r.
+        ⌜
+        now (out .exit)
+        ≡ written
+        (length (printed builtIn (now (paper .entry)) (now (log .entry))) ∷ [])
+        (now (out .entry))
+        ⌝ }
+    ensures short { λ r.
+        ⌜ length (printed builtIn (now (paper .entry)) (now (log .entry))) ≤ 4096 ⌝ }
+{
+    let l = lines::mark_lines(paper, log);
+    let bytes = l.bytes;
+    let size = l.size;
+    let number = l.number;
+    write_text(&bytes[..size], text);
+    write_size(size, out);
+    number
+}
+
+// The tally of these counters, fragments, accepted, rows and greatest peak, gains one verdict, of this number, rows and
+// peak: 0 or 22, which leaves the counters unchanged.
+#[no_mangle]
+pub extern "C" fn listochur_gain(counters: &mut [u32; 4], number: u32, rows: u64, peak: u32) -> u32
+    ensures answer { λ r.
+        ⌜
+        ((v : Walk.Verdict)
+        → Gives v number rows peak
+        → r ≡ Walk.gain (tallyFrom (now (counters .entry))) v .answer .number)
+        ⌝ }
+    ensures gained { λ r.
+        ⌜
+        ((v : Walk.Verdict)
+        → Gives v number rows peak
+        → now (counters .exit) ≡ tallyNumbers (Walk.gain (tallyFrom (now (counters .entry))) v .tally))
+        ⌝ }
+{
+    let r = tally::gained(tally_from(counters), number, rows as usize, peak);
+    *counters = [
+        r.tally.fragments,
+        r.tally.accepts,
+        r.tally.rows,
+        r.tally.peak,
+    ];
+    r.answer
 }

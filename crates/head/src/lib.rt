@@ -1,8 +1,11 @@
 // The reading head: document 01, section 1. It rests on a fragment and yields its instructions in order, then the end or 3.
 // Each function over the struct is thin: the work is crate decode's `decode_at`, and `offset_after`.
+// The promises say the sequence: a new head has the whole code of its fragment left, and a read yields what the code left
+// yields first and leaves the rest.
 ghost use mathlib.Core.Path.{_≡_};
-ghost use Rattle.decode.specs.View.{decodedAt};
-ghost use Rattle.head.specs.View.{offsetAfter};
+ghost use Rattle.definition.specs.Decoding.{decode};
+ghost use Rattle.decode.specs.View.{decodedAt, yieldOf, yielded, rest};
+ghost use Rattle.head.specs.View.{left, offsetAfter};
 use decode::Decoded;
 
 pub struct Head<'a> {
@@ -17,7 +20,7 @@ fn offset_after(d: Decoded, offset: usize) -> usize
     match d {
         Decoded::At(i) => i.next,
         Decoded::End => offset,
-        Decoded::Malformed => offset,
+        Decoded::Malformed(_) => offset,
     }
 }
 
@@ -30,7 +33,10 @@ fn after(fragment: &[u8], offset: usize) -> usize
 
 // A head at the fragment's start.
 pub fn new<'a>(fragment: &'a [u8]) -> Head<'a>
-    ensures { λ r. ⌜ (r .fragment ≡ fragment .entry) × (r .offset ≡ 0) ⌝ }
+    ensures { λ r.
+        ⌜ (r .fragment ≡ fragment .entry)
+        × (left r ≡ decode (now (fragment .entry)))
+        × (r .offset ≡ 0) ⌝ }
 {
     Head {
         fragment,
@@ -40,7 +46,9 @@ pub fn new<'a>(fragment: &'a [u8]) -> Head<'a>
 
 // What the head yields where it stands: an instruction, the end, or 3.
 pub fn next<'a>(h: Head<'a>) -> Decoded
-    ensures { λ r. ⌜ r ≡ decodedAt (now (h .entry .fragment)) (h .entry .offset) ⌝ }
+    ensures { λ r.
+        ⌜ (yieldOf r ≡ yielded (left (h .entry)))
+        × (r ≡ decodedAt (now (h .entry .fragment)) (h .entry .offset)) ⌝ }
 {
     decode::decode_at(h.fragment, h.offset)
 }
@@ -49,6 +57,7 @@ pub fn next<'a>(h: Head<'a>) -> Decoded
 pub fn advance<'a>(h: Head<'a>) -> Head<'a>
     ensures { λ r.
         ⌜ (r .fragment ≡ h .entry .fragment)
+        × (left r ≡ rest (left (h .entry)))
         × (r .offset ≡ offsetAfter (decodedAt (now (h .entry .fragment)) (h .entry .offset)) (h .entry .offset)) ⌝ }
 {
     let offset = after(h.fragment, h.offset);
@@ -61,8 +70,10 @@ pub fn advance<'a>(h: Head<'a>) -> Head<'a>
 // A head that is lent: it yields what stands where it is, and moves on.
 pub fn read<'s, 'a>(h: &'s mut Head<'a>) -> Decoded
     ensures { λ r.
-        ⌜ (r ≡ decodedAt (now (now (h .entry) .fragment)) (now (h .entry) .offset))
+        ⌜ (yieldOf r ≡ yielded (left (now (h .entry))))
         × (now (h .exit) .fragment ≡ now (h .entry) .fragment)
+        × (left (now (h .exit)) ≡ rest (left (now (h .entry))))
+        × (r ≡ decodedAt (now (now (h .entry) .fragment)) (now (h .entry) .offset))
         × (now (h .exit) .offset ≡ offsetAfter r (now (h .entry) .offset)) ⌝ }
 {
     let offset = h.offset;

@@ -11,8 +11,15 @@ use lib.Seq.{take-all, take-nil, drop-length, getD-append-add}
 use Rattle.definition.specs.Basics.{Bytes}
 use Rattle.definition.specs.Papers.{Fragment, field, partAt, bytesOf, entriesAt, entryCount, entries, stateFields, initialiser, mostParameters, bodyFragments, stateFragments, fragments}
 use Rattle.header.specs.View.{fragmentAt}
+use Rattle.header.proofs.Headers.{field-past}
 
 -- The bytes of a part
+
+-- its offset and length stand at the paper's end or past it
+pub part-none : (p : Bytes) (at : ℕ) → length p ≤ at → take (0 - 0) (drop 0 p) ≡ bytesOf p (partAt p at)
+part-none p at h =
+    let e : 0 ≡ field p (at + 2) = field-past p (at + 2) (omega arith) in
+    rw (← e)
 
 module _ (p : Bytes) (at offset size : ℕ) (e : offset ≡ field p at) (f : size ≡ field p (at + 2)) where
   pub part-past : length p ≤ offset → take (length p - length p) (drop (length p) p) ≡ bytesOf p (partAt p at)

@@ -3,7 +3,9 @@ ghost use mathlib.Core.List.{List};
 ghost use mathlib.Core.Path.{_≡_};
 ghost use Prim.Native.Nat.{ℕ, _+_, _*_, _≤_, _<_, max, min};
 ghost use lib.ListN.{length};
-ghost use Rattle.definition.specs.Papers.{field, partAt, bytesOf, entries, within, share, sharesNone, goodParts, goodHeader, mostParameters, fragments, dispatch};
+// `Papers.f` is the f of document 01, section 6, in crates/definition/specs/Papers.antt.
+ghost use Rattle.definition.specs.Papers as Papers;
+ghost use Rattle.definition.specs.Papers.{partAt, bytesOf, entries, sharesNone, goodParts, goodHeader, mostParameters, fragments, dispatch};
 ghost use Rattle.definition.specs.Stacks.{builtIn};
 ghost use Rattle.header.specs.View.{lastPart, partsAt, dispatched, fragmentAt};
 
@@ -15,7 +17,7 @@ fn wide(x: u8) -> u32
 
 // The u16 field at an offset, lowest byte first. Bytes past the end count as missing.
 pub fn field(paper: &[u8], offset: usize) -> u32
-    ensures same { λ r. ⌜ r ≡ field (now (paper .entry)) offset ⌝ }
+    ensures same { λ r. ⌜ r ≡ Papers.field (now (paper .entry)) offset ⌝ }
     ensures low { λ r. ⌜ r < 65536 ⌝ }
 {
     if paper.len() <= offset {
@@ -49,7 +51,7 @@ fn smaller(a: u32, b: u32) -> u32
 // Whether the part whose offset and length stand at `at` lies after the header and within the paper.
 fn within(paper: &[u8], header: usize, at: usize) -> bool
     requires { ⌜ at ≤ lastPart ⌝ }
-    ensures { λ r. ⌜ r ≡ within header (length (now (paper .entry))) (partAt (now (paper .entry)) at) ⌝ }
+    ensures { λ r. ⌜ r ≡ Papers.within header (length (now (paper .entry))) (partAt (now (paper .entry)) at) ⌝ }
 {
     let offset = field(paper, at) as usize;
     let size = field(paper, at + 2) as usize;
@@ -62,7 +64,7 @@ fn within(paper: &[u8], header: usize, at: usize) -> bool
 // Whether the parts whose offset and length stand at `a` and `b` share a byte.
 fn share(paper: &[u8], a: usize, b: usize) -> bool
     requires { ⌜ (a ≤ lastPart) × (b ≤ lastPart) ⌝ }
-    ensures { λ r. ⌜ r ≡ share (partAt (now (paper .entry)) a) (partAt (now (paper .entry)) b) ⌝ }
+    ensures { λ r. ⌜ r ≡ Papers.share (partAt (now (paper .entry)) a) (partAt (now (paper .entry)) b) ⌝ }
 {
     let first = field(paper, a);
     let second = field(paper, b);
@@ -173,11 +175,14 @@ pub fn most_parameters(paper: &[u8]) -> u32
     most
 }
 
-// The bytes of the part whose offset and length stand at `at`, as far as the paper has them.
+// The bytes of the part whose offset and length stand at `at`, as far as the paper has them. At the paper's end and past it
+// both are 0, and the part is empty.
 pub fn part<'a>(paper: &'a [u8], at: usize) -> &'a [u8]
-    requires { ⌜ at ≤ lastPart ⌝ }
     ensures { λ r. ⌜ now r ≡ bytesOf (now (paper .entry)) (partAt (now (paper .entry)) at) ⌝ }
 {
+    if paper.len() <= at {
+        return &paper[0..0];
+    }
     let offset = field(paper, at) as usize;
     let size = field(paper, at + 2) as usize;
     if paper.len() <= offset {

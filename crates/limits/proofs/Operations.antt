@@ -64,5 +64,5 @@ module _ (s : Bytes) (offset count : ℕ) (c : Counting s offset count) where
       let z : count + 0 ≡ count = omega arith in
       e ∙ sym (c .is ∙ rw (code-ends s offset h .0, z))
 
-  pub counting-malformed : decodedAt s offset ≡ Malformed → answer 3 offset 0 0 ≡ limitCheck s
+  pub counting-malformed : {at : ℕ} → decodedAt s offset ≡ Malformed at → answer 3 offset 0 0 ≡ limitCheck s
   counting-malformed h = sym (c .is ∙ rw (code-malformed s offset h .0))

@@ -67,7 +67,7 @@ pub fn validate_txscript_bytecode_limits(bytecode: &[u8]) -> Answer
             Decoded::End => {
                 return limits_of(operations, bytecode.len() as u64);
             }
-            Decoded::Malformed => {
+            Decoded::Malformed(_) => {
                 return Answer {
                     number: 3,
                     offset,

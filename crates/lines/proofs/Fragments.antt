@@ -14,14 +14,15 @@ use Rattle.definition.specs.Refusals.{answer}
 use Rattle.definition.specs.Stacks.{builtIn}
 use Rattle.definition.specs.Walk.{Arm, dead, live}
 use Rattle.definition.specs.Walk as W
-use Rattle.stack.specs.View.{packed}
-use Rattle.stack_analysis.specs.View.{packedVerdict, hasEnd, endStacks}
-use Rattle.stack_analysis.specs.declared.Verdict.{Verdict}
-use Rattle.paper.specs.View.{fragmentMarked, Marks, paperOf}
+use Rattle.stack_analysis.specs.View.{hasEnd, endMain, endAlt, summarized}
+use Rattle.stack_analysis.specs.declared.Summary.{Summary}
+use Rattle.paper.specs.View.{fragmentAnalysis, paperOf}
+use Rattle.paper.specs.Parts.{Marks}
 use Rattle.paper.specs.declared.PaperVerdict.{PaperVerdict}
 use Rattle.paper.proofs.Markings.{Marking, Answers, marking-none, marking-more, marking-stops, marking-end, onto, told}
 use Rattle.text.specs.View.{Written}
 use Rattle.lines.specs.View.{endText, lineText, Prints}
+use Rattle.lines.specs.declared.Told.{Told}
 use Rattle.text.proofs.Texts.{then-written}
 
 -- The parts of a line
@@ -43,16 +44,15 @@ module _ {lent : Bytes} {at : ℕ} {new : Bytes} {next : ℕ} (ended : Bool) (ma
 
 -- the line of a verdict is that of the struct's numbers
 
-end-is : (c : Arm) → endText (hasEnd c) (endStacks c .mains) (endStacks c .alts) ≡ ending c
-unfolding packed
+end-is : (c : Arm) → endText (hasEnd c) (endMain c) (endAlt c) ≡ ending c
 end-is dead = refl
 end-is (live s) = refl
 
-line-is : (entries k : ℕ) (w : W.Verdict) (v : Verdict) → v ≡ packedVerdict w
-    → lineText entries k (v .peak) (endText (v .ended) (v .end .mains) (v .end .alts)) ≡ line entries k w
-unfolding packedVerdict line
+line-is : (entries k : ℕ) (w : W.Verdict) (v : Summary) → v ≡ summarized w
+    → lineText entries k (v .peak) (endText (v .ended) (v .main) (v .alt)) ≡ line entries k w
+unfolding summarized line
 line-is entries k w v e =
-    ap (λ (u : Verdict). lineText entries k (u .peak) (endText (u .ended) (u .end .mains) (u .end .alts))) e
+    ap (λ (u : Summary). lineText entries k (u .peak) (endText (u .ended) (u .main) (u .alt))) e
     ∙ ap (λ (t : Bytes). lineText entries k (w .peak) t) (end-is (w .end))
 
 -- The lines of a paper one behind another
@@ -90,43 +90,45 @@ module _ (p : Bytes) (lent : List ℕ) (lentOut : Bytes) where
     -- the last line behind those written
     ended : (r : PaperVerdict) (new : List ℕ) → Answers r new (markFrom builtIn 0 0 0 (fragments p) lent)
         → markFrom builtIn k rows (i .peak) (drop k (fragments p)) log .verdicts ≡ [] → {t : Bytes} → lastLine (paperOf r) ≡ t
-        → {out′ : Bytes} {at′ : ℕ} → Written out at t out′ at′ → Prints (entryCount p) (markFrom builtIn 0 0 0 (fragments p) lent) lentOut out′ at′ new
-    ended r new a none {t} e {out′} {at′} w =
+        → {out′ : Bytes} {told : Told} → Written out at t out′ (told .next) → told .number ≡ r .number → Prints (entryCount p) (markFrom builtIn 0 0 0 (fragments p) lent) lentOut out′ told new
+    unfolding paperOf
+    ended r new a none {t} e {out′} {told} w n =
         let s : lines (entryCount p) 0 (markFrom builtIn 0 0 0 (fragments p) lent .verdicts) ≡ i .text =
         i .printed ∙ ap (λ (vs : List W.Verdict). i .text ++ lines (entryCount p) k vs) none ∙ append-nil (i .text) in
         let l : lastLine (markFrom builtIn 0 0 0 (fragments p) lent .paper) ≡ t = ap lastLine (sym (a .same)) ∙ e in
         record {
-          printed = subst (λ (u : Bytes). Written lentOut 0 u out′ at′) (sym (ap (λ (u : Bytes). u ++ lastLine (markFrom builtIn 0 0 0 (fragments p) lent .paper)) s ∙ ap (λ (u : Bytes). i .text ++ u) l)) (then-written (omega arith) (i .written) w);
+          printed = subst (λ (u : Bytes). Written lentOut 0 u out′ (told .next)) (sym (ap (λ (u : Bytes). u ++ lastLine (markFrom builtIn 0 0 0 (fragments p) lent .paper)) s ∙ ap (λ (u : Bytes). i .text ++ u) l)) (then-written (omega arith) (i .written) w);
+          numbered = n ∙ ap (λ (u : P.PaperVerdict). u .verdict .answer .number) (a .same);
           logged = a .logged;
         }
 
-    pub printing-end : length (fragments p) ≤ k → {out′ : Bytes} {at′ : ℕ} → Written out at (text "accepted\n") out′ at′
-        → Prints (entryCount p) (markFrom builtIn 0 0 0 (fragments p) lent) lentOut out′ at′ log
+    pub printing-end : length (fragments p) ≤ k → {out′ : Bytes} {told : Told} → Written out at (text "accepted\n") out′ (told .next) → told .number ≡ 0
+        → Prints (entryCount p) (markFrom builtIn 0 0 0 (fragments p) lent) lentOut out′ told log
     unfolding markFrom lastLine paperOf
-    printing-end h w =
+    printing-end h w n =
         ended _ _ (marking-end p lent k rows (i .peak) log (i .marking) h)
-        (ap (λ fs. markFrom builtIn k rows (i .peak) fs log .verdicts) (drop-of-length-le (fragments p) h)) refl w
+        (ap (λ fs. markFrom builtIn k rows (i .peak) fs log .verdicts) (drop-of-length-le (fragments p) h)) refl w n
 
-    module _ (more : k < length (fragments p)) (v : Verdict) (new : List ℕ) (m : Marks (fragmentMarked p k rows log) rows log v new) where
-      pub printing-stops : (v .number ≡ 0 → ⊥) → {out′ : Bytes} {at′ : ℕ}
-          → Written out at (refusedLine k (answer (v .number) (v .offset) (v .first) (v .second))) out′ at′
-          → Prints (entryCount p) (markFrom builtIn 0 0 0 (fragments p) lent) lentOut out′ at′ new
-      printing-stops z w =
+    module _ (more : k < length (fragments p)) (v : Summary) (new : List ℕ) (m : Marks (fragmentAnalysis p k rows log) (3 * rows) log v new) where
+      pub printing-stops : (v .number ≡ 0 → ⊥) → {out′ : Bytes} {told : Told}
+          → Written out at (refusedLine k (answer (v .number) (v .offset) (v .first) (v .second))) out′ (told .next) → told .number ≡ v .number
+          → Prints (entryCount p) (markFrom builtIn 0 0 0 (fragments p) lent) lentOut out′ told new
+      printing-stops z w n =
           ended _ _ (marking-stops p lent k rows (i .peak) log (i .marking) more v new m z)
           (ap (λ (x : PaperMarked). x .verdicts) (told p lent k rows (i .peak) log (i .marking) more v new m z))
-          (last-refused _ z) w
+          (last-refused _ z) w n
 
       pub printing-more : length new ≡ length log → v .number ≡ 0 → (entries : ℕ) → entries ≡ entryCount p → {out′ : Bytes} {at′ : ℕ}
-          → Written out at (lineText entries k (v .peak) (endText (v .ended) (v .end .mains) (v .end .alts))) out′ at′ → at′ ≤ at + 100
+          → Written out at (lineText entries k (v .peak) (endText (v .ended) (v .main) (v .alt))) out′ at′ → at′ ≤ at + 100
           → length out′ ≡ length out → Printing p lent lentOut (k + 1) (rows + v .rows) new out′ at′
       printing-more l z entries e {out′} {at′} w s n =
-          let verdict : W.Verdict = fragmentMarked p k rows log .verdict in
+          let verdict : W.Verdict = fragmentAnalysis p k rows log .verdict in
           let next : ℕ = max (i .peak) (v .peak) in
           let E : ℕ = entryCount p in
           let rest : List W.Verdict = markFrom builtIn (k + 1) (rows + v .rows) next (drop (k + 1) (fragments p)) new .verdicts in
           let o : markFrom builtIn k rows (i .peak) (drop k (fragments p)) log .verdicts ≡ verdict ∷ rest =
           sym (ap (λ (x : PaperMarked). x .verdicts) (onto p lent k rows (i .peak) log (i .marking) more v new m z next refl)) in
-          let q : lineText entries k (v .peak) (endText (v .ended) (v .end .mains) (v .end .alts)) ≡ line E k verdict =
+          let q : lineText entries k (v .peak) (endText (v .ended) (v .main) (v .alt)) ≡ line E k verdict =
           line-is entries k verdict v (m .same) ∙ ap (λ n. line n k verdict) e in
           record {
             peak = next;

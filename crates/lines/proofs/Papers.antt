@@ -20,6 +20,7 @@ use Rattle.header.proofs.Fragments.{count-without, count-with}
 use Rattle.text.specs.View.{Written}
 use Rattle.lines.specs.View.{Prints, linesIn, Within}
 use Rattle.lines.specs.declared.Lines.{Lines}
+use Rattle.lines.specs.declared.Told.{Told}
 
 -- How many fragments
 
@@ -54,36 +55,36 @@ checked : (p : Bytes) (lent : List ℕ) → length p ≤ 8000 → (t : Bool) →
 unfolding markPaper
 checked p lent short t g h d f = rw (le-ltb 8000 (length p) short, ← g, not-false t h) (f lent)
 
-module _ (p : Bytes) (lent : List ℕ) {lentOut : Bytes} {new : Bytes} {next : ℕ} where
+module _ (p : Bytes) (lent : List ℕ) {lentOut : Bytes} {new : Bytes} {told : Told} where
   -- a refusal of the paper itself
   refused-prints : (entry : ℕ) (r : Refusal) → markPaper builtIn p lent ≡ refusedPaper entry r lent → (refusedAt 0 r .number ≡ 0 → ⊥)
-      → Written lentOut 0 (refusedLine entry (refusedAt 0 r)) new next → Prints (entryCount p) (markPaper builtIn p lent) lentOut new next lent
+      → Written lentOut 0 (refusedLine entry (refusedAt 0 r)) new (told .next) → told .number ≡ refusedAt 0 r .number → Prints (entryCount p) (markPaper builtIn p lent) lentOut new told lent
   unfolding lastLine
-  refused-prints entry r e h w =
-      subst (λ (m : PaperMarked). Prints (entryCount p) m lentOut new next lent) (sym e)
-      (record { printed = rw (ne-eqb (refusedAt 0 r .number) 0 h) w; logged = refl })
+  refused-prints entry r e h w n =
+      subst (λ (m : PaperMarked). Prints (entryCount p) m lentOut new told lent) (sym e)
+      (record { printed = rw (ne-eqb (refusedAt 0 r .number) 0 h) w; numbered = n; logged = refl })
 
-  pub lines-long : 8000 < length p → Written lentOut 0 (refusedLine 0 (answer 21 0 (length p) 8000)) new next
-      → Prints (entryCount p) (markPaper builtIn p lent) lentOut new next lent
+  pub lines-long : 8000 < length p → Written lentOut 0 (refusedLine 0 (answer 21 0 (length p) 8000)) new (told .next) → told .number ≡ 21
+      → Prints (entryCount p) (markPaper builtIn p lent) lentOut new told lent
   unfolding markPaper
-  lines-long h w = refused-prints 0 (longPaper (length p)) (rw (lt-ltb 8000 (length p) h)) (λ z. absurd (omega (arith, z))) w
+  lines-long h w n = refused-prints 0 (longPaper (length p)) (rw (lt-ltb 8000 (length p) h)) (λ z. absurd (omega (arith, z))) w n
 
   module _ (short : length p ≤ 8000) (t : Bool) (g : t ≡ goodHeader p) where
-    pub lines-bad : not t ≡ true → Written lentOut 0 (refusedLine 0 (answer 19 0 0 0)) new next
-        → Prints (entryCount p) (markPaper builtIn p lent) lentOut new next lent
+    pub lines-bad : not t ≡ true → Written lentOut 0 (refusedLine 0 (answer 19 0 0 0)) new (told .next) → told .number ≡ 19
+        → Prints (entryCount p) (markPaper builtIn p lent) lentOut new told lent
     unfolding markPaper
-    lines-bad h w = refused-prints 0 badHeader (rw (le-ltb 8000 (length p) short, ← g, not-true t h)) (λ z. absurd (omega (arith, z))) w
+    lines-bad h w n = refused-prints 0 badHeader (rw (le-ltb 8000 (length p) short, ← g, not-true t h)) (λ z. absurd (omega (arith, z))) w n
 
     module _ (h : not t ≡ false) (d : Dispatch) (f : (l : List ℕ) → dispatch builtIn p 0 (entries p) l ≡ dispatched p d l) where
-      pub lines-over : (entry sum : ℕ) → d ≡ Over entry sum → Written lentOut 0 (refusedLine entry (answer 20 0 sum 244)) new next
-          → Prints (entryCount p) (markPaper builtIn p lent) lentOut new next lent
-      lines-over entry sum q w =
-          refused-prints entry (dispatchTooLarge sum 244) (checked p lent short t g h d f ∙ ap (λ (x : Dispatch). dispatched p x lent) q) (λ z. absurd (omega (arith, z))) w
+      pub lines-over : (entry sum : ℕ) → d ≡ Over entry sum → Written lentOut 0 (refusedLine entry (answer 20 0 sum 244)) new (told .next) → told .number ≡ 20
+          → Prints (entryCount p) (markPaper builtIn p lent) lentOut new told lent
+      lines-over entry sum q w n =
+          refused-prints entry (dispatchTooLarge sum 244) (checked p lent short t g h d f ∙ ap (λ (x : Dispatch). dispatched p x lent) q) (λ z. absurd (omega (arith, z))) w n
 
-      pub lines-marked : d ≡ Fits → {log : List ℕ} → Prints (entryCount p) (markFrom builtIn 0 0 0 (fragments p) lent) lentOut new next log
-          → Prints (entryCount p) (markPaper builtIn p lent) lentOut new next log
+      pub lines-marked : d ≡ Fits → {log : List ℕ} → Prints (entryCount p) (markFrom builtIn 0 0 0 (fragments p) lent) lentOut new told log
+          → Prints (entryCount p) (markPaper builtIn p lent) lentOut new told log
       lines-marked q {log} w =
-          subst (λ (m : PaperMarked). Prints (entryCount p) m lentOut new next log) (sym (checked p lent short t g h d f ∙ ap (λ (x : Dispatch). dispatched p x lent) q)) w
+          subst (λ (m : PaperMarked). Prints (entryCount p) m lentOut new told log) (sym (checked p lent short t g h d f ∙ ap (λ (x : Dispatch). dispatched p x lent) q)) w
 
 -- The bytes that hold the lines
 
@@ -98,20 +99,22 @@ drop-replicate (suc n) (suc m) a =
     let e : m - n ≡ suc m - suc n = omega arith in
     drop-replicate n m a ∙ ap (λ k. replicate k a) e
 
-module _ (p : Bytes) (lent : List ℕ) (new : Bytes) (size : ℕ) (log : List ℕ) (i : Prints (entryCount p) (markPaper builtIn p lent) (replicate 4096 0) new size log) where
-  pub lines-held : record { bytes = new; size = size } ≡ linesIn (printed builtIn p lent)
+module _ (p : Bytes) (lent : List ℕ) (new : Bytes) (told : Told) (log : List ℕ) (i : Prints (entryCount p) (markPaper builtIn p lent) (replicate 4096 0) new told log) where
+  pub lines-held : record { bytes = new; size = told .next; number = told .number } ≡ linesIn (markPaper builtIn p lent .paper .verdict .answer .number) (printed builtIn p lent)
   unfolding linesIn printed
   lines-held =
       let t : Bytes = linesOf (entryCount p) (markPaper builtIn p lent) in
-      let n : size ≡ length t = i .printed .ends ∙ omega arith in
+      let n : told .next ≡ length t = i .printed .ends ∙ omega arith in
       let e : 0 + length t ≡ length t = omega arith in
       let b : new ≡ t ++ replicate (4096 - length t) 0 =
       i .printed .holds ∙ ap (λ k. t ++ drop k (replicate 4096 0)) e ∙ ap (λ (l : Bytes). t ++ l) (drop-replicate (length t) 4096 0) in
-      ap (λ (l : Bytes). record { bytes = l; size = size }) b ∙ ap (λ k. record { bytes = t ++ replicate (4096 - length t) 0; size = k }) n
+      ap (λ (l : Bytes). record { bytes = l; size = told .next; number = told .number }) b
+      ∙ ap (λ k. record { bytes = t ++ replicate (4096 - length t) 0; size = k; number = told .number }) n
+      ∙ ap (λ k. record { bytes = t ++ replicate (4096 - length t) 0; size = length t; number = k }) (i .numbered)
 
-  pub lines-within : size ≤ 4096 → Within (record { bytes = new; size = size })
+  pub lines-within : told .next ≤ 4096 → Within (record { bytes = new; size = told .next; number = told .number })
   lines-within h =
       let t : Bytes = linesOf (entryCount p) (markPaper builtIn p lent) in
-      let l : size ≤ length new =
+      let l : told .next ≤ length new =
       omega (arith, h, i .printed .ends, ap length (i .printed .holds), length-append t (drop (0 + length t) (replicate 4096 0)), length-drop (0 + length t) (replicate {A = ℕ} 4096 0), length-replicate {A = ℕ} 4096 0) in
-      (l, sym (length-take-le size new l))
+      (l, sym (length-take-le (told .next) new l))

@@ -104,9 +104,54 @@ pub fn write_accepted(out: &mut [u8], at: usize) -> usize
     text::write_word(out, at, b"accepted\n")
 }
 
+// The index after a text whose last line tells the verdict, and the verdict's number.
+struct Told {
+    next: usize,
+    number: u32,
+}
+
+// The last line of a refused paper, and its number.
+fn refuse(
+    out: &mut [u8],
+    at: usize,
+    number: u32,
+    entry: usize,
+    offset: usize,
+    first: u64,
+    second: u64,
+) -> Told
+    requires { ⌜ at + 120 ≤ length (now out) ⌝ }
+    ensures same { λ r.
+        ⌜
+        Written
+        (now (out .entry))
+        at
+        (refusedLine entry (answer number offset first second))
+        (now (out .exit))
+        (r .next)
+        ⌝ }
+    ensures short { λ r. ⌜ r .next ≤ at + 120 ⌝ }
+    ensures number { λ r. ⌜ r .number ≡ number ⌝ }
+{
+    let next = write_refused(out, at, number, entry, offset, first, second);
+    Told { next, number }
+}
+
+// The last line of an accepted paper, and 0.
+fn accept(out: &mut [u8], at: usize) -> Told
+    requires { ⌜ at + 9 ≤ length (now out) ⌝ }
+    ensures same { λ r.
+        ⌜ Written (now (out .entry)) at (text "accepted\n") (now (out .exit)) (r .next) ⌝ }
+    ensures short { λ r. ⌜ r .next ≤ at + 9 ⌝ }
+    ensures number { λ r. ⌜ r .number ≡ 0 ⌝ }
+{
+    let next = write_accepted(out, at);
+    Told { next, number: 0 }
+}
+
 // The lines of all fragments, each marked in its order with its rows in the log, and the last line. 33 lines of at most 100
 // bytes and one of at most 120 have room in 4,096.
-fn write_fragments(paper: &[u8], log: &mut [u16], out: &mut [u8]) -> usize
+fn write_fragments(paper: &[u8], log: &mut [u16], out: &mut [u8]) -> Told
     requires { ⌜ (length (fragments (now paper)) ≤ 33) × (4096 ≤ length (now out)) ⌝ }
     ensures same { λ r.
         ⌜
@@ -118,7 +163,7 @@ fn write_fragments(paper: &[u8], log: &mut [u16], out: &mut [u8]) -> usize
         r
         (now (log .exit))
         ⌝ }
-    ensures short { λ r. ⌜ r ≤ 4096 ⌝ }
+    ensures short { λ r. ⌜ r .next ≤ 4096 ⌝ }
 {
     let entries = header::field(paper, 0) as usize;
     let count = header::fragment_count(paper);
@@ -129,25 +174,16 @@ fn write_fragments(paper: &[u8], log: &mut [u16], out: &mut [u8]) -> usize
         let v = paper::mark_fragment(paper, k, rows, log);
         rows += v.rows;
         if v.number != 0 {
-            return write_refused(out, at, v.number, k, v.offset, v.first, v.second);
+            return refuse(out, at, v.number, k, v.offset, v.first, v.second);
         }
-        at = write_line(
-            out,
-            at,
-            entries,
-            k,
-            v.peak,
-            v.ended,
-            v.end.mains,
-            v.end.alts,
-        );
+        at = write_line(out, at, entries, k, v.peak, v.ended, v.main, v.alt);
         k += 1;
     }
-    write_accepted(out, at)
+    accept(out, at)
 }
 
 // The lines of a paper: 21, 19, the dispatch check of each entry, the bodies in order, then the initialiser.
-fn write_lines(paper: &[u8], log: &mut [u16], out: &mut [u8]) -> usize
+fn write_lines(paper: &[u8], log: &mut [u16], out: &mut [u8]) -> Told
     requires { ⌜ 4096 ≤ length (now out) ⌝ }
     ensures same { λ r.
         ⌜
@@ -159,35 +195,47 @@ fn write_lines(paper: &[u8], log: &mut [u16], out: &mut [u8]) -> usize
         r
         (now (log .exit))
         ⌝ }
-    ensures short { λ r. ⌜ r ≤ 4096 ⌝ }
+    ensures short { λ r. ⌜ r .next ≤ 4096 ⌝ }
 {
     if paper.len() > 8000 {
-        return write_refused(out, 0, 21, 0, 0, paper.len() as u64, 8000);
+        return refuse(out, 0, 21, 0, 0, paper.len() as u64, 8000);
     }
     if !header::header_ok(paper) {
-        return write_refused(out, 0, 19, 0, 0, 0, 0);
+        return refuse(out, 0, 19, 0, 0, 0, 0);
     }
     let d = header::dispatch_check(paper);
     match d {
-        Dispatch::Over { entry, sum } => write_refused(out, 0, 20, entry, 0, sum as u64, 244),
+        Dispatch::Over { entry, sum } => refuse(out, 0, 20, entry, 0, sum as u64, 244),
         Dispatch::Fits => write_fragments(paper, log, out),
     }
 }
 
-// So many bytes of text, and zeros behind them.
+// So many bytes of text, and zeros behind them; and the number of the verdict that the text tells.
 pub struct Lines {
     pub bytes: [u8; 4096],
     pub size: usize,
+    pub number: u32,
 }
 
-// Marks a paper, and gives the lines that are printed of it. Every input comes to its lines.
+// Marks a paper, and gives the lines that are printed of it and the verdict's number. Every input comes to its lines.
 pub fn mark_lines(paper: &[u8], log: &mut [u16]) -> Lines
-    ensures same { λ r. ⌜ r ≡ linesIn (printed builtIn (now (paper .entry)) (now (log .entry))) ⌝ }
+    ensures same { λ r.
+        ⌜
+        r
+        ≡ linesIn
+        (markPaper builtIn (now (paper .entry)) (now (log .entry)) .paper .verdict .answer .number)
+        (printed builtIn (now (paper .entry)) (now (log .entry)))
+        ⌝ }
     ensures logged { λ r.
         ⌜ now (log .exit) ≡ markPaper builtIn (now (paper .entry)) (now (log .entry)) .log ⌝ }
     ensures within { λ r. ⌜ Within r ⌝ }
+    ensures short { λ r. ⌜ r .size ≤ 4096 ⌝ }
 {
     let mut bytes = [0u8; 4096];
-    let size = write_lines(paper, log, &mut bytes);
-    Lines { bytes, size }
+    let told = write_lines(paper, log, &mut bytes);
+    Lines {
+        bytes,
+        size: told.next,
+        number: told.number,
+    }
 }

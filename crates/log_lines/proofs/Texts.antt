@@ -11,7 +11,7 @@ use Rattle.definition.specs.Papers.{entryCount, display}
 use Rattle.text.specs.View.{Written}
 use Rattle.text.proofs.Texts.{written-as, then-written}
 use Rattle.header.specs.View.{fragmentAt}
-use Rattle.stack_analysis.specs.declared.Verdict.{Verdict}
+use Rattle.stack_analysis.specs.declared.Summary.{Summary}
 use Rattle.log_lines.specs.Log.{startLine, start, ending, acceptedLine, refusalLine, malformedLine, verdictLine}
 
 -- the start; the end
@@ -42,9 +42,9 @@ module _ {lent : Bytes} {at : ℕ} {new : Bytes} {next : ℕ} (main alt : ℕ) w
 
 -- the verdict
 
-module _ {lent : Bytes} {new : Bytes} {next : ℕ} (fragment : Bytes) (v : Verdict) where
-  pub verdict-accepted : v .number ≡ 0 → Written lent 0 (acceptedLine (v .peak) (v .ended) (v .end .mains)
-      (v .end .alts)) new next
+module _ {lent : Bytes} {new : Bytes} {next : ℕ} (fragment : Bytes) (v : Summary) where
+  pub verdict-accepted : v .number ≡ 0 → Written lent 0 (acceptedLine (v .peak) (v .ended) (v .main)
+      (v .alt)) new next
       → Written lent 0 (verdictLine fragment v) new next
   unfolding verdictLine
   verdict-accepted e w = rw (eq-eqb (v .number) 0 e) w

@@ -10,7 +10,7 @@ use Rattle.definition.specs.Papers.{entryCount, display}
 use Rattle.header.specs.View.{fragmentAt}
 use Rattle.log_rows.specs.Rows.{instruction}
 use Rattle.reasons.specs.Reasons.{reason}
-use Rattle.stack_analysis.specs.declared.Verdict.{Verdict}
+use Rattle.stack_analysis.specs.declared.Summary.{Summary}
 
 -- A fragment
 
@@ -52,9 +52,9 @@ dispatchLine k sum = labelled "entry " k ++ text ": " ++ refusal 20 sum 244 ++ t
 
 -- the line after the rows of a fragment: accepted, malformed, refused before the walk, or refused at the last row; the arrow
 -- stands under the last digit of its offset
-unfoldable pub verdictLine : Bytes → Verdict → Bytes
+unfoldable pub verdictLine : Bytes → Summary → Bytes
 verdictLine fragment v =
-    pick (eqb (v .number) 0) (acceptedLine (v .peak) (v .ended) (v .end .mains) (v .end .alts))
+    pick (eqb (v .number) 0) (acceptedLine (v .peak) (v .ended) (v .main) (v .alt))
     (pick (eqb (v .number) 3) (malformedLine (v .offset) (display fragment fragment (v .offset) 0))
     (pick (eqb (v .rows) 0) (refusalLine [] (v .number) (v .first) (v .second))
     (refusalLine (text "        ^ ") (v .number) (v .first) (v .second))))

@@ -6,7 +6,7 @@ ghost use lib.ListN.{length};
 ghost use Rattle.text.specs.View.{Written};
 ghost use Rattle.log_lines.specs.Log.{startLine, start, ending, acceptedLine};
 ghost use Rattle.log_lines.specs.Log.{refusal, refusalLine, malformedLine, dispatchLine, verdictLine};
-use stack_analysis::Verdict;
+use stack_analysis::Summary;
 
 // The line before the rows of a fragment.
 fn write_start(out: &mut [u8], entries: usize, k: usize, size: usize, main: u32, alt: u32) -> usize
@@ -123,14 +123,14 @@ pub fn write_dispatch(out: &mut [u8], k: usize, sum: u32) -> usize
 }
 
 // The line after the rows of a fragment: 1 to 4 come before any row.
-pub fn write_verdict(out: &mut [u8], fragment: &[u8], v: Verdict) -> usize
+pub fn write_verdict(out: &mut [u8], fragment: &[u8], v: Summary) -> usize
     requires { ⌜ 256 ≤ length (now out) ⌝ }
     ensures same { λ r.
         ⌜ Written (now (out .entry)) 0 (verdictLine (now (fragment .entry)) v) (now (out .exit)) r ⌝ }
     ensures short { λ r. ⌜ r ≤ 256 ⌝ }
 {
     if v.number == 0 {
-        return write_accepted(out, v.peak, v.ended, v.end.mains, v.end.alts);
+        return write_accepted(out, v.peak, v.ended, v.main, v.alt);
     }
     if v.number == 3 {
         let bytes = display::display(fragment, fragment, v.offset, 0);

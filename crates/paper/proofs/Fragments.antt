@@ -2,10 +2,10 @@
 use mathlib.Core.Bool.{Bool, true, false}
 use mathlib.Core.List.{List, [], _∷_, _++_, append-nil}
 use mathlib.Core.Option.{Option, none, some}
-use mathlib.Core.Path.{_≡_, refl, sym, ap, subst, _∙_}
-use Prim.Native.Nat.{ℕ, suc, _+_, _-_, _*_, _≤_, _<_}
+use mathlib.Core.Path.{_≡_, refl, sym, ap, ap₂, subst, _∙_}
+use Prim.Native.Nat.{ℕ, suc, _+_, _-_, _*_, _≤_, _<_, min}
 use native.Mathlib.Omega.{arith}
-use borrow.Author.Tests.{leb-true}
+use borrow.Author.Tests.{lt-ltb, le-ltb, leb-true, leb-false}
 use lib.Dec.{ltb, leb}
 use lib.ListN.{length, take, drop, length-drop, drop-of-length-le}
 use lib.Seq.{take-all}
@@ -13,27 +13,28 @@ use Rattle.definition.specs.Basics.{Bytes}
 use Rattle.definition.specs.Decoding.{Instruction, decode, instructions, malformedAt}
 use Rattle.definition.specs.Papers.{Fragment, field, partAt, bytesOf, entries, mostParameters, fragments}
 use Rattle.definition.specs.Stacks.{Rules, Stacks, builtIn}
-use Rattle.definition.specs.Walk.{Item, Move, moves, refuses, move, Frame, State, met, onward, follow, atEnd, walk, marked, begin, unknowns, tested, Marked, analysisOf, analysis}
-use Rattle.stack_analysis.specs.View.{packedVerdict}
-use Rattle.stack_analysis.specs.declared.Verdict.{Verdict}
+use Rattle.definition.specs.Walk.{Item, Move, moves, refuses, effect, Frame, State, met, onward, follow, atEnd, walk, answered, begin, unknowns, tested, Marked, analysisOf, analysis}
+use Rattle.stack_analysis.specs.View.{summarized}
+use Rattle.stack_analysis.specs.declared.Summary.{Summary}
 use Rattle.header.specs.View.{fragmentAt}
 use Rattle.header.proofs.Fragments.{bodyAt, state, fragment-body, fragment-state}
-use Rattle.paper.specs.View.{fragmentMarked, Marks}
+use Rattle.paper.specs.View.{fragmentAnalysis, fragmentMarked}
+use Rattle.paper.specs.Parts.{Marks}
 
 -- The rows that an analysis writes
 
 module _ (R : Rules) where
-  rows-end : (fs : List Frame) (s : State) → marked (atEnd fs s) .verdict .rows ≡ s .rows
+  rows-end : (fs : List Frame) (s : State) → answered (atEnd fs s) .verdict .rows ≡ s .rows
   rows-end [] s = refl
   rows-end (f ∷ fs) s = refl
 
-  rows-walk : (is : List Instruction) (s : State) → marked (walk R is s) .verdict .rows ≤ s .rows + length is
+  rows-walk : (is : List Instruction) (s : State) → answered (walk R is s) .verdict .rows ≤ s .rows + length is
   unfolding walk
   rows-walk [] s = omega (arith, rows-end (s .frames) s)
-  rows-walk (i ∷ is) s = by (λ t. rows-walk is t) (move R i (R .classOf (i .opcode)) (s .arm) (s .frames))
+  rows-walk (i ∷ is) s = by (λ t. rows-walk is t) (effect R i (R .classFor (i .opcode)) (s .arm) (s .frames))
     where
-      by : ((t : State) → marked (walk R is t) .verdict .rows ≤ t .rows + length is) → (m : Move)
-          → marked (follow m (met i s) (λ t. walk R is t)) .verdict .rows ≤ s .rows + suc (length is)
+      by : ((t : State) → answered (walk R is t) .verdict .rows ≤ t .rows + length is) → (m : Move)
+          → answered (follow m (met i s) (λ t. walk R is t)) .verdict .rows ≤ s .rows + suc (length is)
       by h (moves c fs) = omega (arith, h (onward c fs (met i s)))
       by h (refuses r) = omega arith
 
@@ -58,6 +59,27 @@ module _ (R : Rules) where
 
 -- What a part of the log becomes
 
+-- all of a list and more is all of it
+take-min : (n : ℕ) (l : List ℕ) → take (min n (length l)) l ≡ take n l
+take-min n l = either-by (leb n (length l)) refl
+  where
+    either-by : (b : Bool) → leb n (length l) ≡ b → take (min n (length l)) l ≡ take n l
+    either-by true e = let m : min n (length l) ≡ n = omega (arith, leb-true n (length l) e) in rw m
+    either-by false e =
+        let g : length l < n = leb-false n (length l) e in
+        let m : min n (length l) ≡ length l = omega arith in
+        rw m (take-all (length l) l (omega arith) ∙ sym (take-all n l (omega arith)))
+
+drop-min : (n : ℕ) (l : List ℕ) → drop (min n (length l)) l ≡ drop n l
+drop-min n l = either-by (leb n (length l)) refl
+  where
+    either-by : (b : Bool) → leb n (length l) ≡ b → drop (min n (length l)) l ≡ drop n l
+    either-by true e = let m : min n (length l) ≡ n = omega (arith, leb-true n (length l) e) in rw m
+    either-by false e =
+        let g : length l < n = leb-false n (length l) e in
+        let m : min n (length l) ≡ length l = omega arith in
+        rw m (drop-of-length-le l {i = length l} (omega arith) ∙ sym (drop-of-length-le l {i = n} (omega arith)))
+
 module _ (log : List ℕ) (from : ℕ) where
   all-left : take (length log - from) (drop from log) ≡ drop from log
   all-left = take-all (length log - from) (drop from log) (omega (arith, length-drop from log))
@@ -65,38 +87,72 @@ module _ (log : List ℕ) (from : ℕ) where
   none-after : (rest : List ℕ) → rest ++ drop (length log - from) (drop from log) ≡ rest
   none-after rest = ap (λ l. rest ++ l) (drop-of-length-le (drop from log) {i = length log - from} (omega (arith, length-drop from log))) ∙ append-nil rest
 
--- the analysis of s behind so many rows
-module _ (s : Bytes) (main alt rows : ℕ) (log : List ℕ) where
-  abbrev pub analysed : List ℕ → Marked
+-- the analysis of s from there on
+module _ (s : Bytes) (main alt from : ℕ) (log : List ℕ) where
+  abbrev analysed : List ℕ → Marked
   analysed l = analysis builtIn s main alt l
 
-  pub marks-part : (t : Bytes) (rest : List ℕ) (r : Verdict) → s ≡ t → 3 * rows ≤ length log
-      → r ≡ packedVerdict (analysed (take (length log - 3 * rows) (drop (3 * rows) log)) .verdict) → rest ≡ analysed (take (length log - 3 * rows) (drop (3 * rows) log)) .log
-      → Marks (analysis builtIn t main alt (drop (3 * rows) log)) rows log r (take (3 * rows) log ++ (rest ++ drop (length log - 3 * rows) (drop (3 * rows) log)))
-  unfolding packedVerdict
+  pub marks-part : (t : Bytes) (rest : List ℕ) (r : Summary) → s ≡ t → from ≤ length log
+      → r ≡ summarized (analysed (take (length log - from) (drop from log)) .verdict) → rest ≡ analysed (take (length log - from) (drop from log)) .log
+      → Marks (analysis builtIn t main alt (drop from log)) from log r (take from log ++ (rest ++ drop (length log - from) (drop from log)))
+  unfolding summarized
   marks-part t rest r q h e f =
-      let e′ : r ≡ packedVerdict (analysed (drop (3 * rows) log) .verdict) = e ∙ ap (λ l. packedVerdict (analysed l .verdict)) (all-left log (3 * rows)) in
-      let f′ : rest ≡ analysed (drop (3 * rows) log) .log = f ∙ ap (λ l. analysed l .log) (all-left log (3 * rows)) in
-      subst (λ (u : Bytes). Marks (analysis builtIn u main alt (drop (3 * rows) log)) rows log r (take (3 * rows) log ++ (rest ++ drop (length log - 3 * rows) (drop (3 * rows) log)))) q
+      let e′ : r ≡ summarized (analysed (drop from log) .verdict) = e ∙ ap (λ l. summarized (analysed l .verdict)) (all-left log from) in
+      let f′ : rest ≡ analysed (drop from log) .log = f ∙ ap (λ l. analysed l .log) (all-left log from) in
+      subst (λ (u : Bytes). Marks (analysis builtIn u main alt (drop from log)) from log r (take from log ++ (rest ++ drop (length log - from) (drop from log)))) q
       (record {
         same = e′;
-        logged = ap (λ l. take (3 * rows) log ++ l) (none-after log (3 * rows) rest ∙ f′);
-        room = omega (arith, ap (λ (v : Verdict). v .rows) e′, rows-analysis builtIn s main alt (drop (3 * rows) log), length-drop (3 * rows) log);
+        logged = ap (λ l. take from log ++ l) (none-after log from rest ∙ f′);
+        room = omega (arith, ap (λ (v : Summary). v .rows) e′, rows-analysis builtIn s main alt (drop from log), length-drop from log);
       })
 
--- the analysis of a fragment is that of its bytes from its heights
-module _ (p : Bytes) (k rows : ℕ) (log : List ℕ) (r : Verdict) (new : List ℕ) where
-  as-fragment : (f : Fragment) → fragmentAt p k ≡ f → Marks (analysis builtIn (f .bytes) (f .main) (f .alt) (drop (3 * rows) log)) rows log r new → Marks (fragmentMarked p k rows log) rows log r new
-  as-fragment f e m = subst (λ (g : Fragment). Marks (analysis builtIn (g .bytes) (g .main) (g .alt) (drop (3 * rows) log)) rows log r new) (sym e) m
+-- What is promised of a fragment
 
-  pub marks-body : (n parameters fields : ℕ) → n ≡ field p 0 → k < n → parameters ≡ field p (8 + 6 * k) → fields ≡ field p 2
-      → Marks (analysis builtIn (bytesOf p (partAt p (8 + 6 * k + 2))) (parameters + fields) 0 (drop (3 * rows) log)) rows log r new → Marks (fragmentMarked p k rows log) rows log r new
-  marks-body n parameters fields e h f g m =
-      as-fragment (bodyAt p (8 + 6 * k)) (fragment-body p k (omega (arith, e, h)))
-      (subst (λ (main : ℕ). Marks (analysis builtIn (bytesOf p (partAt p (8 + 6 * k + 2))) main 0 (drop (3 * rows) log)) rows log r new) (rw (f, g)) m)
+pub record FragmentMarks (p : Bytes) (k rows : ℕ) (log : List ℕ) (r : Summary) (new : List ℕ) : Type 0 where
+  pub same : r ≡ summarized (fragmentMarked p k rows log .verdict)
+  pub logged : new ≡ fragmentMarked p k rows log .log
+  pub room : 3 * rows ≤ length log → 3 * (rows + r .rows) ≤ length log
 
-  pub marks-state : (n most : ℕ) → n ≡ field p 0 → n ≤ k → k < length (fragments p) → most ≡ mostParameters (entries p)
-      → Marks (analysis builtIn (bytesOf p (partAt p 4)) most 1 (drop (3 * rows) log)) rows log r new → Marks (fragmentMarked p k rows log) rows log r new
-  marks-state n most e h l f m =
-      as-fragment (state p) (fragment-state p k (omega (arith, e, h)) l)
-      (subst (λ (main : ℕ). Marks (analysis builtIn (bytesOf p (partAt p 4)) main 1 (drop (3 * rows) log)) rows log r new) f m)
+module _ (p : Bytes) (k rows : ℕ) (log : List ℕ) where
+  pub no-fragment : length (fragments p) ≤ k
+      → FragmentMarks p k rows log (record { number = 19; offset = 0; first = 0; second = 0; rows = 0; peak = 0; ended = false; main = 0; alt = 0 }) log
+  unfolding fragmentMarked summarized
+  no-fragment h = record { same = rw (le-ltb k (length (fragments p)) h); logged = rw (le-ltb k (length (fragments p)) h); room = λ g. omega arith }
+
+  module _ (there : k < length (fragments p)) where
+    marked-there : fragmentMarked p k rows log ≡ record { verdict = fragmentAnalysis p k rows log .verdict; log = take (3 * rows) log ++ fragmentAnalysis p k rows log .log }
+    unfolding fragmentMarked
+    marked-there = rw (lt-ltb k (length (fragments p)) there)
+
+    module _ (r : Summary) (new : List ℕ) where
+      -- for a caller whose rows lie within the log
+      pub fragment-marks : FragmentMarks p k rows log r new → 3 * rows ≤ length log → Marks (fragmentAnalysis p k rows log) (3 * rows) log r new
+      fragment-marks m h = record {
+        same = m .same ∙ ap (λ (x : Marked). summarized (x .verdict)) marked-there;
+        logged = m .logged ∙ ap (λ (x : Marked). x .log) marked-there;
+        room = omega (arith, m .room h);
+      }
+
+      module _ (from : ℕ) (start : from ≡ min (3 * rows) (length log)) where
+        in-log : (f : Fragment) → fragmentAt p k ≡ f → Marks (analysis builtIn (f .bytes) (f .main) (f .alt) (drop from log)) from log r new → FragmentMarks p k rows log r new
+        in-log f e m =
+            let d : drop from log ≡ drop (3 * rows) log = ap (λ n. drop n log) start ∙ drop-min (3 * rows) log in
+            let t : take from log ≡ take (3 * rows) log = ap (λ n. take n log) start ∙ take-min (3 * rows) log in
+            let a : analysis builtIn (f .bytes) (f .main) (f .alt) (drop from log) ≡ fragmentAnalysis p k rows log = rw (d, ← e) in
+            record {
+              same = m .same ∙ ap (λ (x : Marked). summarized (x .verdict)) a ∙ sym (ap (λ (x : Marked). summarized (x .verdict)) marked-there);
+              logged = m .logged ∙ ap₂ (λ (x : List ℕ) (y : Marked). x ++ y .log) t a ∙ sym (ap (λ (x : Marked). x .log) marked-there);
+              room = λ h. omega (arith, m .room, start);
+            }
+
+        pub marks-body : (n parameters fields : ℕ) → n ≡ field p 0 → k < n → parameters ≡ field p (8 + 6 * k) → fields ≡ field p 2
+            → Marks (analysis builtIn (bytesOf p (partAt p (8 + 6 * k + 2))) (parameters + fields) 0 (drop from log)) from log r new → FragmentMarks p k rows log r new
+        marks-body n parameters fields e h f g m =
+            in-log (bodyAt p (8 + 6 * k)) (fragment-body p k (omega (arith, e, h)))
+            (subst (λ (main : ℕ). Marks (analysis builtIn (bytesOf p (partAt p (8 + 6 * k + 2))) main 0 (drop from log)) from log r new) (rw (f, g)) m)
+
+        pub marks-state : (n most : ℕ) → n ≡ field p 0 → n ≤ k → most ≡ mostParameters (entries p)
+            → Marks (analysis builtIn (bytesOf p (partAt p 4)) most 1 (drop from log)) from log r new → FragmentMarks p k rows log r new
+        marks-state n most e h f m =
+            in-log (state p) (fragment-state p k (omega (arith, e, h)) there)
+            (subst (λ (main : ℕ). Marks (analysis builtIn (bytesOf p (partAt p 4)) main 1 (drop from log)) from log r new) f m)

@@ -15,12 +15,13 @@ use Rattle.definition.specs.Refusals.{answer}
 use Rattle.definition.specs.Stacks.{Rules, builtIn}
 use Rattle.definition.specs.Walk.{Marked, dead, analysis}
 use Rattle.definition.proofs.TrueOfPaper.{trueOfPaper}
-use Rattle.stack_analysis.specs.View.{packedVerdict}
-use Rattle.stack_analysis.specs.declared.Verdict.{Verdict}
+use Rattle.stack_analysis.specs.View.{summarized}
+use Rattle.stack_analysis.specs.declared.Summary.{Summary}
 use Rattle.header.specs.View.{dispatched, fragmentAt}
 use Rattle.header.specs.declared.Dispatch.{Dispatch}
 use Rattle.header.specs.declared.Dispatch.the-variants.{Fits, Over}
-use Rattle.paper.specs.View.{fragmentMarked, Marks, paperOf}
+use Rattle.paper.specs.View.{fragmentAnalysis, paperOf}
+use Rattle.paper.specs.Parts.{Marks}
 use Rattle.paper.specs.declared.PaperVerdict.{PaperVerdict}
 
 -- The fragments one after another
@@ -76,27 +77,27 @@ module _ (p : Bytes) (lent : List ℕ) where
           logged = sym (i .logged ∙ ap (λ fs. markFrom builtIn k rows peak fs log .log) e);
         }
 
-    module _ (more : k < length (fragments p)) (v : Verdict) (new : List ℕ) (m : Marks (fragmentMarked p k rows log) rows log v new) where
+    module _ (more : k < length (fragments p)) (v : Summary) (new : List ℕ) (m : Marks (fragmentAnalysis p k rows log) (3 * rows) log v new) where
       front : drop k (fragments p) ≡ fragmentAt p k ∷ drop (k + 1) (fragments p)
       front =
           let e : suc k ≡ k + 1 = omega arith in
           drop-cons (fragments p) k _ more ∙ ap (λ n. fragmentAt p k ∷ drop n (fragments p)) e
 
-      rows-are : v .rows ≡ fragmentMarked p k rows log .verdict .rows
-      unfolding packedVerdict
-      rows-are = ap (λ (u : Verdict). u .rows) (m .same)
+      rows-are : v .rows ≡ fragmentAnalysis p k rows log .verdict .rows
+      unfolding summarized
+      rows-are = ap (λ (u : Summary). u .rows) (m .same)
 
-      peak-is : v .peak ≡ fragmentMarked p k rows log .verdict .peak
-      unfolding packedVerdict
-      peak-is = ap (λ (u : Verdict). u .peak) (m .same)
+      peak-is : v .peak ≡ fragmentAnalysis p k rows log .verdict .peak
+      unfolding summarized
+      peak-is = ap (λ (u : Summary). u .peak) (m .same)
 
-      number-is : v .number ≡ fragmentMarked p k rows log .verdict .answer .number
-      unfolding packedVerdict
-      number-is = ap (λ (u : Verdict). u .number) (m .same)
+      number-is : v .number ≡ fragmentAnalysis p k rows log .verdict .answer .number
+      unfolding summarized
+      number-is = ap (λ (u : Summary). u .number) (m .same)
 
       -- fragment k is accepted: the marking from it on
       pub onto : v .number ≡ 0 → (peak′ : ℕ) → peak′ ≡ max peak (v .peak)
-          → after (fragmentMarked p k rows log .verdict) (markFrom builtIn (k + 1) (rows + v .rows) peak′ (drop (k + 1) (fragments p)) new)
+          → after (fragmentAnalysis p k rows log .verdict) (markFrom builtIn (k + 1) (rows + v .rows) peak′ (drop (k + 1) (fragments p)) new)
           ≡ markFrom builtIn k rows peak (drop k (fragments p)) log
       onto z peak′ e =
           rw (e, rows-are, peak-is, m .logged) (sym (from-accepted k rows peak (fragmentAt p k) (drop (k + 1) (fragments p)) log (sym number-is ∙ z)))
@@ -116,10 +117,10 @@ module _ (p : Bytes) (lent : List ℕ) where
           ≡ record {
             paper = record {
               entry = k;
-              verdict = record { answer = fragmentMarked p k rows log .verdict .answer; rows = rows + fragmentMarked p k rows log .verdict .rows; peak = 0; end = dead };
+              verdict = record { answer = fragmentAnalysis p k rows log .verdict .answer; rows = rows + fragmentAnalysis p k rows log .verdict .rows; peak = 0; end = dead };
             };
             verdicts = [];
-            log = outOf rows log (fragmentMarked p k rows log);
+            log = outOf rows log (fragmentAnalysis p k rows log);
           }
       told z =
           ap (λ fs. markFrom builtIn k rows peak fs log) front
@@ -129,20 +130,20 @@ module _ (p : Bytes) (lent : List ℕ) where
       pub marking-stops : (v .number ≡ 0 → ⊥)
           → Answers (record { entry = k; number = v .number; offset = v .offset; first = v .first; second = v .second; rows = rows + v .rows; peak = 0 }) new
           (markFrom builtIn 0 0 0 (fragments p) lent)
-      unfolding packedVerdict paperOf
+      unfolding summarized paperOf
       marking-stops z = record {
         same = shown (m .same) ∙ sym (i .paper ∙ ap (λ (x : PaperMarked). x .paper) (told z));
         logged = m .logged ∙ sym (i .logged ∙ ap (λ (x : PaperMarked). x .log) (told z));
       }
         where
-          shown : {w : Verdict} → w ≡ packedVerdict (fragmentMarked p k rows log .verdict)
+          shown : {w : Summary} → w ≡ summarized (fragmentAnalysis p k rows log .verdict)
               → paperOf (record { entry = k; number = w .number; offset = w .offset; first = w .first; second = w .second; rows = rows + w .rows; peak = 0 })
               ≡ record {
                 entry = k;
-                verdict = record { answer = fragmentMarked p k rows log .verdict .answer; rows = rows + fragmentMarked p k rows log .verdict .rows; peak = 0; end = dead };
+                verdict = record { answer = fragmentAnalysis p k rows log .verdict .answer; rows = rows + fragmentAnalysis p k rows log .verdict .rows; peak = 0; end = dead };
               }
           shown e =
-              ap (λ (u : Verdict). record {
+              ap (λ (u : Summary). record {
                 entry = k;
                 verdict = record { answer = answer (u .number) (u .offset) (u .first) (u .second); rows = rows + u .rows; peak = 0; end = dead };
               }) e

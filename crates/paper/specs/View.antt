@@ -1,27 +1,31 @@
 -- What the code's types stand for in the definitions of document 01.
 use mathlib.Core.List.{List, _++_}
-use mathlib.Core.Path.{_≡_}
-use Prim.Native.Nat.{ℕ, _+_, _*_, _≤_}
+use Prim.Native.Nat.{ℕ, _*_}
+use lib.Dec.{ltb}
 use lib.ListN.{length, take, drop}
-use Rattle.definition.specs.Basics.{Bytes}
+use Rattle.definition.specs.Basics.{Bytes, pick}
 use Rattle.definition.specs.Papers as P
+use Rattle.definition.specs.Refusals.{badHeader}
 use Rattle.definition.specs.Stacks.{builtIn}
-use Rattle.definition.specs.Walk.{dead, Marked, analysis}
-use Rattle.stack_analysis.specs.View.{packedVerdict}
-use Rattle.stack_analysis.specs.declared.Verdict.{Verdict}
+use Rattle.definition.specs.Walk.{dead, Marked, analysis, refusedEarly}
 use Rattle.header.specs.View.{fragmentAt}
 use Rattle.paper.specs.declared.PaperVerdict.{PaperVerdict}
 
 -- the analysis of fragment k, on what the log has left behind so many rows
-abbrev pub fragmentMarked : Bytes → ℕ → ℕ → List ℕ → Marked
-fragmentMarked paper k rows log =
+abbrev pub fragmentAnalysis : Bytes → ℕ → ℕ → List ℕ → Marked
+fragmentAnalysis paper k rows log =
     analysis builtIn (fragmentAt paper k .bytes) (fragmentAt paper k .main) (fragmentAt paper k .alt) (drop (3 * rows) log)
 
--- the answer r and the new log are those of the analysis m behind so many rows, and its rows have room
-pub record Marks (m : Marked) (rows : ℕ) (log : List ℕ) (r : Verdict) (new : List ℕ) : Type 0 where
-  pub same : r ≡ packedVerdict (m .verdict)
-  pub logged : new ≡ take (3 * rows) log ++ m .log
-  pub room : 3 * (rows + r .rows) ≤ length log
+-- Fragment k marked behind so many rows: its analysis there, and these rows as they were. 19, and the log as lent, where the
+-- paper has no fragment k. Rows beyond the log leave nothing of it, so that a fragment with an instruction is given 4.
+unfoldable pub fragmentMarked : Bytes → ℕ → ℕ → List ℕ → Marked
+fragmentMarked paper k rows log =
+    pick (ltb k (length (P.fragments paper)))
+    (record {
+      verdict = fragmentAnalysis paper k rows log .verdict;
+      log = take (3 * rows) log ++ fragmentAnalysis paper k rows log .log;
+    })
+    (refusedEarly 0 badHeader log)
 
 -- the verdict that the struct stands for
 unfoldable pub paperOf : PaperVerdict → P.PaperVerdict

@@ -1,17 +1,16 @@
 // Marking a paper: document 01, section 6.
-ghost use mathlib.Core.List.{_++_};
 ghost use mathlib.Core.Path.{_≡_};
-ghost use Prim.Native.Nat.{_+_, _*_, _≤_, _<_};
-ghost use lib.ListN.{length, take, drop};
+ghost use Prim.Native.Nat.{_+_, _*_, _≤_, min};
+ghost use lib.ListN.{length, drop};
 ghost use Rattle.definition.specs.Papers.{partAt, bytesOf, fragments, markFrom, markPaper, EachTrue};
 ghost use Rattle.definition.specs.Stacks.{builtIn};
 ghost use Rattle.definition.specs.Refusals.{answer};
 ghost use Rattle.definition.specs.Walk.{analysis, dead};
-ghost use Rattle.stack_analysis.specs.View.{packedVerdict};
-ghost use Rattle.header.specs.View.{lastPart};
-ghost use Rattle.paper.specs.View.{fragmentMarked, Marks, paperOf};
+ghost use Rattle.stack_analysis.specs.View.{summarized};
+ghost use Rattle.paper.specs.View.{fragmentMarked, paperOf};
+ghost use Rattle.paper.specs.Parts.{Marks};
 use header::Dispatch;
-use stack_analysis::Verdict;
+use stack_analysis::Summary;
 
 // The verdict on a paper: the entry that it is about (E for the initialiser), number, offset and two figures, the rows
 // written, the peak. A paper has no end stacks.
@@ -25,10 +24,20 @@ pub struct PaperVerdict {
     pub peak: u32,
 }
 
-// The part whose offset and length stand at `at`, analysed from these heights; its rows are written from row `rows` on,
-// and 4 weighs it against what the log has left there.
-fn mark_part(paper: &[u8], at: usize, main: u32, alt: u32, rows: usize, log: &mut [u16]) -> Verdict
-    requires { ⌜ (at ≤ lastPart) × (3 * rows ≤ length (now log)) ⌝ }
+// Where the rows behind so many others start in a log of so many numbers: at its end where it has not so many.
+fn rows_start(rows: usize, lent: usize) -> usize
+    ensures { λ r. ⌜ r ≡ min (3 * rows) lent ⌝ }
+{
+    if rows > lent / 3 {
+        return lent;
+    }
+    3 * rows
+}
+
+// The part whose offset and length stand at `at`, analysed from these heights; its rows are written from number `from` of
+// the log on, and 4 weighs it against what the log has left there.
+fn mark_part(paper: &[u8], at: usize, main: u32, alt: u32, from: usize, log: &mut [u16]) -> Summary
+    requires { ⌜ from ≤ length (now log) ⌝ }
     ensures { λ r.
         ⌜
         Marks
@@ -37,37 +46,52 @@ fn mark_part(paper: &[u8], at: usize, main: u32, alt: u32, rows: usize, log: &mu
         (bytesOf (now (paper .entry)) (partAt (now (paper .entry)) at))
         main
         alt
-        (drop (3 * rows) (now (log .entry))))
-        rows
+        (drop from (now (log .entry))))
+        from
         (now (log .entry))
         r
         (now (log .exit))
         ⌝ }
 {
-    stack_analysis::analyze(header::part(paper, at), main, alt, &mut log[3 * rows..])
+    stack_analysis::analyze_heights(header::part(paper, at), main, alt, &mut log[from..])
 }
 
-// The verdict of fragment k, the bodies in order and then the initialiser; its rows are written from row `rows` on.
-pub fn mark_fragment(paper: &[u8], k: usize, rows: usize, log: &mut [u16]) -> Verdict
-    requires { ⌜ (k < length (fragments (now paper))) × (3 * rows ≤ length (now log)) ⌝ }
+// The verdict of fragment k, the bodies in order and then the initialiser; its rows are written behind `rows` others. 19
+// where the paper has no fragment k. Every input comes to a verdict.
+pub fn mark_fragment(paper: &[u8], k: usize, rows: usize, log: &mut [u16]) -> Summary
     ensures same { λ r.
         ⌜
         r
-        ≡ packedVerdict (fragmentMarked (now (paper .entry)) k rows (now (log .entry)) .verdict)
+        ≡ summarized (fragmentMarked (now (paper .entry)) k rows (now (log .entry)) .verdict)
         ⌝ }
     ensures logged { λ r.
+        ⌜ now (log .exit) ≡ fragmentMarked (now (paper .entry)) k rows (now (log .entry)) .log ⌝ }
+    ensures room { λ r.
         ⌜
-        now (log .exit)
-        ≡ take (3 * rows) (now (log .entry)) ++ fragmentMarked (now (paper .entry)) k rows (now (log .entry)) .log
+        (3 * rows ≤ length (now (log .entry))
+        → 3 * (rows + r .rows) ≤ length (now (log .entry)))
         ⌝ }
-    ensures room { λ r. ⌜ 3 * (rows + r .rows) ≤ length (now (log .entry)) ⌝ }
 {
+    if k >= header::fragment_count(paper) {
+        return Summary {
+            number: 19,
+            offset: 0,
+            first: 0,
+            second: 0,
+            rows: 0,
+            peak: 0,
+            ended: false,
+            main: 0,
+            alt: 0,
+        };
+    }
+    let from = rows_start(rows, log.len());
     let count = header::field(paper, 0) as usize;
     if k < count {
         let main = header::field(paper, 8 + 6 * k) + header::field(paper, 2);
-        return mark_part(paper, 8 + 6 * k + 2, main, 0, rows, log);
+        return mark_part(paper, 8 + 6 * k + 2, main, 0, from, log);
     }
-    mark_part(paper, 4, header::most_parameters(paper), 1, rows, log)
+    mark_part(paper, 4, header::most_parameters(paper), 1, from, log)
 }
 
 // All fragments, their rows one after another in the log.

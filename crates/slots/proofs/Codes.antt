@@ -6,12 +6,13 @@ use Prim.Native.Nat.{ℕ, _+_, _-_, _%_, _≤_, _<_}
 use native.Mathlib.Omega.{arith}
 use borrow.Author.Tests.{leb-true, leb-false, eqb-true, eqb-false, le-leb, lt-leb, ne-eqb}
 use lib.Dec.{leb, eqb}
+use lib.ListN.{length}
 use Rattle.definition.specs.Decoding.{number}
-use Rattle.definition.specs.Walk.{unknown, exact}
+use Rattle.definition.specs.Walk.{Item, unknown, exact}
 use Rattle.decode.specs.View.{lowBytes, Held}
 use Rattle.decode.specs.declared.Value.the-variants.{Exact}
 use Rattle.decode.proofs.Bytes.{length-low, number-low}
-use Rattle.slots.specs.View.{slotItem, sufficient, codeOf, slotCode, itemNumber, slotBytes, Canon}
+use Rattle.slots.specs.View.{slotItem, sufficient, codeOf, Canon}
 
 pub either : (i j : ℕ) (C : Type 0) → (i ≡ j → C) → ((i ≡ j → ⊥) → C) → C
 either i j C f g = by (eqb i j) refl
@@ -126,7 +127,17 @@ module _ (len n : ℕ) where
             (λ h. h);
       }
 
--- The one form of a slot
+-- The slot of an item
+
+-- its code
+abbrev pub slotCode : Item → ℕ
+slotCode unknown = 9
+slotCode (exact l) = codeOf (length l) (number l)
+
+-- its bytes where the code does not suffice
+abbrev pub slotBytes : Item → ℕ
+slotBytes unknown = 0
+slotBytes (exact l) = number l
 
 module _ (code n : ℕ) (c : Canon code n) where
   pub code-is : slotCode (slotItem code n) ≡ code
@@ -138,13 +149,7 @@ module _ (code n : ℕ) (c : Canon code n) where
       (λ h. ap slotCode (item-high code n h) ∙ (let z : number ((code - 10) ∷ []) ≡ code - 10 = omega arith in
       sym (code-small 1 (number ((code - 10) ∷ [])) refl (omega (arith, c .byte))) ∙ omega arith))
 
-  pub clear-code : code ≡ slotCode (slotItem code n)
-  clear-code = sym code-is
-
-  pub clear-none : sufficient code ≡ true → 0 ≡ slotBytes (slotItem code n)
-  clear-none s = rw (code-is, s)
-
-  pub clear-some : sufficient code ≡ false → n ≡ slotBytes (slotItem code n)
-  clear-some s =
+  pub bytes-are : sufficient code ≡ false → n ≡ slotBytes (slotItem code n)
+  bytes-are s =
       let k : (1 ≤ code) × (code ≤ 8) = not-sufficient code s in
-      rw (code-is, s) (sym (ap itemNumber (item-low code n (k .1)) ∙ number-low code n (c .held (k .0) (k .1))))
+      sym (ap slotBytes (item-low code n (k .1)) ∙ number-low code n (c .held (k .0) (k .1)))

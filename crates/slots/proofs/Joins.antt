@@ -9,9 +9,9 @@ use lib.Dec.{eqb, ltb}
 use lib.ListN.{length, getD, set}
 use Rattle.definition.specs.Basics.{Bytes, pick}
 use Rattle.definition.specs.Walk.{Item, unknown, exact, sameBytes, joinItem, joinItems}
-use Rattle.slots.specs.View.{Slots, slots, slotItem, sufficient, slotCode, slotBytes, cells, tops, Canon, Sound}
+use Rattle.slots.specs.View.{Slots, slots, slotItem, sufficient, cells, tops, Canon, Sound}
 use Rattle.slots.specs.Parts.{Joined, Each, JoinedAt, commonCode, CommonAt}
-use Rattle.slots.proofs.Codes.{canon-unknown, same-item, code-is, clear-some}
+use Rattle.slots.proofs.Codes.{canon-unknown, same-item, slotCode, slotBytes, code-is, bytes-are}
 use Rattle.slots.proofs.Laws.{each-more}
 
 -- Bytes
@@ -63,7 +63,7 @@ module _ (code n code′ n′ : ℕ) (c : Canon code n) (c′ : Canon code′ n�
 
     pub joined-bytes : sufficient code ≡ false → (n ≡ n′ → ⊥) → Joined code n code′ n′ 9
     joined-bytes s h = record {
-      item = sym (join-differ (slotItem code n) (slotItem code′ n′) (λ g. h (clear-some code n c s ∙ ap slotBytes g ∙ sym (clear-some code′ n′ c′ (rw e at s)))));
+      item = sym (join-differ (slotItem code n) (slotItem code′ n′) (λ g. h (bytes-are code n c s ∙ ap slotBytes g ∙ sym (bytes-are code′ n′ c′ (rw e at s)))));
       canon = canon-unknown;
     }
 

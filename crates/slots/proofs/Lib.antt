@@ -1,5 +1,5 @@
 pub mod Codes
 pub mod Laws
 pub mod Joins
-pub mod Packs
+pub mod Blanks
 pub mod Values

@@ -9,7 +9,7 @@ use Rattle.definition.specs.Basics.{pick}
 use Rattle.definition.specs.Walk.{joinItem}
 use Rattle.decode.specs.View.{itemOf, Held}
 use Rattle.decode.specs.declared.Value.{Value}
-use Rattle.slots.specs.View.{Slots, slotItem, sufficient, cells, Canon, slotBytes}
+use Rattle.slots.specs.View.{Slots, slotItem, sufficient, Canon}
 
 -- the n codes from a on say their items by themselves
 abbrev pub Suffice : List ℕ → ℕ → ℕ → Type 0
@@ -58,14 +58,6 @@ commonCode code code1 = pick (eqb code code1) code 9
 -- the code x at j is that of l and m
 abbrev pub CommonAt : List ℕ → List ℕ → ℕ → ℕ → Type 0
 CommonAt l m j x = x ≡ commonCode (getD l j 0) (getD m j 0)
-
--- the bytes at j are those of slot j of p, in the one form
-abbrev pub ClearAt : Slots → ℕ → ℕ → Type 0
-ClearAt p j x = x ≡ slotBytes (cells p j)
-
--- the number at j is that of l
-abbrev pub SameAt : List ℕ → ℕ → ℕ → Type 0
-SameAt l j x = x ≡ getD l j 0
 
 -- the length of an exact item, by its code
 unfoldable pub codeLength : ℕ → ℕ

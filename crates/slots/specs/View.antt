@@ -6,7 +6,6 @@ use Prim.Native.Nat.{ℕ, zero, suc, _+_, _-_, _^_, _≤_, _<_}
 use lib.Dec.{leb, eqb}
 use lib.ListN.{length, getD}
 use Rattle.definition.specs.Basics.{pick}
-use Rattle.definition.specs.Decoding.{number}
 use Rattle.definition.specs.Walk.{Item, unknown, exact}
 use Rattle.decode.specs.View.{lowBytes}
 
@@ -54,19 +53,3 @@ pub record Sound (p : Slots) : Type 0 where
   pub wholeBytes : length (p .bytes) ≡ 244
   pub wholeCodes : length (p .codes) ≡ 244
   pub canon : (j : ℕ) → Canon (getD (p .codes) j 0) (getD (p .bytes) j 0)
-
--- The one form of a slot, with nothing left to choose
-
--- the code of an item's slot
-abbrev pub slotCode : Item → ℕ
-slotCode unknown = 9
-slotCode (exact l) = codeOf (length l) (number l)
-
--- the bytes of an exact item as one number
-abbrev pub itemNumber : Item → ℕ
-itemNumber unknown = 0
-itemNumber (exact l) = number l
-
--- the bytes of an item's slot: 0 where the code suffices
-abbrev pub slotBytes : Item → ℕ
-slotBytes x = pick (sufficient (slotCode x)) 0 (itemNumber x)

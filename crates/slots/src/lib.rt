@@ -5,8 +5,8 @@ ghost use mathlib.Core.Path.{_≡_};
 ghost use mathlib.Core.Bool.{true};
 ghost use lib.ListN.{length};
 ghost use Prim.Native.Nat.{_+_, _≤_, _<_};
-ghost use Rattle.slots.specs.View.{slots, slotItem, slotBytes, codeOf, sufficient, Canon, Sound};
-ghost use Rattle.slots.specs.Parts.{Suffice, Copied, Turned, Joined, Each, JoinedAt, commonCode, CommonAt, ClearAt, SameAt, InSlot, codeLength};
+ghost use Rattle.slots.specs.View.{slots, codeOf, sufficient, Canon, Sound};
+ghost use Rattle.slots.specs.Parts.{Suffice, Copied, Turned, Joined, Each, JoinedAt, commonCode, CommonAt, InSlot, codeLength};
 use decode::Value;
 
 // Whether a code says its item by itself, whatever the bytes of the slot.
@@ -182,51 +182,6 @@ pub fn join_codes(
         i += 1;
     }
     codes
-}
-
-// The bytes of a slot become 0 where its code suffices.
-fn clear_bytes(code: u8, bytes: u64) -> u64
-    requires { ⌜ Canon code bytes ⌝ }
-    ensures { λ r. ⌜ r ≡ slotBytes (slotItem code bytes) ⌝ }
-{
-    if suffices(code) {
-        return 0;
-    }
-    bytes
-}
-
-pub fn clear_slots(
-    mut cleared: [u64; 244],
-    codes: [u8; 244],
-    bytes: [u64; 244],
-    from: usize,
-    to: usize,
-) -> [u64; 244]
-    requires { ⌜ (length cleared ≡ 244) × (Sound (slots bytes codes)) × (from ≤ to) × (to ≤ 244) ⌝ }
-    ensures { λ r. ⌜ Each (ClearAt (slots bytes codes)) cleared from to r ⌝ }
-{
-    let mut i = from;
-    while i < to {
-        let code = codes[i];
-        let n = bytes[i];
-        cleared[i] = clear_bytes(code, n);
-        i += 1;
-    }
-    cleared
-}
-
-// The codes of the slots from `from` up to `to`, among those given.
-pub fn keep_codes(mut kept: [u8; 244], codes: [u8; 244], from: usize, to: usize) -> [u8; 244]
-    requires { ⌜ (length kept ≡ 244) × (from ≤ to) × (to ≤ 244) ⌝ }
-    ensures { λ r. ⌜ Each (SameAt codes) kept from to r ⌝ }
-{
-    let mut i = from;
-    while i < to {
-        let code = codes[i];
-        kept[i] = code;
-        i += 1;
-    }
-    kept
 }
 
 // The value in a slot, by its code and, where that does not suffice, its bytes.

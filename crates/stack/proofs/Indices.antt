@@ -10,7 +10,7 @@ use Rattle.definition.specs.Classes.{DEPTH, SIZE, PICK, ZK}
 use Rattle.definition.specs.Decoding.{serialize, plus}
 use Rattle.definition.specs.Refusals.{mainDry}
 use Rattle.definition.specs.Stacks as S
-use Rattle.definition.specs.Stacks.{pushItem, dropItems, copyItems, rotateItems, popIndex, sizeItem, zkDrop, zkBy, tagOf, noTag, groth16, r0Succinct, step}
+use Rattle.definition.specs.Stacks.{pushItem, dropItems, copyItems, rotateItems, popIndex, sizeItem, zkDrop, zkBy, tagOf, noTag, groth16, r0Succinct, step, plainStep}
 use Rattle.definition.specs.Walk.{Item, known, bytesKnown, marking}
 use Rattle.decode.specs.View.{lowBytes, itemOf, valueOf, Held}
 use Rattle.decode.specs.declared.Value.{Value}
@@ -20,7 +20,7 @@ use Rattle.slots.specs.View.{slotItem, cells, Canon}
 use Rattle.slots.specs.Parts.{Suffice, Copied, Turned, codeLength}
 use Rattle.slots.proofs.Codes.{either, by-code, item-low, item-high}
 use Rattle.slots.proofs.Laws.{length-tops}
-use Rattle.stack.specs.View.{slotsOf, view, plain, Fit, Says, Steps}
+use Rattle.stack.specs.View.{slotsOf, view, Fit, Says, Steps}
 use Rattle.stack.specs.Parts.{without, Pops}
 use Rattle.stack.specs.declared.Stacks.{Stacks}
 use Rattle.stack.specs.declared.Refusal.{Refusal}
@@ -108,9 +108,9 @@ module _ (s : Stacks) (f : Fit s) (limit : ℕ) (r : Stepped) where
     unfolding step
     size-done v len n z e k = steps k (λ R i g. sym (pop-is s h _ ∙ rw (sized (getD (s .codes) (s .mains - 1) 0) (getD (s .bytes) (s .mains - 1) 0) len n z, g, e, item-of-number len)))
 
-    pub size-unknown : getD (s .codes) (s .mains - 1) 0 ≡ 9 → Steps r limit (plain 0 1) (view s) → Steps r limit SIZE (view s)
-    unfolding step
-    size-unknown e k = record { fit = k .fit; same = λ R i g. k .same R i g ∙ rw (drop-none (view s)) (sym (pop-is s h _ ∙ rw e)) }
+    pub size-unknown : getD (s .codes) (s .mains - 1) 0 ≡ 9 → Says r (plainStep marking limit 0 1 (view s)) → Steps r limit SIZE (view s)
+    unfolding step plainStep
+    size-unknown e k = record { fit = k .fit; same = λ R i g. k .same ∙ rw (drop-none (view s), ← g) (sym (pop-is s h _ ∙ rw e)) }
 
 -- ZK
 

@@ -1,8 +1,8 @@
 pub mod Mains
 pub mod Alts
 pub mod Joins
-pub mod Packs
+pub mod Fresh
 pub mod Values
 pub mod Pops
 pub mod Indices
-pub mod OneForm
+pub mod Ends

@@ -13,13 +13,13 @@ use Rattle.definition.specs.Classes.{Ordinary}
 use Rattle.definition.specs.Decoding.{Instruction}
 use Rattle.definition.specs.Refusals as D
 use Rattle.definition.specs.Stacks as S
-use Rattle.definition.specs.Stacks.{pushItem, dropItems, copyItems, rotateItems, tuckTop, nipSecond}
+use Rattle.definition.specs.Stacks.{pushItem, dropItems, copyItems, rotateItems, tuckTop, nipSecond, plainStep}
 use Rattle.definition.specs.Walk.{Item, unknown, marking}
 use Rattle.slots.specs.View.{Slots, slots, slotItem, sufficient, cells, backs, tops, Canon}
 use Rattle.slots.specs.Parts.{Suffice, apart, Copied, turn, Turned}
 use Rattle.slots.proofs.Codes.{either, same-item, sufficient-high, canon-sufficient}
 use Rattle.slots.proofs.Laws.{seg, length-tops, tops-ext, length-seg, tops-seg, tops-parts, length-parts, low-part, turned-list, Placed, Wrote, wrote-copies, wrote-turned, placed-one, turn-low, copied-both, copied-codes, turned-both, turned-codes}
-use Rattle.stack.specs.View.{refusalOf, slotsOf, view, plain, Fit, Says, Steps}
+use Rattle.stack.specs.View.{refusalOf, slotsOf, view, Fit, Says, Steps}
 use Rattle.stack.specs.Parts.{without}
 use Rattle.stack.specs.declared.Stacks.{Stacks}
 use Rattle.stack.specs.declared.Refusal.{Refusal}
@@ -120,33 +120,32 @@ module _ (s : Stacks) (f : Fit s) (k : ℕ) where
 
   -- a plain class: a push, after the drop
   module _ (limit : ℕ) where
-    pub effect-dry : (pushes : ℕ) → s .mains < k → Steps (refusing s (MainDry k (s .mains))) limit (plain k pushes) (view s)
-    unfolding S.step
-    effect-dry zero h = steps (drop-dry h) (λ R i e. refl)
-    effect-dry (suc pushes) h = steps (drop-dry h) (λ R i e. sym (drop-dry h .same) ∙ rw (← drop-dry h .same))
+    pub effect-dry : (pushes : ℕ) → s .mains < k → Says (refusing s (MainDry k (s .mains))) (plainStep marking limit k pushes (view s))
+    unfolding plainStep
+    effect-dry pushes h = refuses s f (MainDry k (s .mains)) _ (rw (← drop-dry h .same))
 
-    pub effect-none : (pushes : ℕ) → pushes ≡ 0 → k ≤ s .mains → Steps (stepped (s .bytes) (s .codes) (s .mains - k) (s .alts)) limit (plain k pushes) (view s)
-    unfolding S.step
-    effect-none pushes g h = rw g (steps (drop-done h) (λ R i e. refl))
+    pub effect-none : (pushes : ℕ) → pushes ≡ 0 → k ≤ s .mains → Says (stepped (s .bytes) (s .codes) (s .mains - k) (s .alts)) (plainStep marking limit k pushes (view s))
+    unfolding plainStep
+    effect-none pushes g h = rw (g, drop-is h) (record { fit = without-fit; same = refl })
 
     module _ (pushes : ℕ) (n : pushes ≡ 0 → ⊥) (h : k ≤ s .mains) where
-      effect-one : (r : Stepped) → Says r (pushItem limit unknown (view (without s k))) → Steps r limit (plain k pushes) (view s)
-      unfolding S.step
+      effect-one : (r : Stepped) → Says r (pushItem limit unknown (view (without s k))) → Says r (plainStep marking limit k pushes (view s))
+      unfolding plainStep
       effect-one r v = by pushes n
         where
-          by : (j : ℕ) → (j ≡ 0 → ⊥) → Steps r limit (plain k j) (view s)
+          by : (j : ℕ) → (j ≡ 0 → ⊥) → Says r (plainStep marking limit k j (view s))
           by zero n = absurd (n refl)
-          by (suc j) n = steps v (λ R i e. rw (drop-is h, e))
+          by (suc j) n = rw (drop-is h) v
 
-      pub effect-full : limit < s .mains - k + s .alts + 1 → Steps (refusing (without s k) (StacksFull (s .mains - k + s .alts + 1) limit)) limit (plain k pushes) (view s)
+      pub effect-full : limit < s .mains - k + s .alts + 1 → Says (refusing (without s k) (StacksFull (s .mains - k + s .alts + 1) limit)) (plainStep marking limit k pushes (view s))
       effect-full g = effect-one _ (push-full (without s k) without-fit limit unknown g)
 
       module _ (t : limit ≤ 244) (g : s .mains - k + s .alts + 1 ≤ limit) where
-        pub effect-mark : Steps (stepped (s .bytes) (set (s .codes) (s .mains - k) 9) (s .mains - k + 1) (s .alts)) limit (plain k pushes) (view s)
+        pub effect-mark : Says (stepped (s .bytes) (set (s .codes) (s .mains - k) 9) (s .mains - k + 1) (s .alts)) (plainStep marking limit k pushes (view s))
         effect-mark = effect-one _ (push-mark (without s k) without-fit limit t g 9 (omega arith) (sufficient-high 9 (omega arith)))
 
         -- the slot is unknown already
-        pub effect-still : getD (s .codes) (s .mains - k) 0 ≡ 9 → Steps (stepped (s .bytes) (s .codes) (s .mains - k + 1) (s .alts)) limit (plain k pushes) (view s)
+        pub effect-still : getD (s .codes) (s .mains - k) 0 ≡ 9 → Says (stepped (s .bytes) (s .codes) (s .mains - k + 1) (s .alts)) (plainStep marking limit k pushes (view s))
         effect-still e =
             let z : set (s .codes) (s .mains - k) 9 ≡ s .codes = ap (set (s .codes) (s .mains - k)) (sym e) ∙ set-getD (s .codes) (s .mains - k) 0 in
             rw z at effect-mark

@@ -1,14 +1,12 @@
 -- What the structs and enums of this crate stand for in the definitions of document 01.
-use mathlib.Core.List.{List, _++_, map, reverse}
 use mathlib.Core.Path.{_≡_}
-use Prim.Native.Nat.{ℕ, zero, suc, _+_, _-_, _≤_}
-use lib.ListN.{length, replicate}
-use Rattle.definition.specs.Classes.{Ordinary, drops, makes}
+use Prim.Native.Nat.{ℕ, _+_, _≤_}
+use Rattle.definition.specs.Classes.{Ordinary}
 use Rattle.definition.specs.Decoding.{Instruction}
 use Rattle.definition.specs.Refusals as D
 use Rattle.definition.specs.Stacks as S
-use Rattle.definition.specs.Walk.{Item, unknown, marking, unknowns}
-use Rattle.slots.specs.View.{Slots, slots, cells, backs, tops, Sound, slotCode, slotBytes}
+use Rattle.definition.specs.Walk.{Item, marking, unknowns}
+use Rattle.slots.specs.View.{Slots, slots, cells, backs, tops, Sound}
 use Rattle.stack.specs.declared.Stacks.{Stacks}
 use Rattle.stack.specs.declared.Refusal.{Refusal}
 use Rattle.stack.specs.declared.Refusal.the-variants.{Nesting, StacksFull, MainDry, AltDry, BadIndex, BadTag, Unmodelled, ArmsDiffer, StrayElse, SecondElse, StrayEndif, OpenIf}
@@ -63,26 +61,7 @@ pub record Steps (r : Stepped) (limit : ℕ) (o : Ordinary) (s : S.Stacks Item) 
   pub fit : Fit (r .stacks)
   pub same : (R : S.Rules) (i : Instruction) → R .limit ≡ limit → outcome (r .answer) (view (r .stacks)) ≡ S.step marking R i o s
 
--- the plain class that pops so many, and pushes no item, or one
-abbrev pub plain : ℕ → ℕ → Ordinary
-plain pops zero = drops pops
-plain pops (suc pushes) = makes pops
-
 -- so many unknown items on each stack
 pub record Fresh (main alt : ℕ) (s : Stacks) : Type 0 where
   pub fit : Fit s
   pub same : view s ≡ unknowns main alt
-
--- The one form of stacks, with nothing left to choose
-
--- all 244 slots from the bottom: main, unknown items in the unused ones, alt
-abbrev pub pool : S.Stacks Item → List Item
-pool s = reverse (s .main) ++ (replicate (244 - S.total s) unknown ++ s .alt)
-
-unfoldable pub packed : S.Stacks Item → Stacks
-packed s = record {
-  bytes = map slotBytes (pool s);
-  mains = length (s .main);
-  alts = length (s .alt);
-  codes = map slotCode (pool s);
-}

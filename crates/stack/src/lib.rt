@@ -1,28 +1,28 @@
 // The two stacks, by value, and what the ordinary opcodes do to them: document 01, section 3.
 ghost use mathlib.Core.Path.{_≡_};
 ghost use mathlib.Core.Bool.{true, false};
-ghost use Prim.Native.Nat.{_+_, _≤_};
+ghost use Prim.Native.Nat.{ℕ, _+_, _≤_, _<_};
 ghost use Rattle.definition.specs.Classes.{DEPTH, SIZE, PICK, ZK};
-ghost use Rattle.definition.specs.Stacks.{pushItem, dropItems, copyItems, rotateItems, tuckTop, nipSecond, moveToAlt, moveFromAlt, popIndex, zkDrop};
+ghost use Rattle.definition.specs.Stacks.{pushItem, dropItems, copyItems, rotateItems, tuckTop, nipSecond, moveToAlt, moveFromAlt, popIndex, zkDrop, plainStep};
 ghost use Rattle.definition.specs.Decoding.{indexOf};
 ghost use Rattle.definition.specs.Walk.{exact, bytesKnown, marking, joinStacks};
 ghost use Rattle.decode.specs.View.{lowBytes, itemOf, Held};
-ghost use Rattle.slots.specs.View.{slotItem, codeOf, sufficient};
-ghost use Rattle.stack.specs.View.{view, packed, plain, Fit, Fresh, Says, Steps};
-ghost use Rattle.stack.specs.Parts.{countOf, Pops};
+ghost use Rattle.ends.specs.View.{itemLength, itemNumber, packedEnd};
+ghost use Rattle.slots.specs.View.{slotItem, codeOf, sufficient, Canon};
+ghost use Rattle.stack.specs.View.{view, Fit, Fresh, Says, Steps};
+ghost use Rattle.stack.specs.Parts.{countOf, Pops, endSlot};
 use decode::Index;
 use decode::Value;
 use decode::number_value;
 use decode::read_index;
+use ends::EndStacks;
 use slots::all_suffice;
-use slots::clear_slots;
 use slots::code_length;
 use slots::code_of;
 use slots::common_codes;
 use slots::copy_bytes;
 use slots::copy_codes;
 use slots::join_codes;
-use slots::keep_codes;
 use slots::rotate_bytes;
 use slots::rotate_codes;
 use slots::slot_value;
@@ -82,6 +82,41 @@ fn count_of(v: Value) -> Count
         Index::NoNumber => Count::Refused(Refusal::BadIndex),
         Index::Negative => Count::Refused(Refusal::BadIndex),
     }
+}
+
+// The slot of item k of all, main from bottom to top and then alt from bottom to top.
+fn end_slot(k: usize, mains: usize) -> usize
+    requires { ⌜ k < mains + 244 ⌝ }
+    ensures { λ r. ⌜ r ≡ endSlot mains k ⌝ }
+{
+    if k < mains {
+        return k;
+    }
+    243 - (k - mains)
+}
+
+// The length of the item in a slot of this code; 255 if it is unknown.
+fn end_length(code: u8) -> u8
+    ensures { λ r. ⌜ ((n : ℕ) → r ≡ itemLength (slotItem code n)) ⌝ }
+{
+    if code == 9 {
+        return 255;
+    }
+    code_length(code)
+}
+
+// The bytes of the item in a slot as one number; 0 if it is unknown.
+fn end_number(code: u8, bytes: u64) -> u64
+    requires { ⌜ Canon code bytes ⌝ }
+    ensures { λ r. ⌜ r ≡ itemNumber (slotItem code bytes) ⌝ }
+{
+    if code > 9 {
+        return (code - 10) as u64;
+    }
+    if suffices(code) {
+        return 0;
+    }
+    bytes
 }
 
 impl Stacks {
@@ -198,7 +233,7 @@ impl Stacks {
         requires { ⌜ Fit self ⌝ }
         requires { ⌜ pushes ≤ 1 ⌝ }
         requires { ⌜ limit ≤ 244 ⌝ }
-        ensures { λ r. ⌜ Steps r limit (plain pops pushes) (view self) ⌝ }
+        ensures { λ r. ⌜ Says r (plainStep marking limit pops pushes (view self)) ⌝ }
     {
         let m = self.mains;
         let a = self.alts;
@@ -553,22 +588,34 @@ impl Stacks {
         }
     }
 
-    // The same stacks in the one form with nothing left to choose.
-    pub fn cleared(mut self) -> Stacks
+    // The stacks in the form that a caller reads.
+    pub fn ends(self) -> EndStacks
         requires { ⌜ Fit self ⌝ }
-        ensures { λ r. ⌜ r ≡ packed (view self) ⌝ }
+        ensures { λ r. ⌜ r ≡ packedEnd (view self) ⌝ }
     {
-        let m = self.mains;
-        let a = self.alts;
+        let main = self.mains;
+        let alt = self.alts;
+        let m = main as usize;
+        let count = m + alt as usize;
         let codes = self.codes;
-        let bytes = self.bytes;
-        let low = clear_slots([0u64; 244], codes, bytes, 0, m as usize);
-        let high = clear_slots(low, codes, bytes, (244 - a) as usize, 244);
-        self.bytes = high;
-        let main = keep_codes([9u8; 244], codes, 0, m as usize);
-        let both = keep_codes(main, codes, (244 - a) as usize, 244);
-        self.codes = both;
-        self
+        let all = self.bytes;
+        let mut lens = [255u8; 244];
+        let mut bytes = [0u64; 244];
+        let mut k: usize = 0;
+        while k < count {
+            let i = end_slot(k, m);
+            let code = codes[i];
+            let n = all[i];
+            lens[k] = end_length(code);
+            bytes[k] = end_number(code, n);
+            k += 1;
+        }
+        EndStacks {
+            main,
+            alt,
+            lens,
+            bytes,
+        }
     }
 
     // The index or the count on top of main, which is still there.

@@ -1,71 +1,65 @@
 -- The verdict that a walk comes to.
-use mathlib.Core.Bool.{Bool, true, false}
+use mathlib.Core.Bool.{true, false}
 use mathlib.Core.List.{List, []}
-use mathlib.Core.Path.{_≡_, refl, sym, ap, subst, _∙_}
+use mathlib.Core.Path.{_≡_, refl, _∙_}
 use Prim.Native.Nat.{ℕ}
 use Rattle.definition.specs.Basics.{Bytes}
 use Rattle.definition.specs.Refusals as D
 use Rattle.definition.specs.Stacks.{Rules}
-use Rattle.definition.specs.Walk.{Arm, dead, live, Marked, refusedVerdict}
-use Rattle.definition.specs.Walk as W
-use Rattle.stack.specs.View.{view, packed, refusalOf, Fresh}
-use Rattle.stack.specs.declared.Stacks.{Stacks}
+use Rattle.definition.specs.Walk.{dead, refusedVerdict}
+use Rattle.stack.specs.View.{refusalOf}
 use Rattle.stack.specs.declared.Refusal.{Refusal}
-use Rattle.stack.specs.declared.Refusal.the-variants as R
-use Rattle.stack_analysis.specs.View.{noStacks, hasEnd, endStacks, packedVerdict}
+use Rattle.stack.proofs.Ends.{main-length, alt-length}
+use Rattle.stack_analysis.specs.View.{summarized}
 use Rattle.walk.specs.Runs.{arm, resume, resumeBy}
 use Rattle.stack_analysis.specs.Walkers.{Ended, concluded, concludedBy}
 use Rattle.walk.specs.declared.Stop.{Stop}
 use Rattle.walk.specs.declared.Stop.the-variants.{Running, End, Conditional, Else, Endif, Refused}
-use Rattle.stack_analysis.specs.declared.Verdict.{Verdict}
+use Rattle.stack_analysis.specs.declared.Summary.{Summary}
 use Rattle.walk.specs.declared.Walk.{Walk}
 
--- no stacks, in their one form
-pub no-end : (s e : Stacks) → Fresh 0 0 s → e ≡ packed (view s) → e ≡ packed noStacks
-no-end s e f k = k ∙ ap packed (f .same)
+-- a refusal
+pub refused-is : (number offset first second rows : ℕ)
+    → record { number = number; offset = offset; first = first; second = second; rows = rows; peak = 0; ended = false; main = 0; alt = 0 }
+    ≡ summarized (record { answer = D.answer number offset first second; rows = rows; peak = 0; end = dead })
+unfolding summarized
+refused-is number offset first second rows = refl
 
-module _ (a : D.Answer) (rows peak : ℕ) where
-  pub without-end : (e : Stacks) → e ≡ packed noStacks
-      → record { number = a .number; offset = a .offset; first = a .first; second = a .second; rows = rows; peak = peak; ended = false; end = e }
-      ≡ packedVerdict (record { answer = a; rows = rows; peak = peak; end = dead })
-  unfolding packedVerdict
-  without-end e k = rw k
-
-pub refused-walk-is : (at rows number first second : ℕ) (r : D.Refusal) (v : Verdict)
+pub refused-walk-is : (at rows number first second : ℕ) (r : D.Refusal) (v : Summary)
     → ((offset : ℕ) → D.refusedAt offset r ≡ D.answer number offset first second)
-    → v ≡ packedVerdict (record { answer = D.answer number at first second; rows = rows; peak = 0; end = dead }) → v ≡ packedVerdict (refusedVerdict at r rows)
+    → v ≡ summarized (record { answer = D.answer number at first second; rows = rows; peak = 0; end = dead }) → v ≡ summarized (refusedVerdict at r rows)
 refused-walk-is at rows number first second r v f e = e ∙ rw (← (f at))
 
 module _ (w : Walk) where
-  pub accepts-live : w .live ≡ true → (e : Stacks) → e ≡ packed (view (w .stacks))
-      → record { number = 0; offset = 0; first = 0; second = 0; rows = w .rows; peak = w .peak; ended = true; end = e }
-      ≡ packedVerdict (record { answer = D.answer 0 0 0 0; rows = w .rows; peak = w .peak; end = arm w })
-  unfolding packedVerdict
-  accepts-live l e k = rw (l, k)
+  pub accepts-live : w .live ≡ true
+      → record { number = 0; offset = 0; first = 0; second = 0; rows = w .rows; peak = w .peak; ended = true; main = w .stacks .mains; alt = w .stacks .alts }
+      ≡ summarized (record { answer = D.answer 0 0 0 0; rows = w .rows; peak = w .peak; end = arm w })
+  unfolding summarized
+  accepts-live l = rw (l, main-length (w .stacks), alt-length (w .stacks))
 
-  pub accepts-dead : w .live ≡ false → (e : Stacks) → e ≡ packed noStacks
-      → record { number = 0; offset = 0; first = 0; second = 0; rows = w .rows; peak = w .peak; ended = false; end = e }
-      ≡ packedVerdict (record { answer = D.answer 0 0 0 0; rows = w .rows; peak = w .peak; end = arm w })
-  unfolding packedVerdict
-  accepts-dead l e k = rw (l, k)
+  pub accepts-dead : w .live ≡ false
+      → record { number = 0; offset = 0; first = 0; second = 0; rows = w .rows; peak = w .peak; ended = false; main = 0; alt = 0 }
+      ≡ summarized (record { answer = D.answer 0 0 0 0; rows = w .rows; peak = w .peak; end = arm w })
+  unfolding summarized
+  accepts-dead l = rw l
 
   -- by how it stands
-  pub concludes-end : w .stop ≡ End → (v : Verdict) → v ≡ packedVerdict (record { answer = D.answer 0 0 0 0; rows = w .rows; peak = w .peak; end = arm w }) → v ≡ packedVerdict (concluded w)
+  pub concludes-end : w .stop ≡ End → (v : Summary) → v ≡ summarized (record { answer = D.answer 0 0 0 0; rows = w .rows; peak = w .peak; end = arm w }) → v ≡ summarized (concluded w)
   concludes-end e v k = k ∙ rw e
 
-  pub concludes-else : w .stop ≡ Else → (v : Verdict) → v ≡ packedVerdict (refusedVerdict (w .last) D.strayElse (w .rows)) → v ≡ packedVerdict (concluded w)
+  pub concludes-else : w .stop ≡ Else → (v : Summary) → v ≡ summarized (refusedVerdict (w .last) D.strayElse (w .rows)) → v ≡ summarized (concluded w)
   concludes-else e v k = k ∙ rw e
 
-  pub concludes-endif : w .stop ≡ Endif → (v : Verdict) → v ≡ packedVerdict (refusedVerdict (w .last) D.strayEndif (w .rows)) → v ≡ packedVerdict (concluded w)
+  pub concludes-endif : w .stop ≡ Endif → (v : Summary) → v ≡ summarized (refusedVerdict (w .last) D.strayEndif (w .rows)) → v ≡ summarized (concluded w)
   concludes-endif e v k = k ∙ rw e
 
-  pub concludes-refused : (r : Refusal) → w .stop ≡ Refused r → (v : Verdict) → v ≡ packedVerdict (refusedVerdict (w .last) (refusalOf r) (w .rows)) → v ≡ packedVerdict (concluded w)
+  pub concludes-refused : (r : Refusal) → w .stop ≡ Refused r → (v : Summary) → v ≡ summarized (refusedVerdict (w .last) (refusalOf r) (w .rows)) → v ≡ summarized (concluded w)
   concludes-refused r e v k = k ∙ rw e
 
-  pub never-running : Ended (w .stop) → w .stop ≡ Running → (v : Verdict) → v ≡ packedVerdict (concluded w)
+  pub never-running : Ended (w .stop) → w .stop ≡ Running → (v : Summary) → v ≡ summarized (concluded w)
   never-running n e v = absurd (rw e at n)
 
-  pub never-conditional : Ended (w .stop) → w .stop ≡ Conditional → (v : Verdict) → v ≡ packedVerdict (concluded w)
+  pub never-conditional : Ended (w .stop) → w .stop ≡ Conditional → (v : Summary) → v ≡ summarized (concluded w)
   never-conditional n e v = absurd (rw e at n)
 
   -- and that is what is left of the definition's walk

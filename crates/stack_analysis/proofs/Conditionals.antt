@@ -11,7 +11,8 @@ use Rattle.definition.specs.Basics.{Bytes, pick}
 use Rattle.definition.specs.Decoding.{instructions}
 use Rattle.definition.specs.Stacks as S
 use Rattle.definition.specs.Stacks.{Rules, Outcome, dropItems}
-use Rattle.definition.specs.Walk.{Item, unknown, exact, Arm, dead, live, First, notEnded, ended, Frame, Move, moves, refuses, sameBytes, joinItem, joinItems, joinStacks, moved, join, opens, opened, onIf, conditional, follow, atEnd, walk, marked}
+use Rattle.definition.proofs.Sound.{opened}
+use Rattle.definition.specs.Walk.{Item, unknown, exact, Arm, dead, live, FirstArm, notEnded, ended, Frame, Move, moves, refuses, sameBytes, joinItem, joinItems, joinStacks, onOutcome, join, opens, onIf, conditional, follow, atEnd, walk, answered}
 use Rattle.stack.specs.View.{view, outcome, refusalOf, Fit, Says}
 use Rattle.stack.specs.declared.Stacks.{Stacks}
 use Rattle.stack.specs.declared.Stepped.{Stepped}
@@ -96,7 +97,7 @@ pub join-comm : (a b : Arm) (fs : List Frame) → join a b fs ≡ join b a fs
 join-comm dead dead fs = refl
 join-comm dead (live t) fs = refl
 join-comm (live s) dead fs = refl
-join-comm (live s) (live t) fs = ap (λ (o : Outcome Item). moved o fs) (join-stacks-comm s t)
+join-comm (live s) (live t) fs = ap (λ (o : Outcome Item). onOutcome o fs) (join-stacks-comm s t)
 
 module _ (R : Rules) (s : Bytes) where
   -- How a conditional opens.
@@ -135,7 +136,7 @@ module _ (R : Rules) (s : Bytes) where
     }
       where
         by : (a : Answer) (fs : List Frame) (log : List ℕ)
-            → marked (follow (opened (outcome a (view (p .stacks))) fs) (stateOf (turned w (w .stacks) true Running) (w .peak) fs log) (λ t. from R s (w .at) t))
+            → answered (follow (opened (outcome a (view (p .stacks))) fs) (stateOf (turned w (w .stacks) true Running) (w .peak) fs log) (λ t. from R s (w .at) t))
             ≡ enteredBy R s (stopOf a) (turned w (p .stacks) true (stopOf a)) fs log
         by A.Done fs log = refl
         by (A.Refused r) fs log = refl
@@ -166,7 +167,7 @@ module _ (R : Rules) (s : Bytes) where
     }
       where
         by : (a : Answer) (fs : List Frame) (log : List ℕ)
-            → marked (follow (moved (outcome a (view (j .stacks))) fs) (stateOf (turned w (w .stacks) true Running) (w .peak) fs log) (λ t. from R s (w .at) t))
+            → answered (follow (onOutcome (outcome a (view (j .stacks))) fs) (stateOf (turned w (w .stacks) true Running) (w .peak) fs log) (λ t. from R s (w .at) t))
             ≡ resume R s (turned w (j .stacks) true (stopOf a)) fs log
         by A.Done fs log = refl
         by (A.Refused r) fs log = refl

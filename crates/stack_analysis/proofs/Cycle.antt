@@ -11,7 +11,7 @@ use Rattle.walk.proofs.Stop.{the-type}
 use Rattle.definition.specs.Basics.{Bytes}
 use Rattle.definition.specs.Decoding.{instructions}
 use Rattle.definition.specs.Stacks.{Rules, builtIn}
-use Rattle.definition.specs.Walk.{Arm, First, notEnded, ended, Frame}
+use Rattle.definition.specs.Walk.{Arm, FirstArm, notEnded, ended, Frame}
 use Rattle.decode.specs.View.{codeAt}
 use Rattle.stack.specs.View.{Fit}
 use Rattle.stack.specs.declared.Refusal.{Refusal}
@@ -113,57 +113,46 @@ stopped-ended from to Else h k = tt
 stopped-ended from to Endif h k = tt
 stopped-ended from to (Refused r) h k = tt
 
--- An arm is walked up to its first conditional, and then on from there.
-
-module _ {s : Bytes} {depth : ℕ} {u v : Walk} {l m : List ℕ} (r : Runs builtIn s u l v m) where
-  -- it has none
-  pub walks-plain : OneOf (0 ∷ 1 ∷ 3 ∷ 4 ∷ 5 ∷ []) (tagOf the-type (v .stop)) → Walks builtIn s depth u l v m
-  walks-plain k = record { goes = among (r .goes); ended = stopped-ended (u .at) (v .at) (v .stop) (r .stopped) k }
-
-  pub walks-on : {w : Walk} {n : List ℕ} → Walks builtIn s depth v m w n → Walks builtIn s depth u l w n
-  walks-on k = record { goes = goes-on (among (r .goes)) (k .goes); ended = k .ended }
-
 -- a conditional that was met lies behind the start
 pub met-later : {s : Bytes} {u v : Walk} {l m : List ℕ} → Runs builtIn s u l v m → v .stop ≡ Conditional → u .at < v .at
 met-later r e = rw e at (r .stopped)
 
--- The loop of the arm walker, which stands at a conditional in each turn.
+-- The loop of the arm walker, which runs at the head of each turn.
 
 pub record Arming (s : Bytes) (depth : ℕ) (v : Walk) (before : List ℕ) (w : Walk) (now : List ℕ) : Type 0 where
   pub goes : Goes builtIn s (Open depth) v before w now
   pub len : length now ≡ length before
-  pub stands : w .stop ≡ Conditional
+  pub runs : w .stop ≡ Running
 
-pub arming-none : {s : Bytes} {depth : ℕ} {v : Walk} {l : List ℕ} → Ready s l v → v .stop ≡ Conditional → Arming s depth v l v l
-arming-none r e = record { goes = stays (r .fit) (r .high); len = refl; stands = e }
+pub arming-none : {s : Bytes} {depth : ℕ} {v : Walk} {l : List ℕ} → Ready s l v → v .stop ≡ Running → Arming s depth v l v l
+arming-none r e = record { goes = stays (r .fit) (r .high); len = refl; runs = e }
 
 module _ {s : Bytes} {depth : ℕ} {v w : Walk} {l n : List ℕ} (a : Arming s depth v l w n) where
-  pub falls-in : 2 * (length s - w .at) + 1 < 2 * (length s - v .at) + 2
-  falls-in = omega (arith, a .goes .low)
-
   pub ready-in : Ready s l v → Ready s n w
   ready-in k = ready-on k (a .goes) (a .len)
 
-  module _ {x : Walk} {o : List ℕ} (c : Closes builtIn s depth w n x o) where
-    pub arm-refused : (y : Refusal) → x .stop ≡ Refused y → Walks builtIn s depth v l x o
-    arm-refused y e = record { goes = goes-on (a .goes) (c .goes); ended = rw e tt }
+  -- the plain part of a turn
+  module _ {p : Walk} {o : List ℕ} (q : Runs builtIn s w n p o) where
+    so-far : Goes builtIn s (Open depth) v l p o
+    so-far = goes-on (a .goes) (among (q .goes))
 
-    pub runs-on : OneOf (0 ∷ 1 ∷ 2 ∷ 3 ∷ 4 ∷ []) (tagOf the-type (x .stop)) → x .stop ≡ Running
-    runs-on k = closed-running (x .stop) (c .closed) k
+    -- it has come to the end of the arm
+    pub arm-ended : OneOf (0 ∷ 1 ∷ 3 ∷ 4 ∷ 5 ∷ []) (tagOf the-type (p .stop)) → Walks builtIn s depth v l p o
+    arm-ended k = record { goes = so-far; ended = stopped-ended (w .at) (p .at) (p .stop) (q .stopped) k }
 
-    pub ready-after : Ready s l v → length o ≡ length n → Ready s o x
-    ready-after k f = ready-on (ready-in k) (c .goes) f
+    -- or to a conditional, which lies behind the start
+    pub falls-in : p .stop ≡ Conditional → 2 * (length s - p .at) + 1 < 2 * (length s - v .at)
+    falls-in e = omega (arith, a .goes .low, met-later q e, q .goes .high)
 
-    module _ {y : Walk} {p : List ℕ} (q : Runs builtIn s x o y p) where
-      so-far : Goes builtIn s (Open depth) v l y p
-      so-far = goes-on (a .goes) (goes-on (c .goes) (among (q .goes)))
+    pub ready-met : Ready s l v → length o ≡ length n → Ready s o p
+    ready-met k f = ready-on (ready-in k) (q .goes) f
 
-      -- it stands at the end of the arm, or at the next conditional
-      pub arm-ended : OneOf (0 ∷ 1 ∷ 3 ∷ 4 ∷ 5 ∷ []) (tagOf the-type (y .stop)) → Walks builtIn s depth v l y p
-      arm-ended k = record { goes = so-far; ended = stopped-ended (x .at) (y .at) (y .stop) (q .stopped) k }
+    module _ {x : Walk} {m : List ℕ} (c : Closes builtIn s depth p o x m) where
+      pub arm-refused : (y : Refusal) → x .stop ≡ Refused y → Walks builtIn s depth v l x m
+      arm-refused y e = record { goes = goes-on so-far (c .goes); ended = rw e tt }
 
-      pub arm-again : y .stop ≡ Conditional → length o ≡ length n → length p ≡ length o → Arming s depth v l y p
-      arm-again e f g = record { goes = so-far; len = g ∙ f ∙ a .len; stands = e }
+      pub arm-again : OneOf (0 ∷ 1 ∷ 2 ∷ 3 ∷ 4 ∷ []) (tagOf the-type (x .stop)) → length o ≡ length n → length m ≡ length o → Arming s depth v l x m
+      arm-again k f g = record { goes = goes-on so-far (c .goes); len = g ∙ f ∙ a .len; runs = closed-running (x .stop) (c .closed) k }
 
-      pub arm-nearer : y .stop ≡ Conditional → length s - y .at < length s - w .at
-      arm-nearer e = omega (arith, met-later q e, c .goes .low, q .goes .high)
+      pub arm-nearer : p .stop ≡ Conditional → length s - x .at < length s - w .at
+      arm-nearer e = omega (arith, met-later q e, c .goes .low, c .goes .high)

@@ -2,7 +2,7 @@
 use mathlib.Core.Bool.{Bool, true, false}
 use mathlib.Core.List.{List, []}
 use mathlib.Core.Option.{Option, none, some}
-use mathlib.Core.Path.{_≡_, refl, sym, ap, subst, _∙_}
+use mathlib.Core.Path.{_≡_, refl, sym, ap, ap₂, subst, _∙_}
 use Prim.Native.Nat.{ℕ, _+_, _*_, _-_, _≤_, _<_, max}
 use native.Mathlib.Omega.{arith}
 use borrow.Author.Tests.{lt-ltb, le-ltb, le-leb, lt-leb}
@@ -11,22 +11,26 @@ use Rattle.definition.specs.Basics.{Bytes}
 use Rattle.definition.specs.Decoding.{decode, instructions, malformedAt}
 use Rattle.definition.specs.Refusals as D
 use Rattle.definition.specs.Replay.{Demand3}
-use Rattle.definition.specs.Stacks.{Rules, builtIn}
-use Rattle.definition.specs.Walk.{Arm, dead, live, Marked, marked, begin, walk, unknowns, analysisOf, analysis, refusedEarly, refusedVerdict, tested}
+use Rattle.definition.specs.Stacks.{builtIn}
+use Rattle.definition.specs.Walk.{Arm, dead, live, Marked, answered, begin, walk, unknowns, analysisOf, analysis, refusedEarly, refusedVerdict, tested}
 use Rattle.definition.specs.Walk as W
 use Rattle.definition.proofs.TrueOfEveryReplay.{trueOfEveryReplay}
-use Rattle.decode.specs.View.{codeAt, countedOf}
-use Rattle.decode.specs.declared.Counted.{Counted}
+use Rattle.decode.specs.View.{codeAt, Count, countedOf, countBy, countIn}
 use Rattle.decode.specs.declared.Counted.the-variants as C
 use Rattle.decode.proofs.Codes.{code-start, code-length}
-use Rattle.stack.specs.View.{view, packed, refusalOf, Fit, Fresh}
+use Rattle.ends.specs.View.{packedEnd, noStacks}
+use Rattle.ends.specs.declared.EndStacks.{EndStacks}
+use Rattle.stack.specs.View.{view, Fit, Fresh}
+use Rattle.ends.proofs.Ends.{packed-main, packed-alt}
 use Rattle.stack.specs.declared.Stacks.{Stacks}
-use Rattle.stack_analysis.specs.View.{endOf, verdictOf, noStacks, hasEnd, endStacks, packedVerdict}
-use Rattle.stack_analysis.specs.Entry.{Marks}
+use Rattle.stack.proofs.Ends.{main-length, alt-length, ends-back}
+use Rattle.stack_analysis.specs.View.{endOf, verdictOf, hasEnd, endStacks, packedVerdict, summarized}
+use Rattle.stack_analysis.specs.Entry.{RefusedEarly, MayWalk, Stops, withEnd}
 use Rattle.walk.specs.Runs.{armOf, resume, Ready}
 use Rattle.stack_analysis.specs.Walkers.{Walks, concluded, concludedBy}
 use Rattle.walk.specs.declared.Stop.{Stop}
 use Rattle.walk.specs.declared.Stop.the-variants.{Running, End, Conditional, Else, Endif, Refused}
+use Rattle.stack_analysis.specs.declared.Summary.{Summary}
 use Rattle.stack_analysis.specs.declared.Verdict.{Verdict}
 use Rattle.walk.specs.declared.Walk.{Walk}
 use Rattle.stack_analysis.proofs.Answers.{concluded-is}
@@ -34,7 +38,7 @@ use Rattle.stack_analysis.proofs.Answers.{concluded-is}
 -- a walk from main and alt unknown items
 module _ (s : Bytes) (main alt : ℕ) (log : List ℕ) where
   abbrev pub walked : Marked
-  walked = marked (walk builtIn (instructions (decode s)) (begin (unknowns main alt) log))
+  walked = answered (walk builtIn (instructions (decode s)) (begin (unknowns main alt) log))
 
   started : (v : Walk) → v .stop ≡ Running → v .live ≡ true → v .at ≡ 0 → v .last ≡ 0 → v .rows ≡ 0 → v .peak ≡ main + alt → Fresh main alt (v .stacks)
       → resume builtIn s v [] log ≡ walked
@@ -43,101 +47,152 @@ module _ (s : Bytes) (main alt : ℕ) (log : List ℕ) where
       = simp length-replicate (omega arith) in
       rw (stop, at, ← (code-start s), last, rows, peak, alive, f .same, total)
 
--- the struct stands for the verdict that it was made from
-module _ (back : (t : Stacks) → Fit t → view (packed (view t)) ≡ view t) where
-  end-back : (alive : Bool) (t : Stacks) → Fit t → endOf (hasEnd (armOf alive t)) (endStacks (armOf alive t)) ≡ armOf alive t
-  end-back true t f = ap live (back t f)
-  end-back false t f = refl
+-- the walk of a fragment has stopped
+pub walk-stops : (s : Bytes) (main alt : ℕ) (log new : List ℕ) (v w : Walk) → Walks builtIn s 0 v log w new
+    → v .stop ≡ Running → v .live ≡ true → v .at ≡ 0 → v .last ≡ 0 → v .rows ≡ 0 → v .peak ≡ main + alt → Fresh main alt (v .stacks)
+    → Stops w new (walked s main alt log)
+walk-stops s main alt log new v w g stop alive at last rows peak f = record {
+  fit = g .goes .fit;
+  ended = g .ended;
+  same = sym (started s main alt log v stop alive at last rows peak f) ∙ g .goes .same [] refl ∙ concluded-is w builtIn s new (g .ended);
+}
 
-  verdict-back : (w : Walk) → Fit (w .stacks) → (x : Stop) → verdictOf (packedVerdict (concludedBy x w)) ≡ concludedBy x w
-  unfolding verdictOf packedVerdict
-  verdict-back w f End = rw (end-back (w .live) (w .stacks) f)
-  verdict-back w f Running = refl
-  verdict-back w f Conditional = refl
-  verdict-back w f Else = refl
-  verdict-back w f Endif = refl
-  verdict-back w f (Refused r) = refl
-
-  pub marks-walk : (s : Bytes) (main alt : ℕ) (log new : List ℕ) (v w : Walk) (r : Verdict) → Walks builtIn s 0 v log w new
-      → v .stop ≡ Running → v .live ≡ true → v .at ≡ 0 → v .last ≡ 0 → v .rows ≡ 0 → v .peak ≡ main + alt → Fresh main alt (v .stacks)
-      → r ≡ packedVerdict (concluded w) → Marks r new (walked s main alt log)
-  marks-walk s main alt log new v w r g stop alive at last rows peak f e =
-      let m : walked s main alt log ≡ record { verdict = concluded w; log = new } =
-      sym (started s main alt log v stop alive at last rows peak f) ∙ g .goes .same [] refl ∙ concluded-is w builtIn s new (g .ended) in
-      record {
-        same = rw m e;
-        shows = rw (m, e) (verdict-back w (g .goes .fit) (w .stop));
-        logged = rw m;
-      }
-
--- what the entry point promises of its answer r and the log afterwards
-pub record Analysed (s : Bytes) (main alt : ℕ) (log : List ℕ) (r : Verdict) (new : List ℕ) : Type 0 where
-  pub same : r ≡ packedVerdict (analysis builtIn s main alt log .verdict)
-  pub logged : new ≡ analysis builtIn s main alt log .log
-  pub replayed : r .number ≡ 0 → Demand3 builtIn (instructions (decode s)) (unknowns main alt) (record { verdict = verdictOf r; log = new })
+-- The tests before the walk
 
 module _ (s : Bytes) (main alt : ℕ) (log : List ℕ) where
-  -- where r and the log are the analysis's and r stands for its verdict, demand 3 holds of them
-  whole : (r : Verdict) (new : List ℕ) → Marks r new (analysis builtIn s main alt log) → Analysed s main alt log r new
-  unfolding packedVerdict
-  whole r new m = record {
-    same = m .same;
-    logged = m .logged;
-    replayed = λ z.
-        let e : record { verdict = verdictOf r; log = new } ≡ analysis builtIn s main alt log = λ i. record { verdict = m .shows i; log = m .logged i } in
-        subst (Demand3 builtIn (instructions (decode s)) (unknowns main alt)) (sym e) (trueOfEveryReplay s main alt log (sym (ap (λ (v : Verdict). v .number) (m .same)) ∙ z));
-  }
-
   -- an early refusal
-  early : (offset : ℕ) (x : D.Refusal) (r : Verdict) → analysis builtIn s main alt log ≡ refusedEarly offset x log → r ≡ packedVerdict (refusedVerdict offset x 0)
-      → Analysed s main alt log r log
-  unfolding verdictOf packedVerdict
-  early offset x r e k = whole r log (record { same = rw e k; shows = rw (e, k) back; logged = rw e })
-    where
-      back : verdictOf (packedVerdict (refusedVerdict offset x 0)) ≡ refusedVerdict offset x 0
-      back = refl
+  refuses-early : (offset : ℕ) (x : D.Refusal) (r : Summary) → analysis builtIn s main alt log ≡ refusedEarly offset x log → r ≡ summarized (refusedVerdict offset x 0)
+      → RefusedEarly r log (analysis builtIn s main alt log)
+  refuses-early offset x r e k = record { same = rw e k; none = rw e; logged = rw e }
 
-  pub too-long : 10000 < length s → (r : Verdict) → r ≡ packedVerdict (refusedVerdict 0 (D.longFragment (length s)) 0) → Analysed s main alt log r log
+  pub too-long : 10000 < length s → (r : Summary) → r ≡ summarized (refusedVerdict 0 (D.longFragment (length s)) 0) → RefusedEarly r log (analysis builtIn s main alt log)
   unfolding analysis
-  too-long h r e = early 0 (D.longFragment (length s)) r (rw (lt-ltb 10000 (length s) h)) e
+  too-long h r e = refuses-early 0 (D.longFragment (length s)) r (rw (lt-ltb 10000 (length s) h)) e
 
   module _ (short : length s ≤ 10000) where
-    pub too-high : 244 < main + alt → (r : Verdict) → r ≡ packedVerdict (refusedVerdict 0 (D.startTooLarge (main + alt) 244) 0) → Analysed s main alt log r log
+    pub too-high : 244 < main + alt → (r : Summary) → r ≡ summarized (refusedVerdict 0 (D.startTooLarge (main + alt) 244) 0) → RefusedEarly r log (analysis builtIn s main alt log)
     unfolding analysis
-    too-high h r e = early 0 (D.startTooLarge (main + alt) 244) r (rw (le-ltb 10000 (length s) short, lt-ltb 244 (main + alt) h)) e
+    too-high h r e = refuses-early 0 (D.startTooLarge (main + alt) 244) r (rw (le-ltb 10000 (length s) short, lt-ltb 244 (main + alt) h)) e
 
     module _ (low : main + alt ≤ 244) where
       in-code : analysis builtIn s main alt log ≡ tested builtIn (malformedAt (decode s)) (instructions (decode s)) (unknowns main alt) log
       unfolding analysis analysisOf
       in-code = rw (le-ltb 10000 (length s) short, le-ltb 244 (main + alt) low)
 
-      counted-malformed : (m : Option ℕ) (n offset : ℕ) → C.Malformed offset ≡ countedOf m n → m ≡ some offset
-      counted-malformed none n offset e = cc
-      counted-malformed (some p) n offset e = cc
+      counted-malformed : (m : Option ℕ) (n offset : ℕ) → countedOf (C.Malformed offset) ≡ countBy m n → m ≡ some offset
+      counted-malformed none n offset e = absurd (omega (arith, ap (λ (c : Count). c .answer .number) e))
+      counted-malformed (some p) n offset e = ap some (sym (ap (λ (c : Count). c .answer .offset) e))
 
-      counted-whole : (m : Option ℕ) (n k : ℕ) → C.Whole k ≡ countedOf m n → (m ≡ none) × (k ≡ n)
-      counted-whole none n k e = (refl, cc)
-      counted-whole (some p) n k e = (cc, cc)
+      counted-whole : (m : Option ℕ) (n k : ℕ) → countedOf (C.Whole k) ≡ countBy m n → (m ≡ none) × (k ≡ n)
+      counted-whole none n k e = (refl, ap (λ (c : Count). c .count) e)
+      counted-whole (some p) n k e = absurd (omega (arith, ap (λ (c : Count). c .answer .number) e))
 
-      pub not-whole : (offset : ℕ) → C.Malformed offset ≡ countedOf (malformedAt (decode s)) (length (instructions (decode s)))
-          → (r : Verdict) → r ≡ packedVerdict (refusedVerdict offset D.malformedFragment 0) → Analysed s main alt log r log
-      not-whole offset c r e = early offset D.malformedFragment r (in-code ∙ rw (counted-malformed (malformedAt (decode s)) (length (instructions (decode s))) offset c)) e
+      pub not-whole : (offset : ℕ) → countedOf (C.Malformed offset) ≡ countIn (decode s)
+          → (r : Summary) → r ≡ summarized (refusedVerdict offset D.malformedFragment 0) → RefusedEarly r log (analysis builtIn s main alt log)
+      not-whole offset c r e = refuses-early offset D.malformedFragment r (in-code ∙ rw (counted-malformed (malformedAt (decode s)) (length (instructions (decode s))) offset c)) e
 
-      module _ (n : ℕ) (c : C.Whole n ≡ countedOf (malformedAt (decode s)) (length (instructions (decode s)))) where
+      module _ (n : ℕ) (c : countedOf (C.Whole n) ≡ countIn (decode s)) where
         counts : n ≡ length (instructions (decode s))
         counts = counted-whole (malformedAt (decode s)) (length (instructions (decode s))) n c .1
 
         in-walk : analysis builtIn s main alt log ≡ tested builtIn none (instructions (decode s)) (unknowns main alt) log
         in-walk = in-code ∙ rw (counted-whole (malformedAt (decode s)) (length (instructions (decode s))) n c .0)
 
-        pub short-log : length log < 3 * n → (r : Verdict) → r ≡ packedVerdict (refusedVerdict 0 (D.shortLog (3 * n) (length log)) 0) → Analysed s main alt log r log
-        short-log h r e = early 0 (D.shortLog (3 * n) (length log)) r (in-walk ∙ rw (← counts, lt-leb (3 * n) (length log) h)) e
+        module _ (lent : ℕ) (l : length log ≡ lent) where
+          pub short-log : lent < 3 * n → (r : Summary) → r ≡ summarized (refusedVerdict 0 (D.shortLog (3 * n) lent) 0) → RefusedEarly r log (analysis builtIn s main alt log)
+          short-log h r e = refuses-early 0 (D.shortLog (3 * n) lent) r (in-walk ∙ rw (← counts, l, lt-leb (3 * n) lent h)) e
 
-        pub rows-enough : 3 * n ≤ length log → 3 * length (instructions (decode s)) ≤ length log
-        rows-enough h = rw (← counts) h
+          pub may-walk : 3 * n ≤ lent → MayWalk s main alt log
+          may-walk h = record { short = short; low = low; room = omega (arith, counts, l); same = in-walk ∙ rw (← counts, l, le-leb (3 * n) lent h) }
 
-        pub all-walked : 3 * n ≤ length log → (r : Verdict) (new : List ℕ) → Marks r new (walked s main alt log) → Analysed s main alt log r new
-        all-walked h r new m = whole r new (subst (Marks r new) (sym (in-walk ∙ rw (← counts, le-leb (3 * n) (length log) h))) m)
+-- The verdict that is answered
+
+-- what the entry point promises of its answer r and the log afterwards
+pub record Analysed (s : Bytes) (main alt : ℕ) (log : List ℕ) (r : Verdict) (new : List ℕ) : Type 0 where
+  pub same : r ≡ packedVerdict (analysis builtIn s main alt log .verdict)
+  pub shows : verdictOf r ≡ analysis builtIn s main alt log .verdict
+  pub within : r .end .main + r .end .alt ≤ 244
+  pub logged : new ≡ analysis builtIn s main alt log .log
+  pub replayed : r .number ≡ 0 → Demand3 builtIn (instructions (decode s)) (unknowns main alt) (record { verdict = verdictOf r; log = new })
+
+-- an end that the struct shows
+abbrev Shown : Arm → Type 0
+Shown c = endOf (hasEnd c) (endStacks c) ≡ c
+
+-- the end of a walk: live with its stacks, or none
+live-end : (w : Walk) (x : Stop) → hasEnd (concludedBy x w .end) ≡ true → concludedBy x w .end ≡ live (view (w .stacks))
+live-end w End h = by (w .live) h
+  where
+    by : (b : Bool) → hasEnd (armOf b (w .stacks)) ≡ true → armOf b (w .stacks) ≡ live (view (w .stacks))
+    by true g = refl
+    by false g = cc
+live-end w Running h = cc
+live-end w Conditional h = cc
+live-end w Else h = cc
+live-end w Endif h = cc
+live-end w (Refused r) h = cc
+
+-- its items have room
+few-items : (t : Stacks) → Fit t → (e : EndStacks) → e ≡ packedEnd (view t) → e .main + e .alt ≤ 244
+few-items t f e k = omega (arith, ap (λ (x : EndStacks). x .main) k, ap (λ (x : EndStacks). x .alt) k, packed-main (view t), packed-alt (view t), main-length t, alt-length t, f .room)
+
+no-items : (e : EndStacks) → e ≡ packedEnd noStacks → e .main + e .alt ≤ 244
+no-items e k = omega (arith, ap (λ (x : EndStacks). x .main) k, ap (λ (x : EndStacks). x .alt) k, packed-main noStacks, packed-alt noStacks)
+
+dead-end : (c : Arm) → hasEnd c ≡ false → c ≡ dead
+dead-end dead h = refl
+dead-end (live s) h = cc
+
+module _ (s : Bytes) (main alt : ℕ) (log : List ℕ) where
+  answers : (m : Marked) → analysis builtIn s main alt log ≡ m → (v : Summary) → v ≡ summarized (m .verdict)
+      → (e : EndStacks) → e ≡ endStacks (m .verdict .end) → Shown (m .verdict .end) → e .main + e .alt ≤ 244
+      → (r : Verdict) → r ≡ withEnd v e → Analysed s main alt log r (m .log)
+  unfolding verdictOf packedVerdict summarized
+  answers m a v same e k b few r is =
+      let u : W.Verdict = m .verdict in
+      let packs : r ≡ packedVerdict u = is ∙ ap₂ (λ x y. withEnd x y) same k in
+      let shows : verdictOf r ≡ u = ap verdictOf packs ∙ (λ i. record { answer = u .answer; rows = u .rows; peak = u .peak; end = b i }) in
+      record {
+        same = rw a packs;
+        shows = rw a shows;
+        within = rw is few;
+        logged = rw a;
+        replayed = λ z.
+            let q : record { verdict = verdictOf r; log = m .log } ≡ analysis builtIn s main alt log = (λ i. record { verdict = shows i; log = m .log }) ∙ sym a in
+            subst (Demand3 builtIn (instructions (decode s)) (unknowns main alt)) (sym q)
+            (trueOfEveryReplay s main alt log (ap (λ (x : Marked). x .verdict .answer .number) a ∙ sym (ap (λ (x : Verdict). x .number) packs) ∙ z));
+      }
+
+  -- refused before the walk
+  pub answers-early : (v : Summary) → RefusedEarly v log (analysis builtIn s main alt log) → (e : EndStacks) → e ≡ packedEnd noStacks → (r : Verdict) → r ≡ withEnd v e → Analysed s main alt log r log
+  answers-early v early e k r is =
+      subst (λ (l : List ℕ). Analysed s main alt log r l) (sym (early .logged))
+      (answers (analysis builtIn s main alt log) refl v (early .same) e (rw (early .none) k) (rw (early .none)) (no-items e k) r is)
+
+  pub summed-early : (v : Summary) → RefusedEarly v log (analysis builtIn s main alt log)
+      → (v ≡ summarized (analysis builtIn s main alt log .verdict)) × (log ≡ analysis builtIn s main alt log .log)
+  summed-early v r = (r .same, r .logged)
+
+  module _ (may : MayWalk s main alt log) (w : Walk) (new : List ℕ) (stops : Stops w new (walked s main alt log)) (v : Summary) (same : v ≡ summarized (concluded w)) where
+    comes-to : analysis builtIn s main alt log ≡ record { verdict = concluded w; log = new }
+    comes-to = may .same ∙ stops .same
+
+    ends : v .ended ≡ hasEnd (concluded w .end)
+    unfolding summarized
+    ends = ap (λ (x : Summary). x .ended) same
+
+    pub answers-live : v .ended ≡ true → (e : EndStacks) → e ≡ packedEnd (view (w .stacks)) → (r : Verdict) → r ≡ withEnd v e → Analysed s main alt log r new
+    answers-live h e k r is =
+        let c : concluded w .end ≡ live (view (w .stacks)) = live-end w (w .stop) (sym ends ∙ h) in
+        answers (record { verdict = concluded w; log = new }) comes-to v same e (rw c k) (rw c (ap live (ends-back (w .stacks) (stops .fit)))) (few-items (w .stacks) (stops .fit) e k) r is
+
+    pub answers-dead : v .ended ≡ false → (e : EndStacks) → e ≡ packedEnd noStacks → (r : Verdict) → r ≡ withEnd v e → Analysed s main alt log r new
+    answers-dead h e k r is =
+        let c : concluded w .end ≡ dead = dead-end (concluded w .end) (sym ends ∙ h) in
+        answers (record { verdict = concluded w; log = new }) comes-to v same e (rw c k) (rw c) (no-items e k) r is
+
+    pub summed : (v ≡ summarized (analysis builtIn s main alt log .verdict)) × (new ≡ analysis builtIn s main alt log .log)
+    summed = (rw comes-to same, rw comes-to)
 
 -- the walk may start
 pub ready-start : (s : Bytes) (log : List ℕ) (v : Walk) → Fit (v .stacks) → v .at ≡ 0 → v .rows ≡ 0 → length s ≤ 10000 → 3 * length (instructions (decode s)) ≤ length log → Ready s log v
@@ -151,7 +206,7 @@ ready-start s log v f at rows short room = record {
 }
 
 -- a fragment has no more instructions than bytes
-pub few : (s : Bytes) (n : ℕ) → C.Whole n ≡ countedOf (malformedAt (decode s)) (length (instructions (decode s))) → length s ≤ 10000 → n ≤ 10000
+pub few : (s : Bytes) (n : ℕ) → countedOf (C.Whole n) ≡ countIn (decode s) → length s ≤ 10000 → n ≤ 10000
 few s n c h =
     let e : instructions (decode s) ≡ instructions (codeAt s 0) = ap instructions (code-start s) in
     let l : length (instructions (codeAt s 0)) ≤ length s - 0 = code-length s 0 in

@@ -1,13 +1,54 @@
--- What the walk of a whole fragment promises to the entry point.
+-- What the tests before the walk and the walk of a whole fragment promise to the entry points.
 use mathlib.Core.List.{List}
 use mathlib.Core.Path.{_≡_}
-use Prim.Native.Nat.{ℕ}
-use Rattle.definition.specs.Walk.{Marked}
-use Rattle.stack_analysis.specs.View.{verdictOf, packedVerdict}
+use Prim.Native.Nat.{ℕ, _+_, _*_, _≤_}
+use lib.ListN.{length}
+use Rattle.definition.specs.Basics.{Bytes}
+use Rattle.definition.specs.Decoding.{decode, instructions}
+use Rattle.definition.specs.Stacks.{builtIn}
+use Rattle.definition.specs.Walk.{dead, unknowns, begin, walk, answered, Marked, analysis}
+use Rattle.ends.specs.declared.EndStacks.{EndStacks}
+use Rattle.stack.specs.View.{Fit}
+use Rattle.walk.specs.declared.Walk.{Walk}
+use Rattle.stack_analysis.specs.View.{summarized}
+use Rattle.stack_analysis.specs.Walkers.{Ended, concluded}
+use Rattle.stack_analysis.specs.declared.Start.{Start}
+use Rattle.stack_analysis.specs.declared.Start.the-variants.{Refused, Walks}
+use Rattle.stack_analysis.specs.declared.Summary.{Summary}
 use Rattle.stack_analysis.specs.declared.Verdict.{Verdict}
 
--- the verdict and the log afterwards are those of m, and the struct stands for its verdict
-pub record Marks (r : Verdict) (log : List ℕ) (m : Marked) : Type 0 where
-  pub same : r ≡ packedVerdict (m .verdict)
-  pub shows : verdictOf r ≡ m .verdict
+-- m is a refusal before the walk, r in heights, and leaves the log as lent
+pub record RefusedEarly (r : Summary) (log : List ℕ) (m : Marked) : Type 0 where
+  pub same : r ≡ summarized (m .verdict)
+  pub none : m .verdict .end ≡ dead
   pub logged : log ≡ m .log
+
+-- nothing is against the walk, and the analysis is the walk
+pub record MayWalk (s : Bytes) (main alt : ℕ) (log : List ℕ) : Type 0 where
+  pub short : length s ≤ 10000
+  pub low : main + alt ≤ 244
+  pub room : 3 * length (instructions (decode s)) ≤ length log
+  pub same : analysis builtIn s main alt log ≡ answered (walk builtIn (instructions (decode s)) (begin (unknowns main alt) log))
+
+abbrev pub Starts : Bytes → ℕ → ℕ → List ℕ → Start → Type 0
+Starts s main alt log (Refused r) = RefusedEarly r log (analysis builtIn s main alt log)
+Starts s main alt log Walks = MayWalk s main alt log
+
+-- a walk has stopped with w, with no conditional open; its verdict and the log are those of m
+pub record Stops (w : Walk) (log : List ℕ) (m : Marked) : Type 0 where
+  pub fit : Fit (w .stacks)
+  pub ended : Ended (w .stop)
+  pub same : m ≡ record { verdict = concluded w; log = log }
+
+-- the struct of a summary and end stacks
+abbrev pub withEnd : Summary → EndStacks → Verdict
+withEnd v e = record {
+  number = v .number;
+  offset = v .offset;
+  first = v .first;
+  second = v .second;
+  rows = v .rows;
+  peak = v .peak;
+  ended = v .ended;
+  end = e;
+}

@@ -1,18 +1,18 @@
--- What the struct `Verdict` stands for in the definitions of document 01.
+-- What the structs `Verdict` and `Summary` stand for in the definitions of document 01.
 use mathlib.Core.Bool.{Bool, true, false}
-use mathlib.Core.List.{[]}
-use Rattle.definition.specs.Refusals.{Answer}
-use Rattle.definition.specs.Stacks as S
-use Rattle.definition.specs.Walk.{Item, Arm, dead, live}
+use Prim.Native.Nat.{ℕ}
+use lib.ListN.{length}
+use Rattle.definition.specs.Walk.{Arm, dead, live}
 use Rattle.definition.specs.Walk as W
-use Rattle.stack.specs.View.{view, packed}
-use Rattle.stack.specs.declared.Stacks.{Stacks}
+use Rattle.ends.specs.View.{endStacksOf, packedEnd, noStacks}
+use Rattle.ends.specs.declared.EndStacks.{EndStacks}
+use Rattle.stack_analysis.specs.declared.Summary.{Summary}
 use Rattle.stack_analysis.specs.declared.Verdict.{Verdict}
 
 -- end stacks, or none
-abbrev pub endOf : Bool → Stacks → Arm
-endOf true s = live (view s)
-endOf false s = dead
+abbrev pub endOf : Bool → EndStacks → Arm
+endOf true e = live (endStacksOf e)
+endOf false e = dead
 
 -- the verdict that the struct stands for
 unfoldable pub verdictOf : Verdict → W.Verdict
@@ -25,16 +25,13 @@ verdictOf v = record {
 
 -- The one struct for a verdict, with nothing left to choose: the end stacks in their one form, the empty ones for none.
 
-abbrev pub noStacks : S.Stacks Item
-noStacks = record { main = []; alt = [] }
-
 abbrev pub hasEnd : Arm → Bool
 hasEnd dead = false
 hasEnd (live s) = true
 
-abbrev pub endStacks : Arm → Stacks
-endStacks dead = packed noStacks
-endStacks (live s) = packed s
+abbrev pub endStacks : Arm → EndStacks
+endStacks dead = packedEnd noStacks
+endStacks (live s) = packedEnd s
 
 unfoldable pub packedVerdict : W.Verdict → Verdict
 packedVerdict v = record {
@@ -46,4 +43,27 @@ packedVerdict v = record {
   peak = v .peak;
   ended = hasEnd (v .end);
   end = endStacks (v .end);
+}
+
+-- The same with the heights of the end; 0 and 0 for none.
+
+abbrev pub endMain : Arm → ℕ
+endMain dead = 0
+endMain (live s) = length (s .main)
+
+abbrev pub endAlt : Arm → ℕ
+endAlt dead = 0
+endAlt (live s) = length (s .alt)
+
+unfoldable pub summarized : W.Verdict → Summary
+summarized v = record {
+  number = v .answer .number;
+  offset = v .answer .offset;
+  first = v .answer .first;
+  second = v .answer .second;
+  rows = v .rows;
+  peak = v .peak;
+  ended = hasEnd (v .end);
+  main = endMain (v .end);
+  alt = endAlt (v .end);
 }

@@ -7,7 +7,7 @@ use lib.ListN.{length}
 use Rattle.definition.specs.Basics.{Bytes}
 use Rattle.definition.specs.Refusals as D
 use Rattle.definition.specs.Stacks.{Rules}
-use Rattle.definition.specs.Walk.{Arm, First, notEnded, ended, Frame, join, Verdict, Marked, refusedVerdict}
+use Rattle.definition.specs.Walk.{Arm, FirstArm, notEnded, ended, Frame, join, Verdict, Marked, refusedVerdict}
 use Rattle.stack.specs.View.{refusalOf, Fit}
 use Rattle.walk.specs.Runs.{arm, after, resume, Goes}
 use Rattle.walk.specs.declared.Stop.{Stop}
@@ -19,7 +19,7 @@ abbrev pub Open : ℕ → List Frame → Type 0
 Open depth fs = length fs ≡ depth
 
 -- the conditional around an arm, whose second arm starts from `start`
-abbrev pub frame : Arm → First → Frame
+abbrev pub frame : Arm → FirstArm → Frame
 frame start first = record { start = start; first = first }
 
 -- an arm is done: it stands at its end, or is refused

@@ -1,4 +1,5 @@
 // The walk over a fragment and the analysis: document 01, sections 4 and 7.
+ghost use mathlib.Core.List.{List};
 ghost use mathlib.Core.Path.{_≡_};
 ghost use Prim.Native.Nat.{ℕ, _+_, _*_, _≤_};
 ghost use lib.ListN.{length};
@@ -8,13 +9,14 @@ ghost use Rattle.definition.specs.Basics.{Bytes};
 ghost use Rattle.definition.specs.Decoding.{decode, instructions};
 ghost use Rattle.definition.specs.Refusals.{answer, refusedAt};
 ghost use Rattle.definition.specs.Replay.{Demand3};
-ghost use Rattle.definition.specs.Walk.{dead, unknowns, begin, walk, marked, analysis, refusedVerdict};
+ghost use Rattle.definition.specs.Walk.{dead, unknowns, begin, walk, answered, analysis, refusedVerdict};
 ghost use Rattle.stack.specs.View.{refusalOf};
 ghost use Rattle.walk.specs.Runs.{armOf, arm, stopOf, Ready};
-ghost use Rattle.stack_analysis.specs.View.{verdictOf, packedVerdict};
-ghost use Rattle.stack_analysis.specs.Entry.{Marks};
+ghost use Rattle.stack_analysis.specs.View.{verdictOf, packedVerdict, summarized};
+ghost use Rattle.stack_analysis.specs.Entry.{Starts, Stops, withEnd};
 ghost use Rattle.stack_analysis.specs.Walkers.{concluded, Ended, Enters, Joins, Finishes, Walks, Closes};
 use decode::Counted;
+use ends::EndStacks;
 use stack::Answer;
 use stack::Refusal;
 use stack::Stacks;
@@ -30,7 +32,26 @@ pub struct Verdict {
     pub rows: usize,
     pub peak: u32,
     pub ended: bool,
-    pub end: Stacks,
+    pub end: EndStacks,
+}
+
+// The verdict with the heights of its end in place of the end stacks; 0 and 0 where there is none.
+pub struct Summary {
+    pub number: u32,
+    pub offset: usize,
+    pub first: u64,
+    pub second: u64,
+    pub rows: usize,
+    pub peak: u32,
+    pub ended: bool,
+    pub main: u32,
+    pub alt: u32,
+}
+
+// How an analysis starts: refused before the walk, or with the walk.
+enum Start {
+    Refused(Summary),
+    Walks,
 }
 
 // The number and the figures of a refusal.
@@ -50,6 +71,33 @@ fn stop_of(answer: Answer) -> Stop
     }
 }
 
+// w with these stacks, this arm and this stop.
+fn turned(w: Walk, stacks: Stacks, live: bool, stop: Stop) -> Walk
+    ensures { λ r.
+        ⌜
+        r
+        ≡ record {
+          stacks = stacks;
+          live = live;
+          at = w .at;
+          last = w .last;
+          rows = w .rows;
+          peak = w .peak;
+          stop = stop;
+        }
+        ⌝ }
+{
+    Walk {
+        stacks,
+        live,
+        at: w.at,
+        last: w.last,
+        rows: w.rows,
+        peak: w.peak,
+        stop,
+    }
+}
+
 // The conditional at whose IF or NOTIF w stands, with depth of them open, is opened: the condition is popped where the
 // arm is live.
 fn enter(w: Walk, depth: u32) -> Walk
@@ -59,55 +107,19 @@ fn enter(w: Walk, depth: u32) -> Walk
 {
     let s = w.stacks;
     let live = w.live;
-    let at = w.at;
-    let last = w.last;
-    let rows = w.rows;
-    let peak = w.peak;
     if depth == 24 {
-        return Walk {
-            stacks: s,
-            live,
-            at,
-            last,
-            rows,
-            peak,
-            stop: Stop::Refused(Refusal::Nesting),
-        };
+        return turned(w, s, live, Stop::Refused(Refusal::Nesting));
     }
     if !live {
-        return Walk {
-            stacks: s,
-            live: false,
-            at,
-            last,
-            rows,
-            peak,
-            stop: Stop::Running,
-        };
+        return turned(w, s, false, Stop::Running);
     }
     let p = s.drop_items(1);
     let answer = p.answer;
     let t = p.stacks;
     if let Answer::Refused(r) = answer {
-        return Walk {
-            stacks: t,
-            live: true,
-            at,
-            last,
-            rows,
-            peak,
-            stop: Stop::Refused(r),
-        };
+        return turned(w, t, true, Stop::Refused(r));
     }
-    Walk {
-        stacks: t,
-        live: true,
-        at,
-        last,
-        rows,
-        peak,
-        stop: Stop::Running,
-    }
+    turned(w, t, true, Stop::Running)
 }
 
 // At ENDIF the arm of w joins the other.
@@ -117,45 +129,17 @@ fn close(w: Walk, other: Stacks, alive: bool) -> Walk
 {
     let s = w.stacks;
     let live = w.live;
-    let at = w.at;
-    let last = w.last;
-    let rows = w.rows;
-    let peak = w.peak;
     if !alive {
-        return Walk {
-            stacks: s,
-            live,
-            at,
-            last,
-            rows,
-            peak,
-            stop: Stop::Running,
-        };
+        return turned(w, s, live, Stop::Running);
     }
     if !live {
-        return Walk {
-            stacks: other,
-            live: true,
-            at,
-            last,
-            rows,
-            peak,
-            stop: Stop::Running,
-        };
+        return turned(w, other, true, Stop::Running);
     }
     let j = s.join(other);
     let t = j.stacks;
     let answer = j.answer;
     let stop = stop_of(answer);
-    Walk {
-        stacks: t,
-        live: true,
-        at,
-        last,
-        rows,
-        peak,
-        stop,
-    }
+    turned(w, t, true, stop)
 }
 
 // w with a refusal.
@@ -175,15 +159,8 @@ fn refused(w: Walk, r: Refusal) -> Walk
         ⌝ }
 {
     let s = w.stacks;
-    Walk {
-        stacks: s,
-        live: w.live,
-        at: w.at,
-        last: w.last,
-        rows: w.rows,
-        peak: w.peak,
-        stop: Stop::Refused(r),
-    }
+    let live = w.live;
+    turned(w, s, live, Stop::Refused(r))
 }
 
 // The last arm of a conditional is done with w; the other arm is the empty one, as it started, or the first.
@@ -203,30 +180,31 @@ fn finish(w: Walk, other: Stacks, alive: bool) -> Walk
     }
 }
 
-// Walks the rest of an arm from its conditional at whose IF or NOTIF start stands, with depth conditionals open around the
-// arm, to the end, or to the ELSE or ENDIF of the innermost.
+// Walks an arm from start, with depth conditionals open around it, to the end, or to the ELSE or ENDIF of the innermost:
+// "An arm may hold conditionals".
 fn arm(code: &[u8], log: &mut [u16], start: Walk, depth: u32) -> Walk
-    requires { ⌜ (Ready (now code) (now log) start) × (start .stop ≡ Stop.Conditional) ⌝ }
+    requires { ⌜ (Ready (now code) (now log) start) × (start .stop ≡ Stop.Running) ⌝ }
     requires { ⌜ depth ≤ 24 ⌝ }
     ensures { λ r.
         ⌜ Walks builtIn (now (code .entry)) depth start (now (log .entry)) r (now (log .exit)) ⌝ }
 {
     let mut w = start;
     loop {
-        let v = conditional(code, log, w, depth);
-        let went = v.stop;
-        if let Stop::Refused(_) = went {
+        let p = walk::plain(code, log, w);
+        let met = p.stop;
+        let Stop::Conditional = met else {
+            return p;
+        };
+        let v = conditional(code, log, p, depth);
+        let closed = v.stop;
+        if let Stop::Refused(_) = closed {
             return v;
         }
-        w = walk::plain(code, log, v);
-        let stop = w.stop;
-        let Stop::Conditional = stop else {
-            return w;
-        };
+        w = v;
     }
 }
 
-// Walks the conditional at whose IF or NOTIF w stands, up to and with its ENDIF.
+// Walks the conditional at whose IF or NOTIF w stands, up to and with its ENDIF: "each conditional holds one or two arms".
 fn conditional(code: &[u8], log: &mut [u16], w: Walk, depth: u32) -> Walk
     requires { ⌜ (Ready (now code) (now log) w) × (w .stop ≡ Stop.Conditional) ⌝ }
     requires { ⌜ depth ≤ 24 ⌝ }
@@ -239,11 +217,7 @@ fn conditional(code: &[u8], log: &mut [u16], w: Walk, depth: u32) -> Walk
     }
     let start = v.stacks;
     let live = v.live;
-    let mut first = walk::plain(code, log, v);
-    let met = first.stop;
-    if let Stop::Conditional = met {
-        first = arm(code, log, first, depth + 1);
-    }
+    let first = arm(code, log, v, depth + 1);
     let stop = first.stop;
     if let Stop::Else = stop {
         let s = first.stacks;
@@ -252,12 +226,8 @@ fn conditional(code: &[u8], log: &mut [u16], w: Walk, depth: u32) -> Walk
         v.last = first.last;
         v.rows = first.rows;
         v.peak = first.peak;
-        let mut other = walk::plain(code, log, v);
-        let met = other.stop;
-        if let Stop::Conditional = met {
-            other = arm(code, log, other, depth + 1);
-        }
-        return finish(other, s, first.live);
+        v = arm(code, log, v, depth + 1);
+        return finish(v, s, first.live);
     }
     finish(first, start, live)
 }
@@ -332,11 +302,11 @@ fn figures_of(r: Refusal) -> Figures
 }
 
 // A refusal: peak 0 and no end.
-fn refusal(number: u32, offset: usize, first: u64, second: u64, rows: usize) -> Verdict
+fn refusal(number: u32, offset: usize, first: u64, second: u64, rows: usize) -> Summary
     ensures { λ r.
         ⌜
         r
-        ≡ packedVerdict
+        ≡ summarized
         (record {
           answer = answer number offset first second;
           rows = rows;
@@ -345,9 +315,7 @@ fn refusal(number: u32, offset: usize, first: u64, second: u64, rows: usize) -> 
         })
         ⌝ }
 {
-    let none = Stacks::new(0, 0);
-    let end = none.cleared();
-    Verdict {
+    Summary {
         number,
         offset,
         first,
@@ -355,25 +323,25 @@ fn refusal(number: u32, offset: usize, first: u64, second: u64, rows: usize) -> 
         rows,
         peak: 0,
         ended: false,
-        end,
+        main: 0,
+        alt: 0,
     }
 }
 
 // The refusal r of a walk that stands at w.
-fn refused_walk(w: Walk, r: Refusal) -> Verdict
-    ensures { λ v. ⌜ v ≡ packedVerdict (refusedVerdict (w .last) (refusalOf r) (w .rows)) ⌝ }
+fn refused_walk(w: Walk, r: Refusal) -> Summary
+    ensures { λ v. ⌜ v ≡ summarized (refusedVerdict (w .last) (refusalOf r) (w .rows)) ⌝ }
 {
     let f = figures_of(r);
     refusal(f.number, w.last, f.first, f.second, w.rows)
 }
 
 // The acceptance of a walk that has come to the end with w.
-fn accepted(w: Walk) -> Verdict
-    requires { ⌜ Fit (w .stacks) ⌝ }
+fn accepted(w: Walk) -> Summary
     ensures { λ v.
         ⌜
         v
-        ≡ packedVerdict
+        ≡ summarized
         (record { answer = answer 0 0 0 0; rows = w .rows; peak = w .peak; end = arm w })
         ⌝ }
 {
@@ -382,8 +350,7 @@ fn accepted(w: Walk) -> Verdict
     let peak = w.peak;
     if live {
         let s = w.stacks;
-        let end = s.cleared();
-        return Verdict {
+        return Summary {
             number: 0,
             offset: 0,
             first: 0,
@@ -391,12 +358,11 @@ fn accepted(w: Walk) -> Verdict
             rows,
             peak,
             ended: true,
-            end,
+            main: s.mains,
+            alt: s.alts,
         };
     }
-    let none = Stacks::new(0, 0);
-    let end = none.cleared();
-    Verdict {
+    Summary {
         number: 0,
         offset: 0,
         first: 0,
@@ -404,14 +370,15 @@ fn accepted(w: Walk) -> Verdict
         rows,
         peak,
         ended: false,
-        end,
+        main: 0,
+        alt: 0,
     }
 }
 
 // The verdict where a walk has stopped with no conditional open.
-fn conclude(w: Walk) -> Verdict
-    requires { ⌜ (Fit (w .stacks)) × (Ended (w .stop)) ⌝ }
-    ensures { λ v. ⌜ v ≡ packedVerdict (concluded w) ⌝ }
+fn conclude(w: Walk) -> Summary
+    requires { ⌜ Ended (w .stop) ⌝ }
+    ensures { λ v. ⌜ v ≡ summarized (concluded w) ⌝ }
 {
     let stop = w.stop;
     match stop {
@@ -419,21 +386,22 @@ fn conclude(w: Walk) -> Verdict
         Stop::Else => refused_walk(w, Refusal::StrayElse),
         Stop::Endif => refused_walk(w, Refusal::StrayEndif),
         Stop::Refused(r) => refused_walk(w, r),
-        Stop::Running => accepted(w),
-        Stop::Conditional => accepted(w),
+        // these two do not occur
+        Stop::Running => refused_walk(w, Refusal::OpenIf),
+        Stop::Conditional => refused_walk(w, Refusal::OpenIf),
     }
 }
 
 // The walk of a fragment from so many unknown items, with room in the log for each of its instructions.
-fn walk_all(fragment: &[u8], main: u32, alt: u32, log: &mut [u16]) -> Verdict
+fn walk_all(fragment: &[u8], main: u32, alt: u32, log: &mut [u16]) -> Walk
     requires { ⌜ (length (now fragment) ≤ 10000) × (main + alt ≤ 244) ⌝ }
     requires { ⌜ 3 * length (instructions (decode (now fragment))) ≤ length (now log) ⌝ }
     ensures { λ r.
         ⌜
-        Marks
+        Stops
         r
         (now (log .exit))
-        (marked
+        (answered
         (walk
         builtIn
         (instructions (decode (now (fragment .entry))))
@@ -450,12 +418,46 @@ fn walk_all(fragment: &[u8], main: u32, alt: u32, log: &mut [u16]) -> Verdict
         peak: main + alt,
         stop: Stop::Running,
     };
-    let mut w = walk::plain(fragment, log, start);
-    let met = w.stop;
-    if let Stop::Conditional = met {
-        w = arm(fragment, log, w, 0);
+    arm(fragment, log, start, 0)
+}
+
+// The verdict of a summary and the end stacks.
+fn with_end(v: Summary, end: EndStacks) -> Verdict
+    ensures { λ r. ⌜ r ≡ withEnd v end ⌝ }
+{
+    Verdict {
+        number: v.number,
+        offset: v.offset,
+        first: v.first,
+        second: v.second,
+        rows: v.rows,
+        peak: v.peak,
+        ended: v.ended,
+        end,
     }
-    conclude(w)
+}
+
+// The tests before the walk, in their order; so many numbers of the log are lent.
+fn early(fragment: &[u8], main: u32, alt: u32, lent: usize) -> Start
+    ensures { λ r. ⌜ ((log : List ℕ) → length log ≡ lent → Starts (now (fragment .entry)) main alt log r) ⌝ }
+{
+    let sum = (main as u64) + (alt as u64);
+    if fragment.len() > 10000 {
+        return Start::Refused(refusal(1, 0, fragment.len() as u64, 10000, 0));
+    }
+    if sum > 244 {
+        return Start::Refused(refusal(2, 0, sum, 244, 0));
+    }
+    let counted = decode::count_instructions(fragment);
+    match counted {
+        Counted::Malformed(offset) => Start::Refused(refusal(3, offset, 0, 0, 0)),
+        Counted::Whole(n) => {
+            if lent < 3 * n {
+                return Start::Refused(refusal(4, 0, (3 * n) as u64, lent as u64, 0));
+            }
+            Start::Walks
+        }
+    }
 }
 
 // The analysis of a fragment from main and alt unknown items; one row of the lent log is written for each instruction
@@ -467,6 +469,12 @@ pub fn analyze(fragment: &[u8], main: u32, alt: u32, log: &mut [u16]) -> Verdict
         ≡ packedVerdict
         (analysis builtIn (now (fragment .entry)) main alt (now (log .entry)) .verdict)
         ⌝ }
+    ensures shows { λ r.
+        ⌜
+        verdictOf r
+        ≡ analysis builtIn (now (fragment .entry)) main alt (now (log .entry)) .verdict
+        ⌝ }
+    ensures within { λ r. ⌜ r .end .main + r .end .alt ≤ 244 ⌝ }
     ensures logged { λ r.
         ⌜
         now (log .exit)
@@ -482,21 +490,38 @@ pub fn analyze(fragment: &[u8], main: u32, alt: u32, log: &mut [u16]) -> Verdict
         (record { verdict = verdictOf r; log = now (log .exit) }))
         ⌝ }
 {
-    let sum = (main as u64) + (alt as u64);
-    if fragment.len() > 10000 {
-        return refusal(1, 0, fragment.len() as u64, 10000, 0);
-    }
-    if sum > 244 {
-        return refusal(2, 0, sum, 244, 0);
-    }
-    let counted = decode::count_instructions(fragment);
-    match counted {
-        Counted::Malformed(offset) => refusal(3, offset, 0, 0, 0),
-        Counted::Whole(n) => {
-            if log.len() < 3 * n {
-                return refusal(4, 0, (3 * n) as u64, log.len() as u64, 0);
+    let start = early(fragment, main, alt, log.len());
+    match start {
+        Start::Refused(v) => with_end(v, EndStacks::none()),
+        Start::Walks => {
+            let w = walk_all(fragment, main, alt, log);
+            let v = conclude(w);
+            if v.ended {
+                let s = w.stacks;
+                return with_end(v, s.ends());
             }
-            walk_all(fragment, main, alt, log)
+            with_end(v, EndStacks::none())
         }
+    }
+}
+
+// The same with the heights of the end in place of the end stacks, for callers that read no item.
+pub fn analyze_heights(fragment: &[u8], main: u32, alt: u32, log: &mut [u16]) -> Summary
+    ensures same { λ r.
+        ⌜
+        r
+        ≡ summarized
+        (analysis builtIn (now (fragment .entry)) main alt (now (log .entry)) .verdict)
+        ⌝ }
+    ensures logged { λ r.
+        ⌜
+        now (log .exit)
+        ≡ analysis builtIn (now (fragment .entry)) main alt (now (log .entry)) .log
+        ⌝ }
+{
+    let start = early(fragment, main, alt, log.len());
+    match start {
+        Start::Refused(v) => v,
+        Start::Walks => conclude(walk_all(fragment, main, alt, log)),
     }
 }

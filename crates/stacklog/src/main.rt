@@ -4,7 +4,7 @@
 ghost use Prim.Native.Nat.{_+_, _*_, _≤_};
 ghost use lib.ListN.{length};
 use header::Dispatch;
-use stack_analysis::Verdict;
+use stack_analysis::Summary;
 
 // Row j of the log is printed.
 fn print_row(fragment: &[u8], log: &[u16], j: usize)
@@ -66,7 +66,7 @@ fn print_last(number: u32, entry: usize, offset: usize, first: u64, second: u64)
 }
 
 // The line after the rows of a fragment.
-fn print_verdict(fragment: &[u8], v: Verdict) {
+fn print_verdict(fragment: &[u8], v: Summary) {
     let mut line = [0u8; 256];
     let n = log_lines::write_verdict(&mut line, fragment, v);
     io::write_all(1, &line[..n]);

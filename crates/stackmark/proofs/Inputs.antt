@@ -9,11 +9,16 @@ use Rattle.definition.specs.Stacks.{builtIn}
 use Rattle.lines.specs.View.{linesIn}
 use Rattle.lines.specs.declared.Lines.{Lines}
 
-module _ (input : Bytes) (r : Lines) where
-  pub input-cut : r ≡ linesIn (printed builtIn (take 8001 input) (replicate 24000 0)) → r ≡ linesIn (stackmark input)
-  unfolding stackmark
-  input-cut e = e
+module _ (input : Bytes) (r : Lines) (n : ℕ) where
+  -- whatever number it holds
+  of-own : (t : Bytes) → r ≡ linesIn n t → r ≡ linesIn (r .number) t
+  unfolding linesIn
+  of-own t e = e ∙ ap (λ k. linesIn k t) (sym (ap (λ (l : Lines). l .number) e))
 
-  pub input-whole : length input ≤ 8001 → r ≡ linesIn (printed builtIn input (replicate 24000 0)) → r ≡ linesIn (stackmark input)
+  pub input-cut : r ≡ linesIn n (printed builtIn (take 8001 input) (replicate 24000 0)) → r ≡ linesIn (r .number) (stackmark input)
   unfolding stackmark
-  input-whole h e = e ∙ ap (λ (l : Bytes). linesIn (printed builtIn l (replicate 24000 0))) (sym (take-all 8001 input h))
+  input-cut e = of-own _ e
+
+  pub input-whole : length input ≤ 8001 → r ≡ linesIn n (printed builtIn input (replicate 24000 0)) → r ≡ linesIn (r .number) (stackmark input)
+  unfolding stackmark
+  input-whole h e = of-own _ (e ∙ ap (λ (l : Bytes). linesIn n (printed builtIn l (replicate 24000 0))) (sym (take-all 8001 input h)))

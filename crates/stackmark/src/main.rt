@@ -7,7 +7,7 @@ use lines::Lines;
 
 // The lines that are printed of an input: at most 8,001 bytes of it are read, and a log of 24,000 numbers is lent.
 fn marked(input: &[u8]) -> Lines
-    ensures same { λ r. ⌜ r ≡ linesIn (stackmark (now (input .entry))) ⌝ }
+    ensures same { λ r. ⌜ r ≡ linesIn (r .number) (stackmark (now (input .entry))) ⌝ }
     ensures within { λ r. ⌜ Within r ⌝ }
 {
     let mut log = [0u16; 24000];

@@ -17,7 +17,7 @@ packed t = record { fragments = t .fragments; accepts = t .accepts; rows = t .ro
 abbrev pub tallied : Tally → ℕ → Tallied
 tallied t answer = record { tally = t; answer = answer }
 
-abbrev pub talliedOf : W.Tallied → Tallied
+abbrev pub talliedOf : W.TallyAnswer → Tallied
 talliedOf r = tallied (packed (r .tally)) (r .answer .number)
 
 -- what a tally takes of a verdict

@@ -3,7 +3,8 @@ ghost use mathlib.Core.Path.{_≡_};
 ghost use Prim.Native.Nat.{max};
 ghost use lib.Dec.{eqb};
 ghost use Rattle.definition.specs.Basics.{pick};
-ghost use Rattle.definition.specs.Walk.{Verdict, tally};
+ghost use Rattle.definition.specs.Walk as Walk;
+ghost use Rattle.definition.specs.Walk.{Verdict};
 ghost use Rattle.tally.specs.View.{tallyOf, tallied, talliedOf, Gives};
 
 // Fragments, accepted ones, rows, and the greatest peak.
@@ -50,9 +51,9 @@ fn full(t: Tally) -> Tallied
     }
 }
 
-// The tally with one verdict more, of this number, rows and peak, or 22 with the tally as it was. The work of `gain`.
-pub fn gained(t: Tally, number: u32, rows: u32, peak: u32) -> Tallied
-    ensures { λ r. ⌜ ((v : Verdict) → Gives v number rows peak → r ≡ talliedOf (tally (tallyOf t) v)) ⌝ }
+// `gained` of rows that fit 32 bits.
+fn counted(t: Tally, number: u32, rows: u32, peak: u32) -> Tallied
+    ensures { λ r. ⌜ ((v : Verdict) → Gives v number rows peak → r ≡ talliedOf (Walk.gain (tallyOf t) v)) ⌝ }
 {
     let accepts = accepted(number);
     let most = greatest(t.peak, peak);
@@ -76,10 +77,21 @@ pub fn gained(t: Tally, number: u32, rows: u32, peak: u32) -> Tallied
     }
 }
 
+// The tally with one verdict more, of this number, rows and peak, or 22 with the tally as it was. The work of `gain`. Rows
+// over 4,294,967,295 pass it alone.
+pub fn gained(t: Tally, number: u32, rows: usize, peak: u32) -> Tallied
+    ensures { λ r. ⌜ ((v : Verdict) → Gives v number rows peak → r ≡ talliedOf (Walk.gain (tallyOf t) v)) ⌝ }
+{
+    if rows > 0xffffffff {
+        return full(t);
+    }
+    counted(t, number, rows as u32, peak)
+}
+
 // The tally lent by the caller gains one verdict, of this number, rows and peak. The answer is 0 or 22; 22 leaves the tally
 // unchanged.
-pub fn gain(t: &mut Tally, number: u32, rows: u32, peak: u32) -> u32
-    ensures { λ r. ⌜ ((v : Verdict) → Gives v number rows peak → tallied (now (t .exit)) r ≡ talliedOf (tally (tallyOf (now (t .entry))) v)) ⌝ }
+pub fn gain(t: &mut Tally, number: u32, rows: usize, peak: u32) -> u32
+    ensures { λ r. ⌜ ((v : Verdict) → Gives v number rows peak → tallied (now (t .exit)) r ≡ talliedOf (Walk.gain (tallyOf (now (t .entry))) v)) ⌝ }
 {
     let r = gained(*t, number, rows, peak);
     *t = r.tally;

@@ -8,7 +8,8 @@
 ghost use mathlib.Core.Path.{_≡_};
 ghost use Prim.Native.Nat.{_+_, _≤_};
 ghost use lib.ListN.{length};
-ghost use Rattle.definition.specs.Walk.{Verdict, tally};
+ghost use Rattle.definition.specs.Walk as Walk;
+ghost use Rattle.definition.specs.Walk.{Verdict};
 ghost use Rattle.tally.specs.View.{tallyOf, talliedOf, Gives};
 ghost use Rattle.vectors.specs.Ranges.{WrittenWithin, Held, StillHeld};
 use cases::Count;
@@ -218,7 +219,7 @@ fn fragment(
     let Count::Bytes(n) = count else {
         return Answered::Bad;
     };
-    let v = stack_analysis::analyze(&code[..n], main, alt, log);
+    let v = stack_analysis::analyze_heights(&code[..n], main, alt, log);
     Answered::Written(put_fragment(out, used, v.number, v.offset, v.first, v.second))
 }
 
@@ -342,8 +343,8 @@ fn displayed(line: &[u8], from: usize, code: &mut [u8], out: &mut [u8], used: us
 
 // The tally with one verdict more, of this number, rows and peak, or 22 with the tally as it was: `gain`, on a tally that
 // is lent to it.
-fn gain_once(t: tally::Tally, number: u32, rows: u32, peak: u32) -> tally::Tallied
-    ensures { λ r. ⌜ ((v : Verdict) → Gives v number rows peak → r ≡ talliedOf (tally (tallyOf t) v)) ⌝ }
+fn gain_once(t: tally::Tally, number: u32, rows: usize, peak: u32) -> tally::Tallied
+    ensures { λ r. ⌜ ((v : Verdict) → Gives v number rows peak → r ≡ talliedOf (Walk.gain (tallyOf t) v)) ⌝ }
 {
     let mut lent = t;
     let answer = tally::gain(&mut lent, number, rows, peak);
@@ -375,6 +376,13 @@ fn put_tally(out: &mut [u8], used: usize, r: tally::Tallied) -> usize
     put_counters(out, n, t)
 }
 
+// A field of a line as a verdict's rows.
+fn wide(x: u32) -> usize
+    ensures { λ r. ⌜ r ≡ x ⌝ }
+{
+    x as usize
+}
+
 // `tally FRAGMENTS ACCEPTED ROWS PEAK NUMBER VROWS VPEAK`, from FRAGMENTS on.
 fn tallied(line: &[u8], from: usize, out: &mut [u8], used: usize) -> Answered
     requires { ⌜ used ≤ length (now out) ⌝ }
@@ -390,7 +398,7 @@ fn tallied(line: &[u8], from: usize, out: &mut [u8], used: usize) -> Answered
         rows: f[2],
         peak: f[3],
     };
-    Answered::Written(put_tally(out, used, gain_once(t, f[4], f[5], f[6])))
+    Answered::Written(put_tally(out, used, gain_once(t, f[4], wide(f[5]), f[6])))
 }
 
 // Answers a line that is understood, by its first word.

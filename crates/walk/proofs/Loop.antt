@@ -9,10 +9,11 @@ use lib.Dec.{T}
 use lib.ListN.{length, set}
 use Rattle.definition.specs.Basics.{Bytes, pick}
 use Rattle.definition.specs.Decoding.{instructions}
-use Rattle.definition.specs.Classes.{Class, IF, NOTIF, ELSE, ENDIF, RETURN, Ordinary, ordinary, unmodelled, push, nothing, TOALT, FROMALT, NIP, TUCK, ROLL, copies, rotates, classNumber, classAt}
+use Rattle.definition.specs.Decoding as Decoding
+use Rattle.definition.specs.Classes.{Class, IF, NOTIF, ELSE, ENDIF, RETURN, Ordinary, ordinary, unmodelled, push, nothing, TOALT, FROMALT, NIP, TUCK, ROLL, copies, rotates, plain, classNumber, classAt}
 use Rattle.definition.specs.Replay.{AreBytes}
-use Rattle.definition.specs.Stacks.{builtIn, step, pushItem, copyItems, rotateItems, tuckTop, nipSecond, moveToAlt, moveFromAlt, popIndex}
-use Rattle.definition.specs.Walk.{Item, Frame, marking, totalOf, logRow}
+use Rattle.definition.specs.Stacks.{builtIn, step, pushItem, copyItems, rotateItems, tuckTop, nipSecond, moveToAlt, moveFromAlt, popIndex, plainStep}
+use Rattle.definition.specs.Walk.{Item, dead, Frame, moves, effect, marking, totalOf, logRow}
 use types.Run.{OneOf}
 use denote.Enum.Declared.{tagOf}
 use Rattle.decode.proofs.Decoded.{the-type}
@@ -59,6 +60,10 @@ runs-from {s} {before} {now} v {w} e r = subst (λ (u : Walk). Runs builtIn s u 
     same : record { stacks = v .stacks; live = v .live; at = v .at; last = v .last; rows = v .rows; peak = v .peak; stop = Running } ≡ v
     same = λ i. record { stacks = v .stacks; live = v .live; at = v .at; last = v .last; rows = v .rows; peak = v .peak; stop = sym e i }
 
+-- in a dead arm an instruction of this class is skipped
+abbrev Skips : Class → Type 0
+Skips k = (i : Decoding.Instruction) (fs : List Frame) → effect builtIn i k dead fs ≡ moves dead fs
+
 -- What is known once the instruction i is met by w, its row is written, and its class number is read.
 pub record Met (s : Bytes) (before : List ℕ) (v : Walk) (old : List ℕ) (w : Walk) (new : List ℕ) (i : Instruction) (peak class : ℕ) : Type 0 where
   pub walking : Walking s before v old w
@@ -71,7 +76,7 @@ pub record Met (s : Bytes) (before : List ℕ) (v : Walk) (old : List ℕ) (w : 
 
 module _ {s : Bytes} {before : List ℕ} {v : Walk} {old : List ℕ} {w : Walk} {new : List ℕ} {i : Instruction} {peak class : ℕ} (m : Met s before v old w new i peak class) where
   -- the class of the instruction, where its number is n
-  kind : (n : ℕ) → class ≡ n → builtIn .classOf (i .opcode) ≡ classAt n
+  kind : (n : ℕ) → class ≡ n → builtIn .classFor (i .opcode) ≡ classAt n
   kind n e = class-at-key (i .opcode) class n (m .number) e
 
   fits : Fit (w .stacks)
@@ -105,14 +110,19 @@ module _ {s : Bytes} {before : List ℕ} {v : Walk} {old : List ℕ} {w : Walk} 
   met-return e = kept refl (sym (m .run)) (on (at-return builtIn s (m .stands) w (m .run) refl old (m .row) (m .high) (kind 7 e) fits))
 
   -- an ordinary instruction in a dead arm
-  pub met-dead : (o : Ordinary) → classAt class ≡ ordinary o → w .live ≡ false → Walking s before v new (past w i peak (w .stacks) (w .live) (w .stop))
-  met-dead o k l = kept (sym l) (sym (m .run)) (on (skipped builtIn s (m .stands) w (m .run) refl old (m .row) (m .high) o (kind class refl ∙ k) l fits))
+  pub met-dead : Skips (classAt class) → w .live ≡ false → Walking s before v new (past w i peak (w .stacks) (w .live) (w .stop))
+  met-dead k l = kept (sym l) (sym (m .run)) (on (skipped builtIn s (m .stands) w (m .run) refl old (m .row) (m .high) (classAt class) (kind class refl) (k _) l fits))
 
   -- an ordinary instruction in a live arm
   pub met-live : (n : ℕ) (o : Ordinary) → class ≡ n → classAt n ≡ ordinary o → w .live ≡ true → (r : Stepped)
       → Says r (step marking builtIn (record { opcode = i .opcode; offset = w .at; literal = m .stands .literal }) o (view (w .stacks)))
       → Walking s before v new (past w i peak (r .stacks) (w .live) (stopOf (r .answer)))
-  met-live n o e k l r says = kept (sym l) refl (on (stepped builtIn s (m .stands) w (m .run) refl old (m .row) (m .high) o (kind n e ∙ k) l r says))
+  met-live n o e k l r says = kept (sym l) refl (on (stepped builtIn s (m .stands) w (m .run) refl old (m .row) (m .high) (ordinary o) _ (kind n e ∙ k) (λ fs. refl) l r says))
+
+  -- and one of a plain class
+  pub met-plain : (n pops pushes : ℕ) → class ≡ n → classAt n ≡ plain pops pushes → w .live ≡ true → (r : Stepped) → Says r (plainStep marking 244 pops pushes (view (w .stacks)))
+      → Walking s before v new (past w i peak (r .stacks) (w .live) (stopOf (r .answer)))
+  met-plain n pops pushes e k l r says = kept (sym l) refl (on (stepped builtIn s (m .stands) w (m .run) refl old (m .row) (m .high) (plain pops pushes) _ (kind n e ∙ k) (λ fs. refl) l r says))
 
   pub met-nothing : class ≡ 2 → w .live ≡ true → Walking s before v new (past w i peak (w .stacks) (w .live) (w .stop))
   unfolding step
@@ -143,7 +153,7 @@ module _ {s : Bytes} {before : List ℕ} {v : Walk} {now : List ℕ} where
 pub no-instruction : (s : Bytes) (p : ℕ) (d : Decoded) → d ≡ decodedAt s p → OneOf (1 ∷ 2 ∷ []) (tagOf the-type d) → instructions (codeAt s p) ≡ []
 no-instruction s p (D.At i) e h = absurd (⊎-elim (λ k. omega arith) (λ k. omega arith) h)
 no-instruction s p D.End e h = ap instructions (code-ends s p (sym e) .0)
-no-instruction s p D.Malformed e h = ap instructions (code-malformed s p (sym e) .0)
+no-instruction s p (D.Malformed at) e h = ap instructions (code-malformed s p (sym e) .0)
 
 pub ready-running : {s : Bytes} {log : List ℕ} (v : Walk) → Ready s log v
     → Ready s log (record { stacks = v .stacks; live = v .live; at = v .at; last = v .last; rows = v .rows; peak = v .peak; stop = Running })
@@ -208,19 +218,21 @@ control = (7 ∷ []) ∷ (6 ∷ []) ∷ (5 ∷ []) ∷ (4 ∷ []) ∷ (3 ∷ [])
 
 abbrev asOrdinary : Class → ℕ
 asOrdinary (ordinary o) = 1
+asOrdinary (plain pops pushes) = 1
 asOrdinary IF = 0
 asOrdinary NOTIF = 0
 asOrdinary ELSE = 0
 asOrdinary ENDIF = 0
 asOrdinary RETURN = 0
 
-is-ordinary : (c : Class) → 1 ≡ asOrdinary c → (o : Ordinary) × (c ≡ ordinary o)
-is-ordinary (ordinary o) e = (o, refl)
-is-ordinary IF e = absurd (omega (arith, e))
-is-ordinary NOTIF e = absurd (omega (arith, e))
-is-ordinary ELSE e = absurd (omega (arith, e))
-is-ordinary ENDIF e = absurd (omega (arith, e))
-is-ordinary RETURN e = absurd (omega (arith, e))
+is-ordinary : (c : Class) → 1 ≡ asOrdinary c → Skips c
+is-ordinary (ordinary o) e i fs = refl
+is-ordinary (plain pops pushes) e i fs = refl
+is-ordinary IF e i fs = absurd (omega (arith, e))
+is-ordinary NOTIF e i fs = absurd (omega (arith, e))
+is-ordinary ELSE e i fs = absurd (omega (arith, e))
+is-ordinary ENDIF e i fs = absurd (omega (arith, e))
+is-ordinary RETURN e i fs = absurd (omega (arith, e))
 
 both-rest : (a b : List (List ℕ)) (x : ℕ) → Rest a x → Rest b x → Rest (a ++ b) x
 both-rest [] b x p q = q
@@ -230,8 +242,7 @@ module _ {s : Bytes} {before : List ℕ} {v : Walk} {old : List ℕ} {w : Walk} 
     (rest : Rest control class) where
   pub met-skipped : w .live ≡ false → Walking s before v new (past w i peak (w .stacks) (w .live) (w .stop))
   met-skipped l =
-      let o = is-ordinary (classAt class) (below (λ n. asOrdinary (classAt n)) control class 1 32 rest (result-below (i .opcode) class (m .number)) tt) in
-      met-dead m (o .0) (o .1) l
+      met-dead m (is-ordinary (classAt class) (below (λ n. asOrdinary (classAt n)) control class 1 32 rest (result-below (i .opcode) class (m .number)) tt)) l
 
   pub class-left : (arms : List (List ℕ)) → Rest arms class → T (every (gives (λ n. n) (arms ++ control) 0) 32 0) → class ≡ 0
   class-left arms k t = sym (below (λ n. n) (arms ++ control) class 0 32 (both-rest arms control class k rest) (result-below (i .opcode) class (m .number)) t)

@@ -6,7 +6,8 @@ use Prim.Native.Nat.{ℕ, _+_, _*_, _≤_, _<_, max}
 use native.Mathlib.Omega.{arith}
 use lib.ListN.{length, set}
 use Rattle.definition.specs.Basics.{pick}
-use Rattle.definition.specs.Walk.{mainHeight, altHeight, totalOf, logRow}
+use Rattle.definition.specs.Walk.{totalOf, logRow}
+use Rattle.definition.proofs.Arms.{mainHeight, altHeight, row-stores}
 use Rattle.stack.specs.View.{view}
 use Rattle.stack.specs.declared.Stacks.{Stacks}
 use Rattle.slots.proofs.Laws.{length-tops}
@@ -45,8 +46,7 @@ total-arm false s = refl
 
 pub row-written : (k offset m a : ℕ) (alive : Bool) (s : Stacks) (log new : List ℕ) → new ≡ set (set (set log (3 * k) offset) (3 * k + 1) m) (3 * k + 2) a
     → m ≡ pick alive (s .mains) 65535 → a ≡ pick alive (s .alts) 65535 → new ≡ logRow k offset (armOf alive s) log
-unfolding logRow
-row-written k offset m a alive s log new e f g = e ∙ rw (main-height alive s, alt-height alive s, f, g)
+row-written k offset m a alive s log new e f g = e ∙ rw (row-stores, main-height alive s, alt-height alive s, f, g)
 
 pub high-of : (peak high : ℕ) (alive : Bool) (s : Stacks) → high ≡ max peak (pick alive (s .mains + s .alts) 0) → high ≡ max peak (totalOf (armOf alive s))
 high-of peak high alive s e = e ∙ rw (total-arm alive s)

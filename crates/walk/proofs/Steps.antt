@@ -8,9 +8,9 @@ use lib.ListN.{length}
 use Rattle.definition.specs.Basics.{Bytes}
 use Rattle.definition.specs.Decoding.{instructions, Code}
 use Rattle.definition.specs.Decoding as D
-use Rattle.definition.specs.Classes.{Class, Ordinary, IF, NOTIF, ELSE, ENDIF, RETURN, ordinary}
-use Rattle.definition.specs.Stacks.{Rules, Outcome, step}
-use Rattle.definition.specs.Walk.{Item, marking, Arm, dead, live, Frame, Move, moves, refuses, moved, move, State, met, logRow, totalOf, Walked, follow, atEnd, walk, marked}
+use Rattle.definition.specs.Classes.{Class, IF, NOTIF, ELSE, ENDIF, RETURN}
+use Rattle.definition.specs.Stacks.{Rules, Outcome}
+use Rattle.definition.specs.Walk.{Item, marking, Arm, dead, live, Frame, Move, moves, refuses, onOutcome, effect, State, met, logRow, totalOf, WalkEnd, follow, atEnd, walk, answered}
 use Rattle.decode.specs.View.{codeAt}
 use Rattle.decode.proofs.Codes.{InstructionAt}
 use Rattle.decode.specs.declared.Instruction.{Instruction}
@@ -41,7 +41,7 @@ module _ (R : Rules) (s : Bytes) where
     code-there : instructions (codeAt s p) ≡ met-there ∷ instructions (codeAt s (i .next))
     code-there = ap instructions (at .code)
 
-    walk-one : (t : State) → from R s p t ≡ follow (move R met-there (R .classOf (i .opcode)) (t .arm) (t .frames)) (met met-there t) (λ u. from R s (i .next) u)
+    walk-one : (t : State) → from R s p t ≡ follow (effect R met-there (R .classFor (i .opcode)) (t .arm) (t .frames)) (met met-there t) (λ u. from R s (i .next) u)
     unfolding walk
     walk-one t = rw code-there
 
@@ -49,8 +49,8 @@ module _ (R : Rules) (s : Bytes) where
     module _ (w : Walk) (run : w .stop ≡ Running) (here : w .at ≡ p) (log : List ℕ) {new : List ℕ} {peak : ℕ}
         (row : new ≡ logRow (w .rows) p (arm w) log) (high : peak ≡ max (w .peak) (totalOf (arm w))) where
       -- by the class of the instruction
-      by-class : (c : Class) → R .classOf (i .opcode) ≡ c → (fs : List Frame)
-          → resume R s w fs log ≡ marked (follow (move R met-there c (arm w) fs) (stateOf (past w i peak (w .stacks) (w .live) Running) peak fs new) (λ u. from R s (i .next) u))
+      by-class : (c : Class) → R .classFor (i .opcode) ≡ c → (fs : List Frame)
+          → resume R s w fs log ≡ answered (follow (effect R met-there c (arm w) fs) (stateOf (past w i peak (w .stacks) (w .live) Running) peak fs new) (λ u. from R s (i .next) u))
       by-class c e fs = rw (run, here, walk-one _, e, high, row)
 
       one-more : (t : Stacks) (alive : Bool) (stop : Stop) → Fit t
@@ -63,40 +63,41 @@ module _ (R : Rules) (s : Bytes) where
         same = λ fs p. e fs;
       }
 
-      pub at-if : R .classOf (i .opcode) ≡ IF → Fit (w .stacks) → Goes R s Any w log (past w i peak (w .stacks) (w .live) Conditional) new
+      pub at-if : R .classFor (i .opcode) ≡ IF → Fit (w .stacks) → Goes R s Any w log (past w i peak (w .stacks) (w .live) Conditional) new
       at-if e f = one-more (w .stacks) (w .live) Conditional f (by-class IF e)
 
-      pub at-notif : R .classOf (i .opcode) ≡ NOTIF → Fit (w .stacks) → Goes R s Any w log (past w i peak (w .stacks) (w .live) Conditional) new
+      pub at-notif : R .classFor (i .opcode) ≡ NOTIF → Fit (w .stacks) → Goes R s Any w log (past w i peak (w .stacks) (w .live) Conditional) new
       at-notif e f = one-more (w .stacks) (w .live) Conditional f (by-class NOTIF e)
 
-      pub at-else : R .classOf (i .opcode) ≡ ELSE → Fit (w .stacks) → Goes R s Any w log (past w i peak (w .stacks) (w .live) Else) new
+      pub at-else : R .classFor (i .opcode) ≡ ELSE → Fit (w .stacks) → Goes R s Any w log (past w i peak (w .stacks) (w .live) Else) new
       at-else e f = one-more (w .stacks) (w .live) Else f same
         where
           same : (fs : List Frame) → resume R s w fs log ≡ resume R s (past w i peak (w .stacks) (w .live) Else) fs new
           same [] = by-class ELSE e []
           same (g ∷ fs) = by-class ELSE e (g ∷ fs)
 
-      pub at-endif : R .classOf (i .opcode) ≡ ENDIF → Fit (w .stacks) → Goes R s Any w log (past w i peak (w .stacks) (w .live) Endif) new
+      pub at-endif : R .classFor (i .opcode) ≡ ENDIF → Fit (w .stacks) → Goes R s Any w log (past w i peak (w .stacks) (w .live) Endif) new
       at-endif e f = one-more (w .stacks) (w .live) Endif f same
         where
           same : (fs : List Frame) → resume R s w fs log ≡ resume R s (past w i peak (w .stacks) (w .live) Endif) fs new
           same [] = by-class ENDIF e []
           same (g ∷ fs) = by-class ENDIF e (g ∷ fs)
 
-      pub at-return : R .classOf (i .opcode) ≡ RETURN → Fit (w .stacks) → Goes R s Any w log (past w i peak (w .stacks) false Running) new
+      pub at-return : R .classFor (i .opcode) ≡ RETURN → Fit (w .stacks) → Goes R s Any w log (past w i peak (w .stacks) false Running) new
       at-return e f = one-more (w .stacks) false Running f (by-class RETURN e)
 
       -- an ordinary instruction in a dead arm is skipped
-      pub skipped : (o : Ordinary) → R .classOf (i .opcode) ≡ ordinary o → w .live ≡ false → Fit (w .stacks) → Goes R s Any w log (past w i peak (w .stacks) false Running) new
-      skipped o e d f = one-more (w .stacks) false Running f (λ fs. by-class (ordinary o) e fs ∙ rw d)
+      pub skipped : (k : Class) → R .classFor (i .opcode) ≡ k → ((fs : List Frame) → effect R met-there k dead fs ≡ moves dead fs) → w .live ≡ false
+          → Fit (w .stacks) → Goes R s Any w log (past w i peak (w .stacks) false Running) new
+      skipped k e m d f = one-more (w .stacks) false Running f (λ fs. by-class k e fs ∙ rw (d, m fs))
 
       -- in a live one it does what the stack operation did
-      pub stepped : (o : Ordinary) → R .classOf (i .opcode) ≡ ordinary o → w .live ≡ true → (r : Stepped) → Says r (step marking R met-there o (view (w .stacks)))
-          → Goes R s Any w log (past w i peak (r .stacks) true (stopOf (r .answer))) new
-      stepped o e l r says = one-more (r .stacks) true (stopOf (r .answer)) (says .fit) (λ fs. by-class (ordinary o) e fs ∙ rw (l, ← (says .same)) (by (r .answer) fs))
+      pub stepped : (k : Class) (o : Outcome Item) → R .classFor (i .opcode) ≡ k → ((fs : List Frame) → effect R met-there k (live (view (w .stacks))) fs ≡ onOutcome o fs)
+          → w .live ≡ true → (r : Stepped) → Says r o → Goes R s Any w log (past w i peak (r .stacks) true (stopOf (r .answer))) new
+      stepped k o e m l r says = one-more (r .stacks) true (stopOf (r .answer)) (says .fit) (λ fs. by-class k e fs ∙ rw (l, m fs, ← (says .same)) (by (r .answer) fs))
         where
           by : (a : Answer) (fs : List Frame)
-              → marked (follow (moved (outcome a (view (r .stacks))) fs) (stateOf (past w i peak (w .stacks) true Running) peak fs new) (λ u. from R s (i .next) u))
+              → answered (follow (onOutcome (outcome a (view (r .stacks))) fs) (stateOf (past w i peak (w .stacks) true Running) peak fs new) (λ u. from R s (i .next) u))
               ≡ resumeBy R s (stopOf a) (past w i peak (r .stacks) true (stopOf a)) fs new
           by A.Done fs = refl
           by (A.Refused x) fs = refl

@@ -9,7 +9,7 @@ use Rattle.definition.specs.Basics.{Bytes}
 use Rattle.definition.specs.Decoding.{instructions}
 use Rattle.definition.specs.Refusals as D
 use Rattle.definition.specs.Stacks.{Rules}
-use Rattle.definition.specs.Walk.{Arm, dead, live, Frame, Move, refuses, onElse, onEndif, conditional, State, totalOf, Walked, follow, atEnd, walk, Marked, marked, refusedVerdict}
+use Rattle.definition.specs.Walk.{Arm, dead, live, Frame, Move, refuses, onElse, onEndif, conditional, State, totalOf, WalkEnd, follow, atEnd, walk, Marked, answered, refusedVerdict}
 use Rattle.decode.specs.View.{codeAt}
 use Rattle.stack.specs.View.{view, refusalOf, Fit}
 use Rattle.stack.specs.declared.Stacks.{Stacks}
@@ -47,17 +47,17 @@ rowsIn s w = w .rows + length (instructions (codeAt s (w .at)))
 
 module _ (R : Rules) (s : Bytes) where
   -- the walk from offset p on
-  abbrev pub from : ℕ → State → Walked
+  abbrev pub from : ℕ → State → WalkEnd
   from p t = walk R (instructions (codeAt s p)) t
 
   -- after this move of the instruction met last
   abbrev pub after : Walk → List Frame → List ℕ → Move → Marked
-  after w fs log m = marked (follow m (stateOf w (w .peak) fs log) (λ t. from (w .at) t))
+  after w fs log m = answered (follow m (stateOf w (w .peak) fs log) (λ t. from (w .at) t))
 
   -- What is left to do where a walk stands. One that is running has yet to take its arm's total into the peak.
   abbrev pub resumeBy : Stop → Walk → List Frame → List ℕ → Marked
-  resumeBy Running w fs log = marked (from (w .at) (stateOf w (max (w .peak) (totalOf (arm w))) fs log))
-  resumeBy End w fs log = marked (atEnd fs (stateOf w (w .peak) fs log))
+  resumeBy Running w fs log = answered (from (w .at) (stateOf w (max (w .peak) (totalOf (arm w))) fs log))
+  resumeBy End w fs log = answered (atEnd fs (stateOf w (w .peak) fs log))
   resumeBy Conditional w fs log = after w fs log (conditional (arm w) fs)
   resumeBy Else w fs log = after w fs log (elseMove (arm w) fs)
   resumeBy Endif w fs log = after w fs log (endifMove (arm w) fs)

@@ -75,6 +75,41 @@ fn log_row(log: &mut [u16], k: usize, offset: u16, main: u16, alt: u16)
     log[3 * k + 2] = alt;
 }
 
+// The walk with these values, which stops so.
+fn stopped(
+    stacks: Stacks,
+    live: bool,
+    at: usize,
+    last: usize,
+    rows: usize,
+    peak: u32,
+    stop: Stop,
+) -> Walk
+    ensures { λ r.
+        ⌜
+        r
+        ≡ record {
+          stacks = stacks;
+          live = live;
+          at = at;
+          last = last;
+          rows = rows;
+          peak = peak;
+          stop = stop;
+        }
+        ⌝ }
+{
+    Walk {
+        stacks,
+        live,
+        at,
+        last,
+        rows,
+        peak,
+        stop,
+    }
+}
+
 // The instructions up to the next IF, NOTIF, ELSE or ENDIF, whose row is written too, or to the end. It calls no walker,
 // so that the methods of the stacks are compiled into its loop.
 pub fn plain(code: &[u8], log: &mut [u16], start: Walk) -> Walk
@@ -96,15 +131,7 @@ pub fn plain(code: &[u8], log: &mut [u16], start: Walk) -> Walk
         let answer = t.answer;
         if let Answer::Refused(r) = answer {
             let s1 = t.stacks;
-            return Walk {
-                stacks: s1,
-                live,
-                at,
-                last,
-                rows,
-                peak,
-                stop: Stop::Refused(r),
-            };
+            return stopped(s1, live, at, last, rows, peak, Stop::Refused(r));
         }
         let m = t.stacks.mains;
         let a = t.stacks.alts;
@@ -112,15 +139,7 @@ pub fn plain(code: &[u8], log: &mut [u16], start: Walk) -> Walk
         let d = decode::decode_at(code, at);
         let Decoded::At(i) = d else {
             let s2 = t.stacks;
-            return Walk {
-                stacks: s2,
-                live,
-                at,
-                last,
-                rows,
-                peak,
-                stop: Stop::End,
-            };
+            return stopped(s2, live, at, last, rows, peak, Stop::End);
         };
         log_row(log, rows, at as u16, logged(live, m), logged(live, a));
         rows += 1;
@@ -129,55 +148,23 @@ pub fn plain(code: &[u8], log: &mut [u16], start: Walk) -> Walk
         let opcode = i.opcode;
         let class = opcodes::class_of(opcode);
         match class {
-            3 => {
+            opcodes::IF => {
                 let s3 = t.stacks;
-                return Walk {
-                    stacks: s3,
-                    live,
-                    at,
-                    last,
-                    rows,
-                    peak,
-                    stop: Stop::Conditional,
-                };
+                return stopped(s3, live, at, last, rows, peak, Stop::Conditional);
             }
-            4 => {
+            opcodes::NOTIF => {
                 let s4 = t.stacks;
-                return Walk {
-                    stacks: s4,
-                    live,
-                    at,
-                    last,
-                    rows,
-                    peak,
-                    stop: Stop::Conditional,
-                };
+                return stopped(s4, live, at, last, rows, peak, Stop::Conditional);
             }
-            5 => {
+            opcodes::ELSE => {
                 let s5 = t.stacks;
-                return Walk {
-                    stacks: s5,
-                    live,
-                    at,
-                    last,
-                    rows,
-                    peak,
-                    stop: Stop::Else,
-                };
+                return stopped(s5, live, at, last, rows, peak, Stop::Else);
             }
-            6 => {
+            opcodes::ENDIF => {
                 let s6 = t.stacks;
-                return Walk {
-                    stacks: s6,
-                    live,
-                    at,
-                    last,
-                    rows,
-                    peak,
-                    stop: Stop::Endif,
-                };
+                return stopped(s6, live, at, last, rows, peak, Stop::Endif);
             }
-            7 => {
+            opcodes::RETURN => {
                 live = false;
                 continue;
             }
@@ -187,8 +174,8 @@ pub fn plain(code: &[u8], log: &mut [u16], start: Walk) -> Walk
             continue;
         }
         match class {
-            2 => continue,
-            1 => {
+            opcodes::NOTHING => continue,
+            opcodes::PUSH => {
                 let v = i.literal;
                 let Value::Exact { len, bytes } = v else {
                     let s = t.stacks;
@@ -205,122 +192,122 @@ pub fn plain(code: &[u8], log: &mut [u16], start: Walk) -> Walk
                 t = s.push_exact(len, bytes, LIMIT);
                 continue;
             }
-            8 => {
+            opcodes::TO_ALT => {
                 let s = t.stacks;
                 t = s.move_to_alt();
                 continue;
             }
-            9 => {
+            opcodes::FROM_ALT => {
                 let s = t.stacks;
                 t = s.move_from_alt();
                 continue;
             }
-            10 => {
+            opcodes::DEPTH => {
                 let s = t.stacks;
                 t = s.depth(LIMIT);
                 continue;
             }
-            11 => {
+            opcodes::SIZE => {
                 let s = t.stacks;
                 t = s.size(LIMIT);
                 continue;
             }
-            12 => {
+            opcodes::NIP => {
                 let s = t.stacks;
                 t = s.nip();
                 continue;
             }
-            13 => {
+            opcodes::TUCK => {
                 let s = t.stacks;
                 t = s.tuck(LIMIT);
                 continue;
             }
-            14 => {
+            opcodes::PICK => {
                 let s = t.stacks;
                 t = s.pick(LIMIT);
                 continue;
             }
-            15 => {
+            opcodes::ROLL => {
                 let s = t.stacks;
                 t = s.roll();
                 continue;
             }
-            16 => {
+            opcodes::ZK => {
                 let s = t.stacks;
                 t = s.zk(LIMIT);
                 continue;
             }
-            17 => {
+            opcodes::DUP => {
                 let s = t.stacks;
                 t = s.extend_from_within(1, 1, LIMIT);
                 continue;
             }
-            18 => {
+            opcodes::TWO_DUP => {
                 let s = t.stacks;
                 t = s.extend_from_within(2, 2, LIMIT);
                 continue;
             }
-            19 => {
+            opcodes::THREE_DUP => {
                 let s = t.stacks;
                 t = s.extend_from_within(3, 3, LIMIT);
                 continue;
             }
-            20 => {
+            opcodes::OVER => {
                 let s = t.stacks;
                 t = s.extend_from_within(2, 1, LIMIT);
                 continue;
             }
-            21 => {
+            opcodes::TWO_OVER => {
                 let s = t.stacks;
                 t = s.extend_from_within(4, 2, LIMIT);
                 continue;
             }
-            22 => {
+            opcodes::ROT => {
                 let s = t.stacks;
                 t = s.rotate_left(3, 1);
                 continue;
             }
-            23 => {
+            opcodes::TWO_ROT => {
                 let s = t.stacks;
                 t = s.rotate_left(6, 2);
                 continue;
             }
-            24 => {
+            opcodes::SWAP => {
                 let s = t.stacks;
                 t = s.rotate_left(2, 1);
                 continue;
             }
-            25 => {
+            opcodes::TWO_SWAP => {
                 let s = t.stacks;
                 t = s.rotate_left(4, 2);
                 continue;
             }
-            26 => {
+            opcodes::EFFECT_1_0 => {
                 let s = t.stacks;
                 t = s.apply_effect(1, 0, LIMIT);
                 continue;
             }
-            27 => {
+            opcodes::EFFECT_2_0 => {
                 let s = t.stacks;
                 t = s.apply_effect(2, 0, LIMIT);
                 continue;
             }
-            28 => {
+            opcodes::EFFECT_0_1 => {
                 let s = t.stacks;
                 t = s.apply_effect(0, 1, LIMIT);
                 continue;
             }
-            29 => {
+            opcodes::EFFECT_1_1 => {
                 let s = t.stacks;
                 t = s.apply_effect(1, 1, LIMIT);
                 continue;
             }
-            30 => {
+            opcodes::EFFECT_3_1 => {
                 let s = t.stacks;
                 t = s.apply_effect(3, 1, LIMIT);
                 continue;
             }
-            31 => {
+            opcodes::EFFECT_2_1 => {
                 let s = t.stacks;
                 t = s.apply_effect(2, 1, LIMIT);
                 continue;

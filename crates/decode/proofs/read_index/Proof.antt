@@ -1,4 +1,9 @@
 use borrow.Author.Needs.{needs}
+use Rattle.definition.specs.Decoding.{indexOf}
+use Rattle.definition.specs.Walk.{bytesKnown}
+use Rattle.decode.specs.View.{itemOf}
+use Rattle.decode.specs.declared.Index.the-variants.{Unknown}
+use Rattle.decode.proofs.Numbers.{answer-reads}
 use Rattle.decode.proofs.read_index.Statement.{statement}
 use Rattle.decode.proofs.read_index.Tie as tie
 
@@ -12,10 +17,10 @@ number-index-requires : tie.Need-number-index-requires
 number-index-requires c κs = search needs
 
 returns : tie.Need-returns
-returns c = search needs
+returns c = answer-reads (indexOf (bytesKnown (itemOf (c .before .before .args .v)))) Unknown (cc)
 
 returns-2 : tie.Need-returns-2
-returns-2 c = cc
+returns-2 c = answer-reads (indexOf (bytesKnown (itemOf (c .before .before .before .before .args .v)))) (c .number-index .result) (cc)
 
 pub read-index-spec : {M : Type 1} → statement M
 read-index-spec =

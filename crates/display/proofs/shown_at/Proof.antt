@@ -11,15 +11,15 @@ use Rattle.display.proofs.shown_at.Tie as tie
 
 -- what `decode_at` found, in the arm for an instruction and in that for a malformed one
 decoded : (d : tie.After-known-told) → decodedAt (d .before .before .before .before .before .args .fragment .now) (d .before .before .before .before .before .args .offset) ≡ At (d .before .i .given .0 .0)
-decoded d = sym (d .before .before .before .decode-at .ensures) ∙ d .before .i .given .1
+decoded d = sym (d .before .before .before .decode-at .ensures .1) ∙ d .before .i .given .1
 
 found : (d : tie.After-known-told) → InstructionAt (d .before .before .before .before .before .args .fragment .now) (d .before .before .before .before .before .args .offset) (d .before .i .given .0 .0)
 found d =
     let k = d .before .before .before .before in
     code-instruction _ _ (slice-bytes (k .before .args .fragment .now) (k .shared-slice-known .given)) _ (decoded d)
 
-not-whole : (d : tie.After-enum-told2) → decodedAt (d .before .before .before .before .args .fragment .now) (d .before .before .before .before .args .offset) ≡ Malformed
-not-whole d = sym (d .before .before .decode-at .ensures) ∙ d .enum-told2 .given .1
+not-whole : (d : tie.After-enum-told2) → decodedAt (d .before .before .before .before .args .fragment .now) (d .before .before .before .before .args .offset) ≡ Malformed (d .enum-told2 .given .0 .0)
+not-whole d = sym (d .before .before .decode-at .ensures .1) ∙ d .enum-told2 .given .1
 
 decode-at-requires : tie.Need-decode-at-requires
 decode-at-requires c κs = search needs
@@ -52,7 +52,7 @@ part-result-end-2 : tie.Need-part-result-end-2
 part-result-end-2 c = search needs
 
 returns-2 : tie.Need-returns-2
-returns-2 c = shown-end _ _ (sym (c .before .before .before .decode-at .ensures) ∙ c .before .enum-told .given .1)
+returns-2 c = shown-end _ _ (sym (c .before .before .before .decode-at .ensures .1) ∙ c .before .enum-told .given .1)
 
 enum-told-2 : tie.Need-enum-told-2
 enum-told-2 c = search needs

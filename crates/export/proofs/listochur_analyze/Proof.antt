@@ -1,12 +1,18 @@
+use mathlib.Core.List.{List}
 use mathlib.Core.Path.{ap, _∙_}
-use Rattle.stack_analysis.specs.declared.Verdict.{Verdict}
-use Rattle.export.specs.View.{written, verdictNumbers}
+use Prim.Native.Nat.{ℕ}
+use Rattle.export.specs.View.{written}
+use Rattle.export.proofs.Items.{summary-is}
 use borrow.Author.Needs.{needs}
 use Rattle.export.proofs.listochur_analyze.Statement.{statement}
 use Rattle.export.proofs.listochur_analyze.Tie as tie
+use Rattle.export.proofs.listochur_analyze.Reads as reads
+use Rattle.export.proofs.listochur_analyze.Lts as lts
+use Rattle.export.proofs.write.Reads as write-reads
+use Rattle.stack_analysis.proofs.analyze_heights.Reads as analyze-heights-reads
 
-analyze-requires : tie.Need-analyze-requires
-analyze-requires c κs = search needs
+analyze-heights-requires : tie.Need-analyze-heights-requires
+analyze-heights-requires c κs = search needs
 
 write-requires : tie.Need-write-requires
 write-requires c κs = search needs
@@ -21,10 +27,9 @@ returns : tie.Need-returns
 returns c =
     let d = c .before .before .before .before .before .before in
     let lent = d .before .before .before .before .before .args .out .now in
-    let same = d .analyze .ensures .0 in
-    let wrote = c .before .before .write .ensures ∙ ap (λ (v : Verdict). written (verdictNumbers v) lent) same in
-    (ap (λ (v : Verdict). v .number) same, (d .analyze .ensures .1 .0, wrote))
+    let m = summary-is _ _ (d .analyze-heights .ensures .0) in
+    (m .0, (d .analyze-heights .ensures .1, c .before .before .write .ensures ∙ ap (λ (ns : List ℕ). written ns lent) (m .1)))
 
 pub listochur-analyze-spec : {M : Type 1} → statement M
 listochur-analyze-spec =
-    tie.close (tie.spec analyze-requires write-requires same-length same-length-2 returns)
+    tie.close (tie.spec analyze-heights-requires write-requires same-length same-length-2 returns)

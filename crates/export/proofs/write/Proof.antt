@@ -1,4 +1,4 @@
-use Rattle.export.specs.View.{verdictNumbers}
+use Rattle.export.specs.Parts.{summaryNumbers}
 use lib.ListN.{length-set}
 use Rattle.export.proofs.Places.{too-few, all-written}
 use borrow.Author.Needs.{needs}
@@ -57,7 +57,7 @@ same-length c = simp length-set
 returns-2 : tie.Need-returns-2
 returns-2 c =
     let a = c .before .before .before .before .before .before .before .args in
-    rw (c .before .before .flag .ensures) (all-written (verdictNumbers (a .v)) (a .out .now) (search needs))
+    rw (c .before .before .flag .ensures) (all-written (summaryNumbers (a .v)) (a .out .now) (search needs))
 
 pub write-spec : {M : Type 1} → statement M
 write-spec =

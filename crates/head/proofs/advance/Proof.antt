@@ -46,6 +46,7 @@ use denote.Triple.Clauses.{ensured, lasts}
 use Rattle.decode.specs.View.{decodedAt}
 use Rattle.head.specs.declared.Head.{Head}
 use Rattle.head.specs.View.{offsetAfter}
+use Rattle.head.proofs.Sequence.{left-after}
 use Rattle.head.proofs.Head as T
 use Rattle.head.proofs.Head.Laws as T′
 use Rattle.head.proofs.after as after
@@ -127,7 +128,7 @@ module _ {M : Type 1} (𝓤 : URA M) (H : Heap 𝓤) (A : Atoms 𝓤) (W : Given
   exits : (r : ℕ) → r < 2 ^ 64 → r ≡ found → ent 𝓤 (⋆ 𝓤 H A ((‵ (flft κ q) ⊛ ‵ ftrue) ∷ ‵ Own ∷ [])) (Post (T′.lowered (d′ r)))
   exits r fits e =
       qed W ((‵ (flft κ q) ⊛ ‵ ftrue) ∷ ‵ Own ∷ []) ∵
-      suffices ! _ (ends-at 𝓤 H A advance.ended stayed (advance.clauses 𝓤 H A mem run) W (((κ, tt), (q, tt), tt, (d, tt), (mach ∷ [], tt)), tt) (T′.lowered (d′ r)) (d′ r) (tt, tt) (tt, tt)) $ says ! (refl, e) $
+      suffices ! _ (ends-at 𝓤 H A advance.ended stayed (advance.clauses 𝓤 H A mem run) W (((κ, tt), (q, tt), tt, (d, tt), (mach ∷ [], tt)), tt) (T′.lowered (d′ r)) (d′ r) (tt, tt) (tt, tt)) $ says ! (refl, left-after (d .fragment .now) (d .offset) r (decodedAt (now (d .fragment)) (d .offset)) refl e, e) $
       frame ! $ use1 W (‵ Own ⊛ ‵ Own) (LL.copy D (T′.the-copy (namedLft 1 0 tt (κ, tt))) 𝓤 H A W .twice d (mach ∷ [])) $ split ! $ nothing ! $ move ! (1 ∷ 0 ∷ []) $ fjoin ! $ frame ! $
       -- [what the struct owns]: the new offset's facts take the place of the old one's
       owned ! usize (Is usize) (uint-makes 𝓤 H A W w64) r _ (refl, fits) $ move ! (1 ∷ 0 ∷ []) $ by ! (own-put 𝓤 H A W D L 1 vd r mach)

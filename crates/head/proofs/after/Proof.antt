@@ -11,7 +11,7 @@ offset-after-requires : tie.Need-offset-after-requires
 offset-after-requires c κs = search needs
 
 returns : tie.Need-returns
-returns c = c .offset-after .ensures ∙ sym (offset-is _ (c .before .decode-at .ensures))
+returns c = c .offset-after .ensures ∙ sym (offset-is _ (c .before .decode-at .ensures .1))
 
 pub after-spec : {M : Type 1} → statement M
 after-spec = tie.close (tie.spec decode-at-requires offset-after-requires returns)

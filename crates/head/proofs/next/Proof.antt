@@ -43,9 +43,11 @@ use denote.Triple.Table.{entered, cited}
 use denote.Triple.Walked.{says, Stays, stay-none, walkOf, goes-none, Walks, ends-at, walked, walk-meets}
 use denote.Exit.{yes}
 use denote.Triple.Clauses.{ensured, lasts}
-use Rattle.decode.specs.View.{decodedAt}
+use Rattle.decode.specs.View.{decodedAt, yieldOf, yielded}
+use Rattle.head.specs.View.{left}
 use Rattle.head.specs.declared.Head.{Head}
 use Rattle.decode.specs.declared.Decoded.{Decoded}
+use Rattle.head.proofs.Facts.{both}
 use Rattle.head.proofs.Head as T
 use Rattle.head.proofs.Head.Laws as T′
 use Rattle.decode.proofs.Decoded as S
@@ -79,8 +81,12 @@ module _ {M : Type 1} (𝓤 : URA M) (H : Heap 𝓤) (A : Atoms 𝓤) (W : Given
   abbrev v : Val
   v = sliceVal (d .fragment .ptr) (length (d .fragment .now))
 
-  abbrev found : Decoded
-  found = decodedAt (now (d .fragment)) (d .offset)
+  -- what `decode_at` says of its result
+  abbrev Yields : Decoded → Type 0
+  Yields r = yieldOf r ≡ yielded (left d)
+
+  abbrev Same : Decoded → Type 0
+  Same r = r ≡ decodedAt (now (d .fragment)) (d .offset)
 
   abbrev Post : Val → SProp 𝓤
   Post = walkOf 𝓤 H A next.ended stayed (next.clauses 𝓤 H A mem run) .post (((κ, tt), (q, tt), tt, (d, tt), (mach ∷ [], tt)), tt)
@@ -118,11 +124,15 @@ module _ {M : Type 1} (𝓤 : URA M) (H : Heap 𝓤) (A : Atoms 𝓤) (W : Given
       move ! (1 ∷ []) $ drop ! $ nothing ! $ owned ! usize (Is usize) (uint-makes 𝓤 H A W w64) (d .offset) _ (refl, fits) $ fjoin ! $ move ! (1 ∷ 0 ∷ []) $ fjoin ! $
       move ! (2 ∷ 0 ∷ []) $ use2 W (raw (DecodeAt 𝓤 H A mem run .pre to)) asked $ frame ! $ done !)
 
-  -- of the callee's `ensured`, the clause alone: it has no `&mut`, so what is said of last values is dropped
-  said : (r : Decoded) → ent 𝓤 (ensured 𝓤 H A decode-at.ended (decode-at.clauses 𝓤 H A mem run) (κ, tt) (d .fragment, (d .offset, tt)) tt r) (fact 𝓤 (r ≡ found))
-  said r = exE 𝓤 _ (λ ws. snd∗ 𝓤 (sem 𝓤 H A (lasts decode-at.ended (κ, tt) (d .fragment, (d .offset, tt)) ws)) (fact 𝓤 (r ≡ found)))
+  -- of the callee's `ensured`, the two clauses alone: it has no `&mut`, so what is said of last values is dropped
+  said : (r : Decoded) → ent 𝓤 (ensured 𝓤 H A decode-at.ended (decode-at.clauses 𝓤 H A mem run) (κ, tt) (d .fragment, (d .offset, tt)) tt r) (fact 𝓤 (Yields r × Same r))
+  said r =
+      exE 𝓤 _ (λ ws.
+      via 𝓤 (sep 𝓤 (fact 𝓤 (Yields r)) (fact 𝓤 (Same r)))
+      (snd∗ 𝓤 (sem 𝓤 H A (lasts decode-at.ended (κ, tt) (d .fragment, (d .offset, tt)) ws)) (sep 𝓤 (fact 𝓤 (Yields r)) (fact 𝓤 (Same r))))
+      (both 𝓤 (Yields r) (Same r)))
 
-  exits : (r : Decoded) (u : Val) → r ≡ found → ent 𝓤 (⋆ 𝓤 H A (‵ (S.the-row .own r (u ∷ [])) ∷ (‵ (flft κ q) ⊛ ‵ ftrue) ∷ ‵ Own ∷ [])) (Post u)
+  exits : (r : Decoded) (u : Val) → Yields r × Same r → ent 𝓤 (⋆ 𝓤 H A (‵ (S.the-row .own r (u ∷ [])) ∷ (‵ (flft κ q) ⊛ ‵ ftrue) ∷ ‵ Own ∷ [])) (Post u)
   exits r u e =
       qed W (‵ (S.the-row .own r (u ∷ [])) ∷ (‵ (flft κ q) ⊛ ‵ ftrue) ∷ ‵ Own ∷ []) ∵
       suffices ! _ (ends-at 𝓤 H A next.ended stayed (next.clauses 𝓤 H A mem run) W (((κ, tt), (q, tt), tt, (d, tt), (mach ∷ [], tt)), tt) u r (tt, tt) (tt, tt)) $ says ! e $
@@ -138,7 +148,7 @@ module _ {M : Type 1} (𝓤 : URA M) (H : Heap 𝓤) (A : Atoms 𝓤) (W : Given
         move ! (8 ∷ []) $ use1 W (raw (DecodeAt 𝓤 H A mem run .pre to) ⊛ ‵ Own) (apart (wt .1 .1 .0 .fits)) $ split ! $
         calls-at ! fm (DecodeAt 𝓤 H A mem run) known to (and-then ! (load ! (from ! (stop !)) (look ! 4 refl)) (and-then ! (load ! (from ! (stop !)) (look ! 2 refl)) (no-more !))) (λ u.
         use1 W (later (some (λ (r : Decoded). ((‵ (flft κ q) ⊛ ‵ ftrue) ⊛ ‵ (S.the-row .own r (u ∷ []))) ⊛ raw (ensured 𝓤 H A decode-at.ended (decode-at.clauses 𝓤 H A mem run) (κ, tt) (d .fragment, (d .offset, tt)) tt r)))) (id⊢ 𝓤 _) $ await ! tt $ pick ! (λ r.
-        split ! $ move ! (1 ∷ []) $ use1 W (raw (fact 𝓤 (r ≡ found))) (said r) $ heard ! (r ≡ found) (λ e. split ! $ move ! (1 ∷ []) $
+        split ! $ move ! (1 ∷ []) $ use1 W (raw (fact 𝓤 (Yields r × Same r))) (said r) $ heard ! (Yields r × Same r) (λ e. split ! $ move ! (1 ∷ []) $
         -- [the result; the token; what the struct owns; _3; …; _2; …; _1; …; room for _0; …]
         peeks ! S.the-row (Is S.the-row) (shows 𝓤 H A S.the-row) r (u ∷ []) (λ is.
         land ! (from ! (stop !)) (init ! 9 refl (EL.lawful S.the-type S′.the-laws 𝓤 H A W tt .typed r _ is .0)) $

@@ -46,7 +46,7 @@ use denote.Triple.Call.{calls-at}
 use denote.Triple.Clauses.{ensured, lasts}
 use denote.Triple.Table.{entered, cited}
 use denote.Triple.Walked.{says, Stays, stay-ref, walkOf, goes-ref, Walks, ends-at, walked, walk-meets}
-use Rattle.decode.specs.View.{decodedAt}
+use Rattle.decode.specs.View.{decodedAt, yieldOf, yielded}
 use Rattle.decode.specs.declared.Decoded.{Decoded}
 use Rattle.decode.proofs.Decoded as S
 use Rattle.decode.proofs.Decoded.Laws as S′
@@ -54,8 +54,10 @@ use Rattle.decode.proofs.decode_at as decode-at
 use Rattle.decode.proofs.decode_at.Symbol as decode-at-def
 use Rattle.decode.proofs.decode_at.Symbol.{name as #decode·decode-at}
 use Rattle.decode.proofs.decode_at.Met as decode-at-thm
-use Rattle.head.specs.View.{offsetAfter}
+use Rattle.head.specs.View.{left, offsetAfter}
 use Rattle.head.specs.declared.Head.{Head}
+use Rattle.head.proofs.Facts.{both}
+use Rattle.head.proofs.Sequence.{left-after}
 use Rattle.head.proofs.Head as T
 use Rattle.head.proofs.Head.Laws as T′
 use Rattle.head.proofs.offset_after as offset-after
@@ -120,8 +122,12 @@ module _ {M : Type 1} (𝓤 : URA M) (H : Heap 𝓤) (A : Atoms 𝓤) (W : Given
   abbrev v : Val
   v = sliceVal (h .fragment .ptr) (length (h .fragment .now))
 
-  abbrev found : Decoded
-  found = decodedAt (now (h .fragment)) (h .offset)
+  -- what `decode_at` says of its result
+  abbrev Yields : Decoded → Type 0
+  Yields r = yieldOf r ≡ yielded (left h)
+
+  abbrev Same : Decoded → Type 0
+  Same r = r ≡ decodedAt (now (h .fragment)) (h .offset)
 
   abbrev Post : Val → SProp 𝓤
   Post = walkOf 𝓤 H A read.ended stayed (read.clauses 𝓤 H A at-mem run) .post (((κ, (κ′, tt)), (q, (q′, tt)), bounds, x, at), tt)
@@ -151,8 +157,12 @@ module _ {M : Type 1} (𝓤 : URA M) (H : Heap 𝓤) (A : Atoms 𝓤) (W : Given
       -- [what the slice owns; what the offset owns; the token]
       move ! (1 ∷ []) $ drop ! $ nothing ! $ owned ! usize (Is usize) (uint-makes 𝓤 H A W w64) (h .offset) _ (refl, ok) $ fjoin ! $ move ! (1 ∷ 0 ∷ []) $ fjoin ! $ move ! (1 ∷ 0 ∷ []) $ join ! $ frame ! $ done !)
 
-  decode-said : (r : Decoded) → ent 𝓤 (ensured 𝓤 H A decode-at.ended (decode-at.clauses 𝓤 H A at-mem run) (κ′, tt) (h .fragment, (h .offset, tt)) tt r) (fact 𝓤 (r ≡ found))
-  decode-said r = exE 𝓤 _ (λ ws. snd∗ 𝓤 (sem 𝓤 H A (lasts decode-at.ended (κ′, tt) (h .fragment, (h .offset, tt)) ws)) (fact 𝓤 (r ≡ found)))
+  decode-said : (r : Decoded) → ent 𝓤 (ensured 𝓤 H A decode-at.ended (decode-at.clauses 𝓤 H A at-mem run) (κ′, tt) (h .fragment, (h .offset, tt)) tt r) (fact 𝓤 (Yields r × Same r))
+  decode-said r =
+      exE 𝓤 _ (λ ws.
+      via 𝓤 (sep 𝓤 (fact 𝓤 (Yields r)) (fact 𝓤 (Same r)))
+      (snd∗ 𝓤 (sem 𝓤 H A (lasts decode-at.ended (κ′, tt) (h .fragment, (h .offset, tt)) ws)) (sep 𝓤 (fact 𝓤 (Yields r)) (fact 𝓤 (Same r))))
+      (both 𝓤 (Yields r) (Same r)))
 
   -- the call of `offset_after`, at what was found, r, with the machine value u
   abbrev to-after : Decoded → Val → OffsetAfter 𝓤 H A at-mem run .Ghost
@@ -169,11 +179,11 @@ module _ {M : Type 1} (𝓤 : URA M) (H : Heap 𝓤) (A : Atoms 𝓤) (W : Given
   again : (n : ℕ) → n < 2 ^ 64 → ent 𝓤 (sem 𝓤 H A Own) (sem 𝓤 H A (R .own (h′ n) (T′.lowered (h′ n) ∷ [])))
   again n ok = qed W (‵ Own ∷ []) ∵ owned ! usize (Is usize) (uint-makes 𝓤 H A W w64) n _ (refl, ok) $ move ! (1 ∷ 0 ∷ []) $ by ! (own-put 𝓤 H A W D L 1 vd n mach)
 
-  exits : (r : Decoded) (u : Val) → Is S.the-row r (u ∷ []) → (n : ℕ) → r ≡ found → n ≡ offsetAfter r (h .offset)
+  exits : (r : Decoded) (u : Val) → Is S.the-row r (u ∷ []) → (n : ℕ) → Yields r × Same r → n ≡ offsetAfter r (h .offset)
       → ent 𝓤 (⋆ 𝓤 H A (‵ (fobs γ (R .coded .code (h′ n))) ∷ ‵ (fbor κ (Body (mem R) b o γ)) ∷ ‵ (flft κ q) ∷ (‵ (flft κ′ q′) ⊛ ‵ ftrue) ∷ [])) (Post u)
   exits r u is n e f =
       qed W (‵ (fobs γ (R .coded .code (h′ n))) ∷ ‵ (fbor κ (Body (mem R) b o γ)) ∷ ‵ (flft κ q) ∷ (‵ (flft κ′ q′) ⊛ ‵ ftrue) ∷ []) ∵
-      suffices ! _ (ends-at 𝓤 H A read.ended stayed (read.clauses 𝓤 H A at-mem run) W (((κ, (κ′, tt)), (q, (q′, tt)), bounds, x, at), tt) u r (h′ n, tt) (tt, tt)) $ says ! (e, refl, f) $
+      suffices ! _ (ends-at 𝓤 H A read.ended stayed (read.clauses 𝓤 H A at-mem run) W (((κ, (κ′, tt)), (q, (q′, tt)), bounds, x, at), tt) u r (h′ n, tt) (tt, tt)) $ says ! (e .0, refl, left-after (h .fragment .now) (h .offset) n r (e .1) f, e .1, f) $
       move ! (2 ∷ 3 ∷ []) $ join ! $ frame ! $ feqI ! (List Val) (vptr b o ∷ []) (vptr b o ∷ []) refl $ fjoin3 ! $ nothing ! $ move ! (1 ∷ 0 ∷ []) $ fjoin ! $
       owned ! S.the-row (Is S.the-row) (EL.makes S.the-type S′.the-plain 𝓤 H A) r _ is $ move ! (1 ∷ 0 ∷ []) $ done !
 
@@ -194,7 +204,7 @@ module _ {M : Type 1} (𝓤 : URA M) (H : Heap 𝓤) (A : Atoms 𝓤) (W : Given
         move ! (6 ∷ 0 ∷ []) $ use2 W (raw (DecodeAt 𝓤 H A at-mem run .pre to-decode)) (goes-decode (fits was)) $
         calls-at ! fm (DecodeAt 𝓤 H A at-mem run) known-decode to-decode (and-then ! (load ! (from ! (stop !)) (look ! 7 refl)) (and-then ! (load ! (from ! (stop !)) (look ! 13 refl)) (no-more !))) (λ u.
         use1 W (later (some (λ (r : Decoded). ((‵ (flft κ′ q′) ⊛ ‵ ftrue) ⊛ ‵ (S.the-row .own r (u ∷ []))) ⊛ raw (ensured 𝓤 H A decode-at.ended (decode-at.clauses 𝓤 H A at-mem run) (κ′, tt) (h .fragment, (h .offset, tt)) tt r)))) (id⊢ 𝓤 _) $ await ! tt $ pick ! (λ r.
-        split ! $ move ! (1 ∷ []) $ use1 W (raw (fact 𝓤 (r ≡ found))) (decode-said r) $ heard ! (r ≡ found) (λ e. split ! $ move ! (1 ∷ []) $
+        split ! $ move ! (1 ∷ []) $ use1 W (raw (fact 𝓤 (Yields r × Same r))) (decode-said r) $ heard ! (Yields r × Same r) (λ e. split ! $ move ! (1 ∷ []) $
         -- [what was found; 'a's token; what a Head owns; the struct's cell; the open borrow; obs; auth; true; _5; …; _4; …; _3; …; _2; …; _1; …; room for _0; …]
         peeks ! S.the-row (Is S.the-row) (shows 𝓤 H A S.the-row) r (u ∷ []) (λ is.
         land ! (from ! (stop !)) (init ! 12 refl (EL.lawful S.the-type S′.the-laws 𝓤 H A W tt .typed r _ is .0)) $

@@ -20,7 +20,7 @@ found : (d : tie.After-struct-known Inv-loop μ-loop) → InstructionAt (d .befo
 found d =
     let l = d .before .before .before .before .before in
     let f = l .before .before .args .bytecode .now in
-    code-instruction f (l .loop .offset) (slice-bytes f (l .before .shared-slice-known .given)) (d .before .before .i .given .0 .0) (sym (d .before .before .before .before .decode-at .ensures) ∙ d .before .before .i .given .1)
+    code-instruction f (l .loop .offset) (slice-bytes f (l .before .shared-slice-known .given)) (d .before .before .i .given .0 .0) (sym (d .before .before .before .before .decode-at .ensures .1) ∙ d .before .before .i .given .1)
 
 loop-holds : tie.Need-loop-holds Inv-loop μ-loop
 loop-holds c = counting-none _
@@ -59,7 +59,7 @@ limits-of-requires c κs = search needs
 returns : tie.Need-returns Inv-loop μ-loop
 returns c =
     let d = c .before .before .before in
-    counting-ends _ _ _ (d .before .loop .inv) (sym (d .decode-at .ensures) ∙ c .before .enum-told .given .1) _ (c .limits-of .ensures)
+    counting-ends _ _ _ (d .before .loop .inv) (sym (d .decode-at .ensures .1) ∙ c .before .enum-told .given .1) _ (c .limits-of .ensures)
 
 enum-told-2 : tie.Need-enum-told-2 Inv-loop μ-loop
 enum-told-2 c = search needs
@@ -67,7 +67,7 @@ enum-told-2 c = search needs
 returns-2 : tie.Need-returns-2 Inv-loop μ-loop
 returns-2 c =
     let d = c .before .before in
-    counting-malformed _ _ _ (d .before .loop .inv) (sym (d .decode-at .ensures) ∙ c .enum-told2 .given .1)
+    counting-malformed _ _ _ (d .before .loop .inv) (sym (d .decode-at .ensures .1) ∙ c .enum-told2 .given .1)
 
 pub validate-txscript-bytecode-limits-spec : {M : Type 1} → statement M
 validate-txscript-bytecode-limits-spec =

@@ -17,7 +17,8 @@ returns c =
     let w = c .before .before .before in
     let a = w .before .before .before .before .before .args in
     let i = w .write-lines .ensures .0 in
-    (lines-held (a .paper .now) (a .log .now) _ _ _ i, (i .logged, lines-within (a .paper .now) (a .log .now) _ _ _ i (w .write-lines .ensures .1)))
+    let s = w .write-lines .ensures .1 in
+    (lines-held (a .paper .now) (a .log .now) _ _ _ i, (i .logged, (lines-within (a .paper .now) (a .log .now) _ _ _ i s, s)))
 
 pub mark-lines-spec : {M : Type 1} → statement M
 mark-lines-spec =

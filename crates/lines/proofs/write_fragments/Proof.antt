@@ -1,7 +1,9 @@
 use lib.ListN.{length}
-use Prim.Native.Nat.{_-_, _<_}
+use Prim.Native.Nat.{_*_, _-_, _<_}
 use Rattle.definition.specs.Papers.{fragments}
-use Rattle.paper.specs.View.{fragmentMarked, Marks}
+use Rattle.paper.specs.View.{fragmentAnalysis}
+use Rattle.paper.specs.Parts.{Marks}
+use Rattle.paper.proofs.Fragments.{fragment-marks}
 use Rattle.lines.proofs.Fragments.{Printing, printing-none, printing-more, printing-stops, printing-end}
 use borrow.Author.Needs.{needs}
 use native.Mathlib.Omega.{arith}
@@ -14,17 +16,19 @@ Inv-loop paper log₀ out₀ entries count k₀ rows₀ at₀ log out k rows at 
 abbrev μ-loop : tie.MeasureT-loop
 μ-loop paper log₀ out₀ entries count k₀ rows₀ at₀ log out k rows at = count - k
 
--- what `mark_fragment` promises of fragment k
-marked : (c : tie.After-mark-fragment Inv-loop μ-loop) → let l = c .before .before .before in
-    Marks (fragmentMarked (l .before .before .before .before .before .before .args .paper .now) (l .loop .k) (l .loop .rows) (l .loop .log)) (l .loop .rows) (l .loop .log) (c .mark-fragment .result) (c .mark-fragment .last .1 .1 .1 .0)
-marked c = record { same = c .mark-fragment .ensures .0; logged = c .mark-fragment .ensures .1 .0; room = c .mark-fragment .ensures .1 .1 }
-
 -- one more is left
 more : (c : tie.After-mark-fragment Inv-loop μ-loop) → let l = c .before .before .before in
     l .loop .k < length (fragments (l .before .before .before .before .before .before .args .paper .now))
 more c =
     let l = c .before .before .before in
     omega (arith, c .before .before .loop-test .taken, l .before .fragment-count .ensures)
+
+-- what `mark_fragment` promises of fragment k
+marked : (c : tie.After-mark-fragment Inv-loop μ-loop) → let l = c .before .before .before in
+    Marks (fragmentAnalysis (l .before .before .before .before .before .before .args .paper .now) (l .loop .k) (l .loop .rows) (l .loop .log)) (3 * l .loop .rows) (l .loop .log) (c .mark-fragment .result) (c .mark-fragment .last .1 .1 .1 .0)
+marked c =
+    let e = c .mark-fragment .ensures in
+    fragment-marks _ _ _ _ (more c) _ _ (record { same = e .0; logged = e .1 .0; room = e .1 .1 }) (c .before .before .before .loop .inv .marking .room)
 
 field-requires : tie.Need-field-requires Inv-loop μ-loop
 field-requires c κs = search needs
@@ -42,10 +46,10 @@ mark-fragment-requires : tie.Need-mark-fragment-requires Inv-loop μ-loop
 mark-fragment-requires c κs = search needs
 
 add-rows : tie.Need-add-rows Inv-loop μ-loop
-add-rows c = search needs
+add-rows c = record { fits = omega (arith, marked (c .before .before .before) .room) }
 
-write-refused-requires : tie.Need-write-refused-requires Inv-loop μ-loop
-write-refused-requires c κs = search needs
+refuse-requires : tie.Need-refuse-requires Inv-loop μ-loop
+refuse-requires c κs = search needs
 
 same-length : tie.Need-same-length Inv-loop μ-loop
 same-length c = search needs
@@ -59,8 +63,8 @@ returns c =
     let b = w .before .before .before .before .before .before .before in
     let l = b .before .before .before in
     let s = l .before .before .before .before .before .before in (
-      printing-stops (s .args .paper .now) (s .args .log .now) (s .args .out .now) (l .loop .k) (l .loop .rows) (l .loop .log) (l .loop .out) (l .loop .at) (l .loop .inv) (more b) (b .mark-fragment .result) _ (marked b) (w .before .before .if1 .taken) (w .write-refused .ensures .0),
-      omega (arith, w .write-refused .ensures .1, l .loop .inv .short, more b, s .pre),
+      printing-stops (s .args .paper .now) (s .args .log .now) (s .args .out .now) (l .loop .k) (l .loop .rows) (l .loop .log) (l .loop .out) (l .loop .at) (l .loop .inv) (more b) (b .mark-fragment .result) _ (marked b) (w .before .before .if1 .taken) (w .refuse .ensures .0) (w .refuse .ensures .1 .1),
+      omega (arith, w .refuse .ensures .1 .0, l .loop .inv .short, more b, s .pre),
     )
 
 write-line-requires : tie.Need-write-line-requires Inv-loop μ-loop
@@ -81,8 +85,8 @@ loop-again c =
     let s = f .before .before .before .before in
     printing-more (s .args .paper .now) (s .args .log .now) (s .args .out .now) (l .loop .k) (l .loop .rows) (l .loop .log) (l .loop .out) (l .loop .at) (l .loop .inv) (more b) (b .mark-fragment .result) _ (marked b) (b .mark-fragment .kept .1 .1 .1 .0) (w .before .before .if1 .left) (f .field .result) (f .field .ensures .0) (w .write-line .ensures .0) (w .write-line .ensures .1) (w .write-line .kept .0)
 
-write-accepted-requires : tie.Need-write-accepted-requires Inv-loop μ-loop
-write-accepted-requires c κs = search needs
+accept-requires : tie.Need-accept-requires Inv-loop μ-loop
+accept-requires c κs = search needs
 
 same-length-3 : tie.Need-same-length-3 Inv-loop μ-loop
 same-length-3 c = search needs
@@ -95,8 +99,8 @@ returns-2 c =
     let w = c .before .before in
     let l = w .before .before .before in
     let s = l .before .before .before .before .before .before in (
-      printing-end (s .args .paper .now) (s .args .log .now) (s .args .out .now) (l .loop .k) (l .loop .rows) (l .loop .log) (l .loop .out) (l .loop .at) (l .loop .inv) (omega (arith, w .before .before .loop-test .left, l .before .fragment-count .ensures)) (w .write-accepted .ensures .0),
-      omega (arith, w .write-accepted .ensures .1, l .loop .inv .short, l .loop .inv .reached, s .pre),
+      printing-end (s .args .paper .now) (s .args .log .now) (s .args .out .now) (l .loop .k) (l .loop .rows) (l .loop .log) (l .loop .out) (l .loop .at) (l .loop .inv) (omega (arith, w .before .before .loop-test .left, l .before .fragment-count .ensures)) (w .accept .ensures .0) (w .accept .ensures .1 .1),
+      omega (arith, w .accept .ensures .1 .0, l .loop .inv .short, l .loop .inv .reached, s .pre),
     )
 
 pub write-fragments-spec : {M : Type 1} → statement M
@@ -111,7 +115,7 @@ write-fragments-spec =
     loop-holds
     mark-fragment-requires
     add-rows
-    write-refused-requires
+    refuse-requires
     same-length
     same-length-2
     returns
@@ -119,7 +123,7 @@ write-fragments-spec =
     add-k
     loop-less
     loop-again
-    write-accepted-requires
+    accept-requires
     same-length-3
     same-length-4
     returns-2)

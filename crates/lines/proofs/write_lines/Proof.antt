@@ -4,8 +4,8 @@ use borrow.Author.Needs.{needs}
 use Rattle.lines.proofs.write_lines.Statement.{statement}
 use Rattle.lines.proofs.write_lines.Tie as tie
 
-write-refused-requires : tie.Need-write-refused-requires
-write-refused-requires c κs = search needs
+refuse-requires : tie.Need-refuse-requires
+refuse-requires c κs = search needs
 
 same-length : tie.Need-same-length
 same-length c = search needs
@@ -15,13 +15,13 @@ returns c =
     let w = c .before .before in
     let b = w .before .before in
     let a = b .before .before .before .before .args in
-    (lines-long (a .paper .now) (a .log .now) (b .if1 .taken) (w .write-refused .ensures .0), omega (arith, w .write-refused .ensures .1))
+    (lines-long (a .paper .now) (a .log .now) (b .if1 .taken) (w .refuse .ensures .0) (w .refuse .ensures .1 .1), omega (arith, w .refuse .ensures .1 .0))
 
 header-ok-requires : tie.Need-header-ok-requires
 header-ok-requires c κs = search needs
 
-write-refused-requires-2 : tie.Need-write-refused-requires-2
-write-refused-requires-2 c κs = search needs
+refuse-requires-2 : tie.Need-refuse-requires-2
+refuse-requires-2 c κs = search needs
 
 same-length-2 : tie.Need-same-length-2
 same-length-2 c = search needs
@@ -32,7 +32,7 @@ returns-2 c =
     let b = w .before .before in
     let h = b .before in
     let a = h .before .before .before .before .before .args in
-    (lines-bad (a .paper .now) (a .log .now) (h .before .if1 .left) (h .header-ok .result) (h .header-ok .ensures) (b .if2 .taken) (w .write-refused2 .ensures .0), omega (arith, w .write-refused2 .ensures .1))
+    (lines-bad (a .paper .now) (a .log .now) (h .before .if1 .left) (h .header-ok .result) (h .header-ok .ensures) (b .if2 .taken) (w .refuse2 .ensures .0) (w .refuse2 .ensures .1 .1), omega (arith, w .refuse2 .ensures .1 .0))
 
 dispatch-check-requires : tie.Need-dispatch-check-requires
 dispatch-check-requires c κs = search needs
@@ -40,11 +40,11 @@ dispatch-check-requires c κs = search needs
 enum-known-d : tie.Need-enum-known-d
 enum-known-d c = search needs
 
-cast-write-refused : tie.Need-cast-write-refused
-cast-write-refused c = search needs
+cast-refuse : tie.Need-cast-refuse
+cast-refuse c = search needs
 
-write-refused-requires-3 : tie.Need-write-refused-requires-3
-write-refused-requires-3 c κs = search needs
+refuse-requires-3 : tie.Need-refuse-requires-3
+refuse-requires-3 c κs = search needs
 
 enum-told : tie.Need-enum-told
 enum-told c = search needs
@@ -67,8 +67,8 @@ returns-3 c =
     let b = d .before in
     let h = b .before in
     let a = h .before .before .before .before .before .args in (
-      lines-over (a .paper .now) (a .log .now) (h .before .if1 .left) (h .header-ok .result) (h .header-ok .ensures) (b .if2 .left) (d .dispatch-check .result) (d .dispatch-check .ensures) _ _ (e .d .given .1) (w .write-refused3 .ensures .0),
-      omega (arith, w .write-refused3 .ensures .1),
+      lines-over (a .paper .now) (a .log .now) (h .before .if1 .left) (h .header-ok .result) (h .header-ok .ensures) (b .if2 .left) (d .dispatch-check .result) (d .dispatch-check .ensures) _ _ (e .d .given .1) (w .refuse3 .ensures .0) (w .refuse3 .ensures .1 .1),
+      omega (arith, w .refuse3 .ensures .1 .0),
     )
 
 same-length-4 : tie.Need-same-length-4
@@ -93,17 +93,17 @@ pub write-lines-spec : {M : Type 1} → statement M
 write-lines-spec =
     tie.close
     (tie.spec
-    write-refused-requires
+    refuse-requires
     same-length
     returns
     header-ok-requires
-    write-refused-requires-2
+    refuse-requires-2
     same-length-2
     returns-2
     dispatch-check-requires
     enum-known-d
-    cast-write-refused
-    write-refused-requires-3
+    cast-refuse
+    refuse-requires-3
     enum-told
     write-fragments-requires
     same-length-3

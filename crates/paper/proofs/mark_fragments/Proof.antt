@@ -1,8 +1,10 @@
 use lib.ListN.{length}
 use Rattle.definition.specs.Papers.{fragments}
-use Rattle.paper.specs.View.{fragmentMarked, Marks}
-use Prim.Native.Nat.{_-_, _<_}
+use Rattle.paper.specs.View.{fragmentAnalysis}
+use Rattle.paper.specs.Parts.{Marks}
+use Prim.Native.Nat.{_*_, _-_, _<_}
 use mathlib.Core.Path.{_∙_}
+use Rattle.paper.proofs.Fragments.{fragment-marks}
 use Rattle.paper.proofs.Markings.{Marking, marking-none, marking-more, marking-stops, marking-end}
 use borrow.Author.Needs.{needs}
 use native.Mathlib.Omega.{arith}
@@ -20,16 +22,18 @@ Inv-loop paper log₀ count k₀ rows₀ peak₀ log k rows peak = Marking paper
 abbrev μ-loop : tie.MeasureT-loop
 μ-loop paper log₀ count k₀ rows₀ peak₀ log k rows peak = count - k
 
--- what `mark_fragment` promises of fragment k
-marked : (c : tie.After-mark-fragment Inv-loop μ-loop) → let l = c .before .before .before in
-    Marks (fragmentMarked (l .before .before .before .before .args .paper .now) (l .loop .k) (l .loop .rows) (l .loop .log)) (l .loop .rows) (l .loop .log) (c .mark-fragment .result) (c .mark-fragment .last .1 .1 .1 .0)
-marked c = record { same = c .mark-fragment .ensures .0; logged = c .mark-fragment .ensures .1 .0; room = c .mark-fragment .ensures .1 .1 }
-
 -- one more is left
 more : (c : tie.After-mark-fragment Inv-loop μ-loop) → let l = c .before .before .before in l .loop .k < length (fragments (l .before .before .before .before .args .paper .now))
 more c =
     let l = c .before .before .before in
     omega (arith, c .before .before .loop-test .taken, l .before .fragment-count .ensures)
+
+-- what `mark_fragment` promises of fragment k
+marked : (c : tie.After-mark-fragment Inv-loop μ-loop) → let l = c .before .before .before in
+    Marks (fragmentAnalysis (l .before .before .before .before .args .paper .now) (l .loop .k) (l .loop .rows) (l .loop .log)) (3 * l .loop .rows) (l .loop .log) (c .mark-fragment .result) (c .mark-fragment .last .1 .1 .1 .0)
+marked c =
+    let e = c .mark-fragment .ensures in
+    fragment-marks _ _ _ _ (more c) _ _ (record { same = e .0; logged = e .1 .0; room = e .1 .1 }) (c .before .before .before .loop .inv .room)
 
 fragment-count-requires : tie.Need-fragment-count-requires Inv-loop μ-loop
 fragment-count-requires c κs = search needs
@@ -41,7 +45,7 @@ mark-fragment-requires : tie.Need-mark-fragment-requires Inv-loop μ-loop
 mark-fragment-requires c κs = search needs
 
 add-rows : tie.Need-add-rows Inv-loop μ-loop
-add-rows c = search needs
+add-rows c = record { fits = omega (arith, marked (c .before .before .before) .room) }
 
 same-length : tie.Need-same-length Inv-loop μ-loop
 same-length c =

@@ -1,94 +1,106 @@
-use mathlib.Core.Path.{sym, _∙_}
-use Rattle.stack_analysis.proofs.Entries.{too-long, too-high, not-whole, short-log, rows-enough, all-walked, few}
+use mathlib.Core.Path.{refl, subst}
+use Rattle.stack_analysis.specs.Entry.{MayWalk, Starts}
+use Rattle.stack_analysis.proofs.Entries.{answers-early, answers-live, answers-dead}
 use borrow.Author.Needs.{needs}
-use native.Mathlib.Omega.{arith}
 use Rattle.stack_analysis.proofs.analyze.Statement.{statement}
 use Rattle.stack_analysis.proofs.analyze.Tie as tie
 use Rattle.stack_analysis.proofs.analyze.Reads as reads
 use Rattle.stack_analysis.proofs.analyze.Lts as lts
-use Rattle.decode.proofs.count_instructions.Reads as count-instructions-reads
-use Rattle.stack_analysis.proofs.refusal.Reads as refusal-reads
+use Rattle.ends.proofs.EndStacks.none.Reads as none-reads
+use Rattle.stack.proofs.Stacks.ends.Reads as ends-reads
+use Rattle.stack_analysis.proofs.conclude.Reads as conclude-reads
+use Rattle.stack_analysis.proofs.early.Reads as early-reads
 use Rattle.stack_analysis.proofs.walk_all.Reads as walk-all-reads
+use Rattle.stack_analysis.proofs.with_end.Reads as with-end-reads
 
-add-sum : tie.Need-add-sum
-add-sum c = search needs
+early-requires : tie.Need-early-requires
+early-requires c κs = search needs
 
-refusal-requires : tie.Need-refusal-requires
-refusal-requires c κs = search needs
+enum-known-start : tie.Need-enum-known-start
+enum-known-start c = search needs
 
-returns : tie.Need-returns
-returns c =
-    let a = too-long (c .before .before .before .before .args .fragment .now) (c .before .before .before .before .args .main) (c .before .before .before .before .args .alt) (c .before .before .before .before .args .log .now) (omega arith) _ (c .refusal .ensures) in
-    (a .same, (a .logged, a .replayed))
+none-requires : tie.Need-none-requires
+none-requires c κs = search needs
 
-refusal-requires-2 : tie.Need-refusal-requires-2
-refusal-requires-2 c κs = search needs
+with-end-requires : tie.Need-with-end-requires
+with-end-requires c κs = search needs
 
-returns-2 : tie.Need-returns-2
-returns-2 c =
-    let a = too-high (c .before .before .before .before .before .args .fragment .now) (c .before .before .before .before .before .args .main) (c .before .before .before .before .before .args .alt) (c .before .before .before .before .before .args .log .now) (omega arith) (omega arith) _ (c .refusal2 .ensures) in
-    (a .same, (a .logged, a .replayed))
+enum-told : tie.Need-enum-told
+enum-told c = search needs
 
-count-instructions-requires : tie.Need-count-instructions-requires
-count-instructions-requires c κs = search needs
-
-enum-known-counted : tie.Need-enum-known-counted
-enum-known-counted c = search needs
-
-refusal-requires-3 : tie.Need-refusal-requires-3
-refusal-requires-3 c κs = search needs
-
-enum-known-counted-2 : tie.Need-enum-known-counted-2
-enum-known-counted-2 c = search needs
-
-mul-if3 : tie.Need-mul-if3
-mul-if3 c = omega (arith, few (c .before .before .before .before .before .before .before .before .args .fragment .now) _ (sym (c .before .counted2 .given .1) ∙ c .before .before .before .count-instructions .ensures) (omega arith))
-
-mul-refusal : tie.Need-mul-refusal
-mul-refusal c = omega (arith, few (c .before .before .before .before .before .before .before .before .before .args .fragment .now) _ (sym (c .before .before .counted2 .given .1) ∙ c .before .before .before .before .count-instructions .ensures) (omega arith))
-
-refusal-requires-4 : tie.Need-refusal-requires-4
-refusal-requires-4 c κs = search needs
-
-returns-3 : tie.Need-returns-3
-returns-3 c =
-    let a = short-log (c .before .before .before .before .before .before .before .before .before .before .args .fragment .now) (c .before .before .before .before .before .before .before .before .before .before .args .main) (c .before .before .before .before .before .before .before .before .before .before .args .alt) (c .before .before .before .before .before .before .before .before .before .before .args .log .now) (omega arith) (omega arith) _ (sym (c .before .before .before .counted2 .given .1) ∙ c .before .before .before .before .before .count-instructions .ensures) (omega arith) _ (c .refusal4 .ensures) in
-    (a .same, (a .logged, a .replayed))
+-- nothing is against the walk
+may : (c : tie.After-enum-told) → let a = c .before .before .before .before .before .args in MayWalk (a .fragment .now) (a .main) (a .alt) (a .log .now)
+may c =
+    let e = c .before .before in
+    let a = e .before .before .before .args in
+    subst (Starts (a .fragment .now) (a .main) (a .alt) (a .log .now)) (c .enum-told .given .1) (e .early .ensures (a .log .now) refl)
 
 walk-all-requires : tie.Need-walk-all-requires
-walk-all-requires c κs = ((omega arith, omega arith), rows-enough (c .before .before .before .before .before .before .before .before .before .before .args .fragment .now) (c .before .before .before .before .before .before .before .before .before .before .args .main) (c .before .before .before .before .before .before .before .before .before .before .args .alt) (c .before .before .before .before .before .before .before .before .before .before .args .log .now) (omega arith) (omega arith) _ (sym (c .before .before .before .counted2 .given .1) ∙ c .before .before .before .before .before .count-instructions .ensures) (omega arith))
+walk-all-requires c κs = let m = may (c .before) in ((m .short, m .low), m .room)
 
-returns-4 : tie.Need-returns-4
-returns-4 c =
-    let a = not-whole (c .before .before .before .before .before .before .before .before .before .args .fragment .now) (c .before .before .before .before .before .before .before .before .before .args .main) (c .before .before .before .before .before .before .before .before .before .args .alt) (c .before .before .before .before .before .before .before .before .before .args .log .now) (omega arith) (omega arith) _ (sym (c .before .before .counted .given .1) ∙ c .before .before .before .before .count-instructions .ensures) _ (c .refusal3 .ensures) in
-    (a .same, (a .logged, a .replayed))
+conclude-requires : tie.Need-conclude-requires
+conclude-requires c κs = search needs
+
+ends-requires : tie.Need-ends-requires
+ends-requires c κs = search needs
+
+with-end-requires-2 : tie.Need-with-end-requires-2
+with-end-requires-2 c κs = search needs
 
 same-length : tie.Need-same-length
 same-length c = search needs
 
-returns-5 : tie.Need-returns-5
-returns-5 c =
-    let a = all-walked (c .before .before .before .before .before .before .before .before .before .before .before .before .before .args .fragment .now) (c .before .before .before .before .before .before .before .before .before .before .before .before .before .args .main) (c .before .before .before .before .before .before .before .before .before .before .before .before .before .args .alt) (c .before .before .before .before .before .before .before .before .before .before .before .before .before .args .log .now) (omega arith) (omega arith) _ (sym (c .before .before .before .before .before .before .counted2 .given .1) ∙ c .before .before .before .before .before .before .before .before .count-instructions .ensures) (omega arith) _ _ (c .before .before .walk-all .ensures) in
-    (a .same, (a .logged, a .replayed))
+returns : tie.Need-returns
+returns c =
+    let e = c .before in
+    let v = e .before .before .before in
+    let w = v .before .before .before in
+    let m = answers-live _ _ _ _ (may (w .before .before)) (w .walk-all .result) _ (w .walk-all .ensures) (v .conclude .result) (v .conclude .ensures) (e .before .before .if1 .taken) (e .ends .result) (e .ends .ensures) _ (c .with-end2 .ensures) in
+    (m .same, (m .shows, (m .within, (m .logged, m .replayed))))
+
+none-requires-2 : tie.Need-none-requires-2
+none-requires-2 c κs = search needs
+
+with-end-requires-3 : tie.Need-with-end-requires-3
+with-end-requires-3 c κs = search needs
+
+returns-2 : tie.Need-returns-2
+returns-2 c =
+    let n = c .before in
+    let e = n .before .before .before .before in
+    let a = e .before .before .before .args in
+    let r = subst (Starts (a .fragment .now) (a .main) (a .alt) (a .log .now)) (n .before .before .start .given .1) (e .early .ensures (a .log .now) refl) in
+    let m = answers-early (a .fragment .now) (a .main) (a .alt) (a .log .now) _ r (n .none .result) (n .none .ensures) _ (c .with-end .ensures) in
+    (m .same, (m .shows, (m .within, (m .logged, m .replayed))))
+
+same-length-2 : tie.Need-same-length-2
+same-length-2 c = search needs
+
+returns-3 : tie.Need-returns-3
+returns-3 c =
+    let n = c .before in
+    let v = n .before .before in
+    let w = v .before .before .before in
+    let m = answers-dead _ _ _ _ (may (w .before .before)) (w .walk-all .result) _ (w .walk-all .ensures) (v .conclude .result) (v .conclude .ensures) (n .before .if1 .left) (n .none2 .result) (n .none2 .ensures) _ (c .with-end3 .ensures) in
+    (m .same, (m .shows, (m .within, (m .logged, m .replayed))))
 
 pub analyze-spec : {M : Type 1} → statement M
 analyze-spec =
     tie.close
     (tie.spec
-    add-sum
-    refusal-requires
-    returns
-    refusal-requires-2
-    returns-2
-    count-instructions-requires
-    enum-known-counted
-    refusal-requires-3
-    enum-known-counted-2
-    mul-if3
-    mul-refusal
-    refusal-requires-4
-    returns-3
+    early-requires
+    enum-known-start
+    none-requires
+    with-end-requires
+    enum-told
     walk-all-requires
-    returns-4
+    conclude-requires
+    ends-requires
+    with-end-requires-2
     same-length
-    returns-5)
+    returns
+    none-requires-2
+    with-end-requires-3
+    returns-2
+    same-length-2
+    returns-3)

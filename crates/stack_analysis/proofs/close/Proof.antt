@@ -10,12 +10,21 @@ use Rattle.stack_analysis.proofs.close.Lts as lts
 use Rattle.stack.proofs.Stacks.join.Reads as join-reads
 use Rattle.stack_analysis.proofs.stop_of.Reads as stop-of-reads
 
+turned-requires : tie.Need-turned-requires
+turned-requires c κs = search needs
+
 returns : tie.Need-returns
-returns c = λ s. closes-other-dead builtIn s _ (c .before .before .args .other) (c .before .before .args .alive) (not-live _ (c .if1 .taken)) (c .before .before .pre .0)
+returns c =
+    let b = c .before in
+    λ s. rw (c .turned .ensures) (closes-other-dead builtIn s _ (b .before .before .args .other) (b .before .before .args .alive) (not-live _ (b .if1 .taken)) (b .before .before .pre .0))
+
+turned-requires-2 : tie.Need-turned-requires-2
+turned-requires-2 c κs = search needs
 
 returns-2 : tie.Need-returns-2
 returns-2 c =
-    λ s. closes-dead builtIn s _ _ (c .before .before .before .args .alive) (is-live _ (c .before .if1 .left)) (not-live _ (c .if2 .taken)) (c .before .before .before .pre .1)
+    let b = c .before in
+    λ s. rw (c .turned2 .ensures) (closes-dead builtIn s _ _ (b .before .before .before .args .alive) (is-live _ (b .before .if1 .left)) (not-live _ (b .if2 .taken)) (b .before .before .before .pre .1))
 
 join-requires : tie.Need-join-requires
 join-requires c κs = search needs
@@ -23,10 +32,14 @@ join-requires c κs = search needs
 stop-of-requires : tie.Need-stop-of-requires
 stop-of-requires c κs = search needs
 
+turned-requires-3 : tie.Need-turned-requires-3
+turned-requires-3 c κs = search needs
+
 returns-3 : tie.Need-returns-3
 returns-3 c =
-    let e = c .before .before .before in
-    λ s. closes-both builtIn s _ _ (e .before .before .before .args .alive) (is-live _ (e .before .if1 .left)) (is-live _ (e .if2 .left)) (c .before .before .join .result) (c .before .before .join .ensures) _ (c .stop-of .ensures)
+    let b = c .before in
+    let e = b .before .before .before in
+    λ s. rw (c .turned3 .ensures) (closes-both builtIn s _ _ (e .before .before .before .args .alive) (is-live _ (e .before .if1 .left)) (is-live _ (e .if2 .left)) (b .before .before .join .result) (b .before .before .join .ensures) _ (b .stop-of .ensures))
 
 pub close-spec : {M : Type 1} → statement M
-close-spec = tie.close (tie.spec returns returns-2 join-requires stop-of-requires returns-3)
+close-spec = tie.close (tie.spec turned-requires returns turned-requires-2 returns-2 join-requires stop-of-requires turned-requires-3 returns-3)

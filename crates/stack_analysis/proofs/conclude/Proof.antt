@@ -35,14 +35,14 @@ refused-walk-requires-3 c κs = search needs
 enum-told-4 : tie.Need-enum-told-4
 enum-told-4 c = search needs
 
-accepted-requires-2 : tie.Need-accepted-requires-2
-accepted-requires-2 c κs = search needs
+refused-walk-requires-4 : tie.Need-refused-walk-requires-4
+refused-walk-requires-4 c κs = search needs
 
 enum-told-5 : tie.Need-enum-told-5
 enum-told-5 c = search needs
 
-accepted-requires-3 : tie.Need-accepted-requires-3
-accepted-requires-3 c κs = search needs
+refused-walk-requires-5 : tie.Need-refused-walk-requires-5
+refused-walk-requires-5 c κs = search needs
 
 returns : tie.Need-returns
 returns c = search (concludes-end, needs)
@@ -75,9 +75,9 @@ conclude-spec =
     enum-known-stop
     refused-walk-requires-3
     enum-told-4
-    accepted-requires-2
+    refused-walk-requires-4
     enum-told-5
-    accepted-requires-3
+    refused-walk-requires-5
     returns
     returns-2
     returns-3

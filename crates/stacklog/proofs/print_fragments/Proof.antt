@@ -1,6 +1,6 @@
 use lib.ListN.{length}
-use mathlib.Core.Path.{_≡_}
-use Prim.Native.Nat.{_*_, _-_, _≤_}
+use mathlib.Core.Path.{_≡_, _∙_}
+use Prim.Native.Nat.{_+_, _*_, _-_, _≤_}
 use borrow.Author.Needs.{needs}
 use native.Mathlib.Omega.{arith}
 use Rattle.stacklog.proofs.print_fragments.Statement.{statement}
@@ -23,6 +23,11 @@ Inv-loop paper log₀ count k₀ rows₀ t9 t10 log k rows = (3 * rows ≤ lengt
 abbrev μ-loop : tie.MeasureT-loop
 μ-loop paper log₀ count k₀ rows₀ t9 t10 log k rows = count - k
 
+-- the rows of fragment k have room
+room : (c : tie.After-mark-fragment Inv-loop μ-loop) → let l = c .before .before .before in
+    3 * (l .loop .rows + c .mark-fragment .result .rows) ≤ length (c .mark-fragment .last .1 .1 .1 .0)
+room c = let l = c .before .before .before in omega (arith, c .mark-fragment .ensures .1 .1 (l .loop .inv .0), c .mark-fragment .kept .1 .1 .1 .0)
+
 fragment-count-requires : tie.Need-fragment-count-requires Inv-loop μ-loop
 fragment-count-requires c κs = search needs
 
@@ -36,7 +41,7 @@ fragment-bytes-requires : tie.Need-fragment-bytes-requires Inv-loop μ-loop
 fragment-bytes-requires c κs = search needs
 
 add-next : tie.Need-add-next Inv-loop μ-loop
-add-next c = search needs
+add-next c = let b = c .before .before .before .before in record { fits = omega (arith, room b, b .mark-fragment .kept .1 .1 .1 .0) }
 
 print-start-requires : tie.Need-print-start-requires Inv-loop μ-loop
 print-start-requires c κs = search needs
@@ -45,7 +50,7 @@ print-heading-requires : tie.Need-print-heading-requires Inv-loop μ-loop
 print-heading-requires c κs = search needs
 
 print-rows-requires : tie.Need-print-rows-requires Inv-loop μ-loop
-print-rows-requires c κs = search needs
+print-rows-requires c κs = room (c .before .before .before .before .before .before .before)
 
 print-verdict-requires : tie.Need-print-verdict-requires Inv-loop μ-loop
 print-verdict-requires c κs = search needs
@@ -72,7 +77,7 @@ loop-less : tie.Need-loop-less Inv-loop μ-loop
 loop-less c = search needs
 
 loop-again : tie.Need-loop-again Inv-loop μ-loop
-loop-again c = search needs
+loop-again c = let b = c .before .before .before .before .before .before .before .before .before .before .before .before .before in (room b, b .mark-fragment .kept .1 .1 .1 .0 ∙ b .before .before .before .loop .inv .1)
 
 slice-aggregate-write-all-2 : tie.Need-slice-aggregate-write-all-2 Inv-loop μ-loop
 slice-aggregate-write-all-2 c = search needs

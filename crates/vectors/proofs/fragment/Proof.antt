@@ -42,14 +42,14 @@ same-length c = search needs
 returns-3 : tie.Need-returns-3
 returns-3 c = search needs
 
-slice-reshare-prefix-analyze : tie.Need-slice-reshare-prefix-analyze
-slice-reshare-prefix-analyze c = search (count-is)
+slice-reshare-prefix-analyze-heights : tie.Need-slice-reshare-prefix-analyze-heights
+slice-reshare-prefix-analyze-heights c = search (count-is)
 
-slice-aggregate-analyze : tie.Need-slice-aggregate-analyze
-slice-aggregate-analyze c = search (count-lent)
+slice-aggregate-analyze-heights : tie.Need-slice-aggregate-analyze-heights
+slice-aggregate-analyze-heights c = search (count-lent)
 
-analyze-requires : tie.Need-analyze-requires
-analyze-requires c κs = search needs
+analyze-heights-requires : tie.Need-analyze-heights-requires
+analyze-heights-requires c κs = search needs
 
 put-fragment-requires : tie.Need-put-fragment-requires
 put-fragment-requires c κs = c .before .before .before .before .before .before .before .before .before .before .before .before .before .before .before .before .before .before .before .before .before .before .before .before .before .pre
@@ -83,9 +83,9 @@ fragment-spec =
     enum-told-3
     same-length
     returns-3
-    slice-reshare-prefix-analyze
-    slice-aggregate-analyze
-    analyze-requires
+    slice-reshare-prefix-analyze-heights
+    slice-aggregate-analyze-heights
+    analyze-heights-requires
     put-fragment-requires
     same-length-2
     same-length-3

@@ -9,7 +9,7 @@ use Rattle.decode.proofs.Codes.{code-instruction, code-ends, code-malformed}
 use Rattle.stack.proofs.Values.{unknown-suffices, held-exact, code-wants, push-is-unknown, push-is-code, push-is-exact}
 use Rattle.walk.specs.declared.Stop.the-variants.{Running}
 use Rattle.walk.proofs.Rows.{row-written, high-of, not-live, is-live}
-use Rattle.walk.proofs.Loop.{walkOf, Walking, walking-none, runs-from, Met, was-refused, none-left, row-room, no-instruction, ready-running, nearer, class-left, met-copies, met-else, met-endif, met-from-alt, met-if, met-nip, met-nothing, met-notif, met-push, met-return, met-roll, met-rotates, met-skipped, met-steps, met-to-alt, met-tuck, met-unmodelled}
+use Rattle.walk.proofs.Loop.{walkOf, Walking, walking-none, runs-from, Met, was-refused, none-left, row-room, no-instruction, ready-running, nearer, class-left, met-copies, met-else, met-endif, met-from-alt, met-if, met-nip, met-nothing, met-notif, met-push, met-return, met-roll, met-rotates, met-skipped, met-steps, met-plain, met-to-alt, met-tuck, met-unmodelled}
 use Rattle.walk.proofs.plain.Statement.{statement}
 use Rattle.walk.proofs.plain.Tie as tie
 use Rattle.walk.proofs.plain.Reads as reads
@@ -35,6 +35,7 @@ use Rattle.slots.proofs.suffices.Reads as suffices-reads
 use Rattle.walk.proofs.higher.Reads as higher-reads
 use Rattle.walk.proofs.log_row.Reads as log-row-reads
 use Rattle.walk.proofs.logged.Reads as logged-reads
+use Rattle.walk.proofs.stopped.Reads as stopped-reads
 
 abbrev Inv-loop : tie.InvT-loop
 Inv-loop code log₀ t₀ live₀ at₀ last₀ rows₀ peak₀ log t live at last rows peak =
@@ -48,7 +49,7 @@ abbrev handled : List (List ℕ)
 handled = (31 ∷ []) ∷ (30 ∷ []) ∷ (29 ∷ []) ∷ (28 ∷ []) ∷ (27 ∷ []) ∷ (26 ∷ []) ∷ (25 ∷ []) ∷ (24 ∷ []) ∷ (23 ∷ []) ∷ (22 ∷ []) ∷ (21 ∷ []) ∷ (20 ∷ []) ∷ (19 ∷ []) ∷ (18 ∷ []) ∷ (17 ∷ []) ∷ (16 ∷ []) ∷ (15 ∷ []) ∷ (14 ∷ []) ∷ (13 ∷ []) ∷ (12 ∷ []) ∷ (11 ∷ []) ∷ (10 ∷ []) ∷ (9 ∷ []) ∷ (8 ∷ []) ∷ (1 ∷ []) ∷ (2 ∷ []) ∷ []
 
 -- what is known once an instruction is met, its row is written and its class number is read
-met : (c : lts.After-class-of (higher-reads.Asked, higher-reads.Learnt, decode-at-reads.Asked, decode-at-reads.Learnt, logged-reads.Asked, logged-reads.Learnt, log-row-reads.Asked, log-row-reads.Learnt, class-of-reads.Asked, class-of-reads.Learnt, push-code-reads.Asked, push-code-reads.Learnt, code-of-reads.Asked, code-of-reads.Learnt, suffices-reads.Asked, suffices-reads.Learnt, push-exact-reads.Asked, push-exact-reads.Learnt, move-to-alt-reads.Asked, move-to-alt-reads.Learnt, move-from-alt-reads.Asked, move-from-alt-reads.Learnt, depth-reads.Asked, depth-reads.Learnt, size-reads.Asked, size-reads.Learnt, nip-reads.Asked, nip-reads.Learnt, tuck-reads.Asked, tuck-reads.Learnt, pick-reads.Asked, pick-reads.Learnt, roll-reads.Asked, roll-reads.Learnt, zk-reads.Asked, zk-reads.Learnt, extend-from-within-reads.Asked, extend-from-within-reads.Learnt, rotate-left-reads.Asked, rotate-left-reads.Learnt, apply-effect-reads.Asked, apply-effect-reads.Learnt) reads.Pre reads.Post Inv-loop μ-loop)
+met : (c : lts.After-class-of (stopped-reads.Asked, stopped-reads.Learnt, higher-reads.Asked, higher-reads.Learnt, decode-at-reads.Asked, decode-at-reads.Learnt, logged-reads.Asked, logged-reads.Learnt, log-row-reads.Asked, log-row-reads.Learnt, class-of-reads.Asked, class-of-reads.Learnt, push-code-reads.Asked, push-code-reads.Learnt, code-of-reads.Asked, code-of-reads.Learnt, suffices-reads.Asked, suffices-reads.Learnt, push-exact-reads.Asked, push-exact-reads.Learnt, move-to-alt-reads.Asked, move-to-alt-reads.Learnt, move-from-alt-reads.Asked, move-from-alt-reads.Learnt, depth-reads.Asked, depth-reads.Learnt, size-reads.Asked, size-reads.Learnt, nip-reads.Asked, nip-reads.Learnt, tuck-reads.Asked, tuck-reads.Learnt, pick-reads.Asked, pick-reads.Learnt, roll-reads.Asked, roll-reads.Learnt, zk-reads.Asked, zk-reads.Learnt, extend-from-within-reads.Asked, extend-from-within-reads.Learnt, rotate-left-reads.Asked, rotate-left-reads.Learnt, apply-effect-reads.Asked, apply-effect-reads.Learnt) reads.Pre reads.Post Inv-loop μ-loop)
     → Met (c .before .before .before .before .before .before .before .before .before .before .before .before .before .before .before .before .before .before .args .code .now) (c .before .before .before .before .before .before .before .before .before .before .before .before .before .before .before .before .before .before .args .log .now) (record { stacks = c .before .before .before .before .before .before .before .before .before .before .before .before .before .before .before .before .before .before .args .start .stacks; live = c .before .before .before .before .before .before .before .before .before .before .before .before .before .before .before .before .before .before .args .start .live; at = c .before .before .before .before .before .before .before .before .before .before .before .before .before .before .before .before .before .before .args .start .at; last = c .before .before .before .before .before .before .before .before .before .before .before .before .before .before .before .before .before .before .args .start .last; rows = c .before .before .before .before .before .before .before .before .before .before .before .before .before .before .before .before .before .before .args .start .rows; peak = c .before .before .before .before .before .before .before .before .before .before .before .before .before .before .before .before .before .before .args .start .peak; stop = Running }) (c .before .before .before .before .before .before .before .before .before .before .before .before .before .before .loop .log) (walkOf (c .before .before .before .before .before .before .before .before .before .before .before .before .before .before .loop .t) (c .before .before .before .before .before .before .before .before .before .before .before .before .before .before .loop .live) (c .before .before .before .before .before .before .before .before .before .before .before .before .before .before .loop .at) (c .before .before .before .before .before .before .before .before .before .before .before .before .before .before .loop .last) (c .before .before .before .before .before .before .before .before .before .before .before .before .before .before .loop .rows) (c .before .before .before .before .before .before .before .before .before .before .before .before .before .before .loop .peak)) (c .before .before .before .log-row .last .0) (c .before .before .before .before .before .before .before .before .d .given .0 .0) (c .before .before .before .before .before .before .before .before .before .before .before .higher .result) (c .class-of .result)
 met c =
     let l = c .before .before .before in
@@ -60,7 +61,7 @@ met c =
     record {
       walking = q .inv;
       run = rw (e .enum-told .given .1);
-      stands = code-instruction _ _ (q .inv .bytes) _ (sym (a .decode-at .ensures) ∙ d .d .given .1);
+      stands = code-instruction _ _ (q .inv .bytes) _ (sym (a .decode-at .ensures .1) ∙ d .d .given .1);
       len = l .log-row .kept .0;
       row = row-written (q .rows) (q .at) (l .before .before .logged .result) (l .before .logged2 .result) (q .live) (q .t .stacks) (q .log) (l .log-row .last .0) (l .log-row .ensures) (l .before .before .logged .ensures) (l .before .logged2 .ensures);
       high = high-of (q .peak) (h .higher .result) (q .live) (q .t .stacks) (h .higher .ensures);
@@ -76,8 +77,11 @@ enum-known-answer c = search needs
 same-length : tie.Need-same-length Inv-loop μ-loop
 same-length c = search needs
 
+stopped-requires : tie.Need-stopped-requires Inv-loop μ-loop
+stopped-requires c κs = search needs
+
 returns : tie.Need-returns Inv-loop μ-loop
-returns c = runs-from (c .before .before .before .before .before .before .before .before .args .start) (c .before .before .before .before .before .before .before .before .pre .1) (was-refused _ _ _ _ _ _ _ (c .before .before .before .before .loop .inv) (c .before .before .answer .given .1))
+returns c = rw (c .stopped .ensures) (runs-from (c .before .before .before .before .before .before .before .before .before .args .start) (c .before .before .before .before .before .before .before .before .before .pre .1) (was-refused _ _ _ _ _ _ _ (c .before .before .before .before .before .loop .inv) (c .before .before .before .answer .given .1)))
 
 enum-told : tie.Need-enum-told Inv-loop μ-loop
 enum-told c = search needs
@@ -97,8 +101,11 @@ enum-known-d c = search needs
 same-length-2 : tie.Need-same-length-2 Inv-loop μ-loop
 same-length-2 c = search needs
 
+stopped-requires-2 : tie.Need-stopped-requires-2 Inv-loop μ-loop
+stopped-requires-2 c κs = search needs
+
 returns-2 : tie.Need-returns-2 Inv-loop μ-loop
-returns-2 c = runs-from (c .before .before .before .before .before .before .before .before .before .before .args .start) (c .before .before .before .before .before .before .before .before .before .before .pre .1) (none-left (c .before .before .before .before .before .before .loop .inv) (rw (c .before .before .before .before .enum-told .given .1)) (high-of (c .before .before .before .before .before .before .loop .peak) (c .before .before .before .higher .result) (c .before .before .before .before .before .before .loop .live) (c .before .before .before .before .before .before .loop .t .stacks) (c .before .before .before .higher .ensures)) (no-instruction _ _ (c .before .before .decode-at .result) (c .before .before .decode-at .ensures) (c .before .match2 .keys2)))
+returns-2 c = rw (c .stopped2 .ensures) (runs-from (c .before .before .before .before .before .before .before .before .before .before .before .args .start) (c .before .before .before .before .before .before .before .before .before .before .before .pre .1) (none-left (c .before .before .before .before .before .before .before .loop .inv) (rw (c .before .before .before .before .before .enum-told .given .1)) (high-of (c .before .before .before .before .before .before .before .loop .peak) (c .before .before .before .before .higher .result) (c .before .before .before .before .before .before .before .loop .live) (c .before .before .before .before .before .before .before .loop .t .stacks) (c .before .before .before .before .higher .ensures)) (no-instruction _ _ (c .before .before .before .decode-at .result) (c .before .before .before .decode-at .ensures .1) (c .before .before .match2 .keys2))))
 
 cast-log-row : tie.Need-cast-log-row Inv-loop μ-loop
 cast-log-row c = search needs
@@ -110,7 +117,7 @@ logged-requires-2 : tie.Need-logged-requires-2 Inv-loop μ-loop
 logged-requires-2 c κs = search needs
 
 log-row-requires : tie.Need-log-row-requires Inv-loop μ-loop
-log-row-requires c κs = omega (arith, row-room (c .before .before .before .before .before .before .before .before .before .before .loop .inv) (code-instruction _ _ (c .before .before .before .before .before .before .before .before .before .before .loop .inv .bytes) _ (sym (c .before .before .before .before .before .before .decode-at .ensures) ∙ c .before .before .before .before .d .given .1)))
+log-row-requires c κs = omega (arith, row-room (c .before .before .before .before .before .before .before .before .before .before .loop .inv) (code-instruction _ _ (c .before .before .before .before .before .before .before .before .before .before .loop .inv .bytes) _ (sym (c .before .before .before .before .before .before .decode-at .ensures .1) ∙ c .before .before .before .before .d .given .1)))
 
 add-rows : tie.Need-add-rows Inv-loop μ-loop
 add-rows c = search needs
@@ -119,28 +126,40 @@ class-of-requires : tie.Need-class-of-requires Inv-loop μ-loop
 class-of-requires c κs = search needs
 
 same-length-3 : tie.Need-same-length-3 Inv-loop μ-loop
-same-length-3 c = search needs
+same-length-3 c = let m = met (c .before .before .before) in m .len ∙ m .walking .len
+
+stopped-requires-3 : tie.Need-stopped-requires-3 Inv-loop μ-loop
+stopped-requires-3 c κs = search needs
 
 returns-3 : tie.Need-returns-3 Inv-loop μ-loop
-returns-3 c = runs-from (c .before .before .before .before .before .before .before .before .before .before .before .before .before .before .before .before .before .before .before .before .args .start) (c .before .before .before .before .before .before .before .before .before .before .before .before .before .before .before .before .before .before .before .before .pre .1) (met-if (met (c .before .before)) (c .before .match3 .keys1))
+returns-3 c = rw (c .stopped3 .ensures) (runs-from (c .before .before .before .before .before .before .before .before .before .before .before .before .before .before .before .before .before .before .before .before .before .args .start) (c .before .before .before .before .before .before .before .before .before .before .before .before .before .before .before .before .before .before .before .before .before .pre .1) (met-if (met (c .before .before .before)) (c .before .before .match3 .keys1)))
 
 same-length-4 : tie.Need-same-length-4 Inv-loop μ-loop
-same-length-4 c = search needs
+same-length-4 c = let m = met (c .before .before .before) in m .len ∙ m .walking .len
+
+stopped-requires-4 : tie.Need-stopped-requires-4 Inv-loop μ-loop
+stopped-requires-4 c κs = search needs
 
 returns-4 : tie.Need-returns-4 Inv-loop μ-loop
-returns-4 c = runs-from (c .before .before .before .before .before .before .before .before .before .before .before .before .before .before .before .before .before .before .before .before .args .start) (c .before .before .before .before .before .before .before .before .before .before .before .before .before .before .before .before .before .before .before .before .pre .1) (met-notif (met (c .before .before)) (c .before .match3 .keys2))
+returns-4 c = rw (c .stopped4 .ensures) (runs-from (c .before .before .before .before .before .before .before .before .before .before .before .before .before .before .before .before .before .before .before .before .before .args .start) (c .before .before .before .before .before .before .before .before .before .before .before .before .before .before .before .before .before .before .before .before .before .pre .1) (met-notif (met (c .before .before .before)) (c .before .before .match3 .keys2)))
 
 same-length-5 : tie.Need-same-length-5 Inv-loop μ-loop
-same-length-5 c = search needs
+same-length-5 c = let m = met (c .before .before .before) in m .len ∙ m .walking .len
+
+stopped-requires-5 : tie.Need-stopped-requires-5 Inv-loop μ-loop
+stopped-requires-5 c κs = search needs
 
 returns-5 : tie.Need-returns-5 Inv-loop μ-loop
-returns-5 c = runs-from (c .before .before .before .before .before .before .before .before .before .before .before .before .before .before .before .before .before .before .before .before .args .start) (c .before .before .before .before .before .before .before .before .before .before .before .before .before .before .before .before .before .before .before .before .pre .1) (met-else (met (c .before .before)) (c .before .match3 .keys3))
+returns-5 c = rw (c .stopped5 .ensures) (runs-from (c .before .before .before .before .before .before .before .before .before .before .before .before .before .before .before .before .before .before .before .before .before .args .start) (c .before .before .before .before .before .before .before .before .before .before .before .before .before .before .before .before .before .before .before .before .before .pre .1) (met-else (met (c .before .before .before)) (c .before .before .match3 .keys3)))
 
 same-length-6 : tie.Need-same-length-6 Inv-loop μ-loop
-same-length-6 c = search needs
+same-length-6 c = let m = met (c .before .before .before) in m .len ∙ m .walking .len
+
+stopped-requires-6 : tie.Need-stopped-requires-6 Inv-loop μ-loop
+stopped-requires-6 c κs = search needs
 
 returns-6 : tie.Need-returns-6 Inv-loop μ-loop
-returns-6 c = runs-from (c .before .before .before .before .before .before .before .before .before .before .before .before .before .before .before .before .before .before .before .before .args .start) (c .before .before .before .before .before .before .before .before .before .before .before .before .before .before .before .before .before .before .before .before .pre .1) (met-endif (met (c .before .before)) (c .before .match3 .keys4))
+returns-6 c = rw (c .stopped6 .ensures) (runs-from (c .before .before .before .before .before .before .before .before .before .before .before .before .before .before .before .before .before .before .before .before .before .args .start) (c .before .before .before .before .before .before .before .before .before .before .before .before .before .before .before .before .before .before .before .before .before .pre .1) (met-endif (met (c .before .before .before)) (c .before .before .match3 .keys4)))
 
 loop-less : tie.Need-loop-less Inv-loop μ-loop
 loop-less c = nearer (met (c .before))
@@ -368,7 +387,7 @@ loop-less-25 : tie.Need-loop-less-25 Inv-loop μ-loop
 loop-less-25 c = nearer (met (c .before .before .before .before .before))
 
 loop-again-25 : tie.Need-loop-again-25 Inv-loop μ-loop
-loop-again-25 c = met-steps (met (c .before .before .before .before .before)) (is-live _ (c .before .before .before .if1 .left)) (c .apply-effect .result) 26 _ (c .before .before .match4 .keys21) refl (c .apply-effect .ensures)
+loop-again-25 c = met-plain (met (c .before .before .before .before .before)) 26 1 0 (c .before .before .match4 .keys21) refl (is-live _ (c .before .before .before .if1 .left)) (c .apply-effect .result) (c .apply-effect .ensures)
 
 apply-effect-requires-2 : tie.Need-apply-effect-requires-2 Inv-loop μ-loop
 apply-effect-requires-2 c κs = search needs
@@ -377,7 +396,7 @@ loop-less-26 : tie.Need-loop-less-26 Inv-loop μ-loop
 loop-less-26 c = nearer (met (c .before .before .before .before .before))
 
 loop-again-26 : tie.Need-loop-again-26 Inv-loop μ-loop
-loop-again-26 c = met-steps (met (c .before .before .before .before .before)) (is-live _ (c .before .before .before .if1 .left)) (c .apply-effect2 .result) 27 _ (c .before .before .match4 .keys22) refl (c .apply-effect2 .ensures)
+loop-again-26 c = met-plain (met (c .before .before .before .before .before)) 27 2 0 (c .before .before .match4 .keys22) refl (is-live _ (c .before .before .before .if1 .left)) (c .apply-effect2 .result) (c .apply-effect2 .ensures)
 
 apply-effect-requires-3 : tie.Need-apply-effect-requires-3 Inv-loop μ-loop
 apply-effect-requires-3 c κs = search needs
@@ -386,7 +405,7 @@ loop-less-27 : tie.Need-loop-less-27 Inv-loop μ-loop
 loop-less-27 c = nearer (met (c .before .before .before .before .before))
 
 loop-again-27 : tie.Need-loop-again-27 Inv-loop μ-loop
-loop-again-27 c = met-steps (met (c .before .before .before .before .before)) (is-live _ (c .before .before .before .if1 .left)) (c .apply-effect3 .result) 28 _ (c .before .before .match4 .keys23) refl (c .apply-effect3 .ensures)
+loop-again-27 c = met-plain (met (c .before .before .before .before .before)) 28 0 1 (c .before .before .match4 .keys23) refl (is-live _ (c .before .before .before .if1 .left)) (c .apply-effect3 .result) (c .apply-effect3 .ensures)
 
 apply-effect-requires-4 : tie.Need-apply-effect-requires-4 Inv-loop μ-loop
 apply-effect-requires-4 c κs = search needs
@@ -395,7 +414,7 @@ loop-less-28 : tie.Need-loop-less-28 Inv-loop μ-loop
 loop-less-28 c = nearer (met (c .before .before .before .before .before))
 
 loop-again-28 : tie.Need-loop-again-28 Inv-loop μ-loop
-loop-again-28 c = met-steps (met (c .before .before .before .before .before)) (is-live _ (c .before .before .before .if1 .left)) (c .apply-effect4 .result) 29 _ (c .before .before .match4 .keys24) refl (c .apply-effect4 .ensures)
+loop-again-28 c = met-plain (met (c .before .before .before .before .before)) 29 1 1 (c .before .before .match4 .keys24) refl (is-live _ (c .before .before .before .if1 .left)) (c .apply-effect4 .result) (c .apply-effect4 .ensures)
 
 apply-effect-requires-5 : tie.Need-apply-effect-requires-5 Inv-loop μ-loop
 apply-effect-requires-5 c κs = search needs
@@ -404,7 +423,7 @@ loop-less-29 : tie.Need-loop-less-29 Inv-loop μ-loop
 loop-less-29 c = nearer (met (c .before .before .before .before .before))
 
 loop-again-29 : tie.Need-loop-again-29 Inv-loop μ-loop
-loop-again-29 c = met-steps (met (c .before .before .before .before .before)) (is-live _ (c .before .before .before .if1 .left)) (c .apply-effect5 .result) 30 _ (c .before .before .match4 .keys25) refl (c .apply-effect5 .ensures)
+loop-again-29 c = met-plain (met (c .before .before .before .before .before)) 30 3 1 (c .before .before .match4 .keys25) refl (is-live _ (c .before .before .before .if1 .left)) (c .apply-effect5 .result) (c .apply-effect5 .ensures)
 
 apply-effect-requires-6 : tie.Need-apply-effect-requires-6 Inv-loop μ-loop
 apply-effect-requires-6 c κs = search needs
@@ -413,7 +432,7 @@ loop-less-30 : tie.Need-loop-less-30 Inv-loop μ-loop
 loop-less-30 c = nearer (met (c .before .before .before .before .before))
 
 loop-again-30 : tie.Need-loop-again-30 Inv-loop μ-loop
-loop-again-30 c = met-steps (met (c .before .before .before .before .before)) (is-live _ (c .before .before .before .if1 .left)) (c .apply-effect6 .result) 31 _ (c .before .before .match4 .keys26) refl (c .apply-effect6 .ensures)
+loop-again-30 c = met-plain (met (c .before .before .before .before .before)) 31 2 1 (c .before .before .match4 .keys26) refl (is-live _ (c .before .before .before .if1 .left)) (c .apply-effect6 .result) (c .apply-effect6 .ensures)
 
 loop-less-31 : tie.Need-loop-less-31 Inv-loop μ-loop
 loop-less-31 c = nearer (met (c .before .before .before .before))
@@ -429,6 +448,7 @@ plain-spec =
     μ-loop
     loop-holds
     enum-known-answer
+    stopped-requires
     same-length
     returns
     enum-told
@@ -436,6 +456,7 @@ plain-spec =
     higher-requires
     decode-at-requires
     enum-known-d
+    stopped-requires-2
     same-length-2
     returns-2
     cast-log-row
@@ -444,12 +465,16 @@ plain-spec =
     log-row-requires
     add-rows
     class-of-requires
+    stopped-requires-3
     same-length-3
     returns-3
+    stopped-requires-4
     same-length-4
     returns-4
+    stopped-requires-5
     same-length-5
     returns-5
+    stopped-requires-6
     same-length-6
     returns-6
     loop-less

@@ -1,4 +1,4 @@
-use Rattle.stack.proofs.Packs.{fresh}
+use Rattle.stack.proofs.Fresh.{fresh}
 use Rattle.stack.proofs.Stacks.new.Statement.{statement}
 use Rattle.stack.proofs.Stacks.new.Tie as tie
 use Rattle.stack.proofs.Stacks.new.Reads as reads
