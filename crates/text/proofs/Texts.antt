@@ -96,7 +96,7 @@ decimal-more (suc n) h =
     ∙ ap (λ (t : Bytes). t ++ ((48 + suc n % 10) ∷ [])) (enough n (suc n / 10) (suc n / 10) (omega arith) (omega arith))
 
 -- how many digits
-decimal-length : (k n : ℕ) → n < 10 ^ suc k → length (decimal n) ≤ suc k
+pub decimal-length : (k n : ℕ) → n < 10 ^ suc k → length (decimal n) ≤ suc k
 decimal-length zero n h = omega (arith, ap length (decimal-one n (omega arith)))
 decimal-length (suc k) n h = by (λ l. decimal-length k (n / 10) l) (ltb n 10) refl
   where
