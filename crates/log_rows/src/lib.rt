@@ -7,7 +7,7 @@ ghost use lib.ListN.{length, take, getD, replicate};
 ghost use Rattle.definition.specs.Lines.{decimal};
 ghost use Rattle.text.specs.View.{Written};
 ghost use Rattle.log_rows.specs.Rows.{mainAt, altAt, opcodeAt, totalOf, greatest, scaleOf, column, filled, bar, hex, instruction};
-ghost use Rattle.log_rows.specs.Rows.{deadHeights, liveHeights, heights, depthAfter, indent, heading, rowLine, row};
+ghost use Rattle.log_rows.specs.Rows.{deadHeights, liveHeights, heights, isIf, depthAfter, indent, heading, rowLine, row};
 
 // A byte so many times.
 fn write_same(out: &mut [u8], at: usize, byte: u8, count: usize) -> usize
@@ -258,6 +258,31 @@ pub fn opcode_at(fragment: &[u8], log: &[u16], j: usize) -> u8
 {
     let at = wide(log[3 * j]);
     byte_at(fragment, at as usize)
+}
+
+// The heights of row j of the log.
+pub fn main_at(log: &[u16], j: usize) -> u32
+    requires { ⌜ 3 * j + 3 ≤ length (now log) ⌝ }
+    ensures { λ r. ⌜ r ≡ mainAt (now (log .entry)) j ⌝ }
+{
+    wide(log[3 * j + 1])
+}
+
+pub fn alt_at(log: &[u16], j: usize) -> u32
+    requires { ⌜ 3 * j + 3 ≤ length (now log) ⌝ }
+    ensures { λ r. ⌜ r ≡ altAt (now (log .entry)) j ⌝ }
+{
+    wide(log[3 * j + 2])
+}
+
+// Whether an opcode is IF or NOTIF.
+pub fn is_if(opcode: u8) -> bool
+    ensures { λ r. ⌜ r ≡ isIf opcode ⌝ }
+{
+    if opcode == 0x63 {
+        return true;
+    }
+    opcode == 0x64
 }
 
 // The line of row j of the log.
