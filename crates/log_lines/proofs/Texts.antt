@@ -12,8 +12,7 @@ use Rattle.text.specs.View.{Written}
 use Rattle.text.proofs.Texts.{written-as, then-written}
 use Rattle.header.specs.View.{fragmentAt}
 use Rattle.log_rows.specs.Rows.{instruction}
-use Rattle.log_lines.specs.Log.{startLine, start, refusal, refusalLine, dispatchLine, malformedLine}
-use Rattle.log_lines.specs.View.{endText}
+use Rattle.log_lines.specs.Log.{startLine, start, ending, refusal, refusalLine, dispatchLine, malformedLine}
 
 -- the start; the end
 
@@ -34,11 +33,11 @@ start-written {lent} {new} {next} {entries} {main} {alt} {bytes} paper k e f g h
 module _ {lent : Bytes} {at : ℕ} {new : Bytes} {next : ℕ} (main alt : ℕ) where
   pub ending-some : {mid : Bytes} {between : ℕ} (ended : Bool) → ended ≡ true → at ≤ length lent
       → Written lent at (labelled ", end main " main) mid between → Written mid between (labelled " alt " alt) new next
-      → Written lent at (endText ended main alt) new next
+      → Written lent at (ending ended main alt) new next
   ending-some ended e within w v = rw e (then-written within w v)
 
   pub ending-none : (ended : Bool) → ended ≡ false → Written lent at (text ", end none") new next
-      → Written lent at (endText ended main alt) new next
+      → Written lent at (ending ended main alt) new next
   ending-none ended e w = rw e w
 
 -- refusals

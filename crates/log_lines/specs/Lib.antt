@@ -1,2 +1,1 @@
 pub mod Log
-pub mod View

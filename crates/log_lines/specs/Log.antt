@@ -1,5 +1,5 @@
 -- The lines that `stacklog` prints around the rows, as bytes. Numbers and texts are those of the lines of `stackmark`.
-use mathlib.Core.Bool.{Bool, _&&_, _||_}
+use mathlib.Core.Bool.{Bool, true, false, _&&_, _||_}
 use mathlib.Core.List.{List, [], _++_}
 use Prim.Native.Nat.{ℕ, zero, suc, _+_, _-_}
 use lib.Dec.{eqb}
@@ -12,6 +12,7 @@ use Rattle.header.specs.View.{fragmentAt}
 use Rattle.faults.specs.Faults.{fault, faultWords}
 use Rattle.log_rows.specs.Rows.{mainAt, altAt, opcodeAt, isIf, isElse, isEndif, instruction}
 use Rattle.reasons.specs.Reasons.{reason}
+use Rattle.log_lines.specs.declared.Told.{Told}
 
 -- A fragment
 
@@ -25,14 +26,13 @@ unfoldable pub start : Bytes → ℕ → Bytes
 start paper k =
     startLine (entryCount paper) k (length (fragmentAt paper k .bytes)) (fragmentAt paper k .main) (fragmentAt paper k .alt)
 
--- how it ends: its heights, or none where every run returns before the end
-abbrev pub ending : Arm → Bytes
-ending dead = text ", end none"
-ending (live s) = labelled ", end main " (length (s .main)) ++ labelled " alt " (length (s .alt))
+-- how it ends: whether it has an end, or every run returns before it, and its heights there
+abbrev pub ending : Bool → ℕ → ℕ → Bytes
+ending ended main alt = pick ended (labelled ", end main " main ++ labelled " alt " alt) (text ", end none")
 
 -- the line after the rows of an accepted one: its peak and how it ends
-unfoldable pub acceptedLine : ℕ → Arm → Bytes
-acceptedLine peak end = labelled "accepted: peak " peak ++ ending end ++ text "\n"
+unfoldable pub acceptedLine : ℕ → Bool → ℕ → ℕ → Bytes
+acceptedLine peak ended main alt = labelled "accepted: peak " peak ++ ending ended main alt ++ text "\n"
 
 -- A refusal in words
 
@@ -81,12 +81,41 @@ arms fragment log from n =
     labelled ": main " (mainAt log (from + n)) ++ labelled " alt " (altAt log (from + n))
     ++ labelled " against main " (otherMain fragment log other) ++ labelled " alt " (altAt log other)
 
+-- The verdict
+
+-- whether a fragment has an end, and the heights there, 0 where there is none
+abbrev pub hasEnd : Arm → Bool
+hasEnd dead = false
+hasEnd (live s) = true
+
+abbrev pub endMain : Arm → ℕ
+endMain dead = 0
+endMain (live s) = length (s .main)
+
+abbrev pub endAlt : Arm → ℕ
+endAlt dead = 0
+endAlt (live s) = length (s .alt)
+
+-- what is told of a verdict: `Told` is the struct of src/lib.rt that holds these numbers
+unfoldable pub toldOf : Verdict → Told
+toldOf v = record {
+  number = v .answer .number;
+  offset = v .answer .offset;
+  first = v .answer .first;
+  second = v .answer .second;
+  rows = v .rows;
+  peak = v .peak;
+  ended = hasEnd (v .end);
+  main = endMain (v .end);
+  alt = endAlt (v .end);
+}
+
 -- The line after the rows of a fragment, the first of them row `from`: accepted; malformed; refused before the walk; refused at
 -- the last row, with an arrow under the last digit of its offset.
-unfoldable pub verdictLine : Bytes → List ℕ → ℕ → Verdict → Bytes
-verdictLine fragment log from v =
-    pick (eqb (v .answer .number) 0) (acceptedLine (v .peak) (v .end))
-    (pick (eqb (v .answer .number) 3) (malformedLine (v .answer .offset) (display fragment fragment (v .answer .offset) 0))
-    (pick (eqb (v .rows) 0) (refusalLine [] (v .answer .number) (v .answer .first) (v .answer .second) [])
-    (refusalLine (text "     ^ ") (v .answer .number) (v .answer .first) (v .answer .second)
-    (pick (eqb (v .answer .number) 12) (arms fragment log from (v .rows - 1)) []))))
+unfoldable pub verdictLine : Bytes → List ℕ → ℕ → Told → Bytes
+verdictLine fragment log from t =
+    pick (eqb (t .number) 0) (acceptedLine (t .peak) (t .ended) (t .main) (t .alt))
+    (pick (eqb (t .number) 3) (malformedLine (t .offset) (display fragment fragment (t .offset) 0))
+    (pick (eqb (t .rows) 0) (refusalLine [] (t .number) (t .first) (t .second) [])
+    (refusalLine (text "     ^ ") (t .number) (t .first) (t .second)
+    (pick (eqb (t .number) 12) (arms fragment log from (t .rows - 1)) []))))

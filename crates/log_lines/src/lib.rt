@@ -5,13 +5,11 @@ ghost use mathlib.Core.List.{[], _++_};
 ghost use mathlib.Core.Path.{_≡_};
 ghost use Prim.Native.Nat.{_+_, _-_, _*_, _≤_, _<_};
 ghost use lib.ListN.{length};
-ghost use Rattle.definition.specs.Lines.{text, labelled};
-ghost use Rattle.definition.specs.Walk.{Verdict};
+ghost use Rattle.definition.specs.Lines.{text};
 ghost use Rattle.text.specs.View.{Written};
 ghost use Rattle.log_rows.specs.Rows.{mainAt, altAt, isIf};
-ghost use Rattle.log_lines.specs.Log.{startLine, start, refusal, refusalLine, headerLine, dispatchLine, malformedLine};
+ghost use Rattle.log_lines.specs.Log.{startLine, start, ending, acceptedLine, refusal, refusalLine, headerLine, dispatchLine, malformedLine};
 ghost use Rattle.log_lines.specs.Log.{opener, otherMain, arms, verdictLine};
-ghost use Rattle.log_lines.specs.View.{toldOf, endText};
 
 // What is told of a fragment's verdict: number, offset and two figures, the rows written, the peak, whether it has an end, and
 // the heights there.
@@ -57,7 +55,7 @@ pub fn write_head(out: &mut [u8], paper: &[u8], k: usize) -> usize
 // How an accepted fragment ends.
 fn write_ending(out: &mut [u8], at: usize, ended: bool, main: u32, alt: u32) -> usize
     requires { ⌜ at + 60 ≤ length (now out) ⌝ }
-    ensures same { λ r. ⌜ Written (now (out .entry)) at (endText ended main alt) (now (out .exit)) r ⌝ }
+    ensures same { λ r. ⌜ Written (now (out .entry)) at (ending ended main alt) (now (out .exit)) r ⌝ }
     ensures short { λ r. ⌜ r ≤ at + 60 ⌝ }
 {
     if ended {
@@ -71,14 +69,7 @@ fn write_ending(out: &mut [u8], at: usize, ended: bool, main: u32, alt: u32) -> 
 fn write_accepted(out: &mut [u8], peak: u32, ended: bool, main: u32, alt: u32) -> usize
     requires { ⌜ 256 ≤ length (now out) ⌝ }
     ensures same { λ r.
-        ⌜
-        Written
-        (now (out .entry))
-        0
-        (labelled "accepted: peak " peak ++ endText ended main alt ++ text "\n")
-        (now (out .exit))
-        r
-        ⌝ }
+        ⌜ Written (now (out .entry)) 0 (acceptedLine peak ended main alt) (now (out .exit)) r ⌝ }
     ensures short { λ r. ⌜ r ≤ 256 ⌝ }
 {
     let a = text::write_labelled(out, 0, b"accepted: peak ", peak as u64);
@@ -278,14 +269,12 @@ pub fn write_verdict(out: &mut [u8], fragment: &[u8], log: &[u16], from: usize, 
     requires { ⌜ (256 ≤ length (now out)) × (3 * (from + t .rows) ≤ length (now log)) ⌝ }
     ensures same { λ r.
         ⌜
-        ((v : Verdict)
-        → t ≡ toldOf v
-        → Written
+        Written
         (now (out .entry))
         0
-        (verdictLine (now (fragment .entry)) (now (log .entry)) from v)
+        (verdictLine (now (fragment .entry)) (now (log .entry)) from t)
         (now (out .exit))
-        r)
+        r
         ⌝ }
     ensures short { λ r. ⌜ r ≤ 256 ⌝ }
 {

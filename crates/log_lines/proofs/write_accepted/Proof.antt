@@ -1,3 +1,4 @@
+use Rattle.log_lines.specs.Log.{acceptedLine}
 use native.Mathlib.Omega.{arith}
 use Rattle.text.proofs.Texts.{then-written}
 use borrow.Author.Needs.{needs}
@@ -23,6 +24,7 @@ same-length : tie.Need-same-length
 same-length c = search needs
 
 returns : tie.Need-returns
+unfolding acceptedLine
 returns c =
     let d = c .before .before in
     let b = d .before .before .before .before .before in

@@ -15,7 +15,7 @@ returns c =
     let w = c .before .before in
     let i = w .before .before in
     let s = i .before .before .before .before .before in
-    (λ v e. verdict-accepted (s .args .fragment .now) (s .args .log .now) (s .args .from) (s .args .t) v e (i .if1 .taken) (w .write-accepted .ensures .0), w .write-accepted .ensures .1)
+    (verdict-accepted (s .args .fragment .now) (s .args .log .now) (s .args .from) (s .args .t) (i .if1 .taken) (w .write-accepted .ensures .0), w .write-accepted .ensures .1)
 
 display-requires : tie.Need-display-requires
 display-requires c κs = search needs
@@ -33,7 +33,7 @@ returns-2 c =
     let j = d .before in
     let i = j .before .before in
     let s = i .before .before .before .before .before in (
-      λ v e. verdict-malformed (s .args .fragment .now) (s .args .log .now) (s .args .from) (s .args .t) v e (i .if1 .left) (j .if2 .taken) (d .display .ensures) (w .write-malformed .ensures .0),
+      verdict-malformed (s .args .fragment .now) (s .args .log .now) (s .args .from) (s .args .t) (i .if1 .left) (j .if2 .taken) (d .display .ensures) (w .write-malformed .ensures .0),
       w .write-malformed .ensures .1,
     )
 
@@ -53,7 +53,7 @@ returns-3 c =
     let j = k .before .before in
     let i = j .before .before in
     let s = i .before .before .before .before .before in (
-      λ v e. verdict-before (s .args .fragment .now) (s .args .log .now) (s .args .from) (s .args .t) v e (i .if1 .left) (j .if2 .left) (k .if3 .taken) (w .write-refusal-line .ensures .0),
+      verdict-before (s .args .fragment .now) (s .args .log .now) (s .args .from) (s .args .t) (i .if1 .left) (j .if2 .left) (k .if3 .taken) (w .write-refusal-line .ensures .0),
       w .write-refusal-line .ensures .1,
     )
 
@@ -74,7 +74,7 @@ returns-4 c =
     let j = k .before .before in
     let i = j .before .before in
     let s = i .before .before .before .before .before in (
-      λ v e. verdict-arms (s .args .fragment .now) (s .args .log .now) (s .args .from) (s .args .t) v e (i .if1 .left) (j .if2 .left) (k .if3 .left) (l .if4 .taken) (w .write-differ .ensures .0),
+      verdict-arms (s .args .fragment .now) (s .args .log .now) (s .args .from) (s .args .t) (i .if1 .left) (j .if2 .left) (k .if3 .left) (l .if4 .taken) (w .write-differ .ensures .0),
       w .write-differ .ensures .1,
     )
 
@@ -95,7 +95,7 @@ returns-5 c =
     let j = k .before .before in
     let i = j .before .before in
     let s = i .before .before .before .before .before in (
-      λ v e. verdict-walk (s .args .fragment .now) (s .args .log .now) (s .args .from) (s .args .t) v e (i .if1 .left) (j .if2 .left) (k .if3 .left) (l .if4 .left) (w .write-refusal-line2 .ensures .0),
+      verdict-walk (s .args .fragment .now) (s .args .log .now) (s .args .from) (s .args .t) (i .if1 .left) (j .if2 .left) (k .if3 .left) (l .if4 .left) (w .write-refusal-line2 .ensures .0),
       w .write-refusal-line2 .ensures .1,
     )
 
