@@ -14,6 +14,7 @@
 use mathlib.Core.List.{List, [], _∷_, _++_}
 use Prim.Native.Nat.{ℕ, _+_}
 use lib.Dec.{eqb}
+use lib.ListN.{take, replicate}
 use Rattle.definition.specs.Basics.{Bytes, pick}
 use Rattle.definition.specs.Lines.{text, lastLine}
 use Rattle.definition.specs.Papers.{PaperMarked, markPaper}
@@ -49,3 +50,7 @@ logOf paper m =
 -- what is printed of a paper with this log lent
 unfoldable pub logText : Bytes → List ℕ → Bytes
 logText paper log = logOf paper (markPaper builtIn paper log)
+
+-- `stacklog` reads a paper as `stackmark` does, at most 8,001 bytes, and lends a log of 24,000 numbers
+unfoldable pub stacklog : Bytes → Bytes
+stacklog input = logText (take 8001 input) (replicate 24000 0)
