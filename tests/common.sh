@@ -30,6 +30,15 @@ compare() {
     fi
 }
 
+# fails NAME WORDS: what was printed into $work/out is nothing, and what was said into $work/said is these words
+fails() {
+    : >"$work/expected"
+    compare "$1"
+    printf '%s: %s\n' "$name" "$2" >"$work/expected"
+    cp "$work/said" "$work/out"
+    compare "$1, said"
+}
+
 # The paper of document 01, section 6
 hex 01 00 01 00 0e 00 00 00 01 00 0e 00 06 00 63 51 67 52 68 75 >"$work/sample"
 

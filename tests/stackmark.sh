@@ -36,8 +36,6 @@ sample='entry 0 peak 2 end 1 0\naccepted\n'
 on "the paper of section 6" "$sample" <"$work/sample"
 
 on "no byte" 'refused 19 at 0 0 0 0\n' </dev/null
-"$program" <&- >"$work/out"
-same "a read that fails" 'refused 19 at 0 0 0 0\n'
 head -c 7 "$work/sample" >"$work/paper"
 on "seven bytes" 'refused 19 at 0 0 0 0\n' <"$work/paper"
 
@@ -90,5 +88,17 @@ while [ "$k" -lt 32 ]; do
 done
 hex 61 >>"$work/paper"
 on "32 entries and an initialiser" "${lines}state peak 242 end 241 1\\naccepted\\n" <"$work/paper"
+
+# reads and writes that fail
+"$program" <"$work" >"$work/out" 2>"$work/said"
+fails "a directory" "cannot read standard input"
+"$program" <&- >"$work/out" 2>"$work/said"
+fails "a closed input" "cannot read standard input"
+: >"$work/out"
+"$program" <"$work/sample" 2>"$work/said" >/dev/full
+fails "a full disk" "cannot write to standard output"
+: >"$work/out"
+"$program" <"$work/sample" 2>"$work/said" >&-
+fails "a closed output" "cannot write to standard output"
 
 finish

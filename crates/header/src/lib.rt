@@ -62,7 +62,7 @@ fn within(paper: &[u8], header: usize, at: usize) -> bool
 }
 
 // Whether the parts whose offset and length stand at `a` and `b` share a byte.
-fn share(paper: &[u8], a: usize, b: usize) -> bool
+pub fn share(paper: &[u8], a: usize, b: usize) -> bool
     requires { ⌜ (a ≤ lastPart) × (b ≤ lastPart) ⌝ }
     ensures { λ r. ⌜ r ≡ Papers.share (partAt (now (paper .entry)) a) (partAt (now (paper .entry)) b) ⌝ }
 {

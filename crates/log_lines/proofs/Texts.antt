@@ -1,18 +1,18 @@
 -- Laws of the lines around the rows of a fragment: the places where a text is chosen.
 use mathlib.Core.Bool.{Bool, true, false}
-use mathlib.Core.List.{[]}
-use mathlib.Core.Path.{_≡_, ap, _∙_}
-use Prim.Native.Nat.{ℕ, _≤_}
-use borrow.Author.Tests.{eq-eqb, ne-eqb}
+use mathlib.Core.List.{[], _++_, append-nil, append-assoc}
+use mathlib.Core.Path.{_≡_, refl, sym, ap, _∙_}
+use Prim.Native.Nat.{ℕ, _+_, _≤_}
+use native.Mathlib.Omega.{arith}
 use lib.ListN.{length}
 use Rattle.definition.specs.Basics.{Bytes}
 use Rattle.definition.specs.Lines.{text, labelled}
-use Rattle.definition.specs.Papers.{entryCount, display}
+use Rattle.definition.specs.Papers.{entryCount}
 use Rattle.text.specs.View.{Written}
 use Rattle.text.proofs.Texts.{written-as, then-written}
 use Rattle.header.specs.View.{fragmentAt}
-use Rattle.stack_analysis.specs.declared.Summary.{Summary}
-use Rattle.log_lines.specs.Log.{startLine, start, ending, acceptedLine, refusalLine, malformedLine, verdictLine}
+use Rattle.log_rows.specs.Rows.{instruction}
+use Rattle.log_lines.specs.Log.{startLine, start, ending, refusal, refusalLine, dispatchLine, malformedLine}
 
 -- the start; the end
 
@@ -40,31 +40,28 @@ module _ {lent : Bytes} {at : ℕ} {new : Bytes} {next : ℕ} (main alt : ℕ) w
       → Written lent at (ending ended main alt) new next
   ending-none ended e w = rw e w
 
--- the verdict
+-- refusals
 
-module _ {lent : Bytes} {new : Bytes} {next : ℕ} (fragment : Bytes) (v : Summary) where
-  pub verdict-accepted : v .number ≡ 0 → Written lent 0 (acceptedLine (v .peak) (v .ended) (v .main)
-      (v .alt)) new next
-      → Written lent 0 (verdictLine fragment v) new next
-  unfolding verdictLine
-  verdict-accepted e w = rw (eq-eqb (v .number) 0 e) w
+module _ {lent : Bytes} {new : Bytes} {next : ℕ} where
+  -- with nothing more
+  pub refusal-alone : (lead : Bytes) (number first second : ℕ) → Written lent 0 (lead ++ refusal number first second ++ text "\n") new next
+      → Written lent 0 (refusalLine lead number first second []) new next
+  unfolding refusalLine
+  refusal-alone lead number first second w =
+      written-as (ap (λ (l : Bytes). l ++ text "\n") (sym (append-nil (lead ++ refusal number first second)))) w
 
-  module _ (accepted : v .number ≡ 0 → ⊥) where
-    pub verdict-malformed : {bytes : Bytes} → v .number ≡ 3 → bytes ≡ display fragment fragment (v .offset) 0
-        → Written lent 0 (malformedLine (v .offset) bytes) new next → Written lent 0 (verdictLine fragment v) new next
-    unfolding verdictLine
-    verdict-malformed {bytes} e d w =
-        rw (ne-eqb (v .number) 0 accepted, eq-eqb (v .number) 3 e)
-        (written-as (ap (λ (b : Bytes). malformedLine (v .offset) b) d) w)
+  pub dispatch-written : (entry sum limit : ℕ) → Written lent 0 (labelled "entry " entry ++ text ": " ++ refusal 20 sum limit ++ text "\n") new next
+      → Written lent 0 (dispatchLine entry sum limit) new next
+  unfolding dispatchLine
+  dispatch-written entry sum limit w = refusal-alone (labelled "entry " entry ++ text ": ") 20 sum limit w
 
-    module _ (malformed : v .number ≡ 3 → ⊥) where
-      pub verdict-before : v .rows ≡ 0 → Written lent 0 (refusalLine [] (v .number) (v .first) (v .second)) new next
-          → Written lent 0 (verdictLine fragment v) new next
-      unfolding verdictLine
-      verdict-before e w = rw (ne-eqb (v .number) 0 accepted, ne-eqb (v .number) 3 malformed, eq-eqb (v .rows) 0 e) w
-
-      pub verdict-walk : (v .rows ≡ 0 → ⊥) → Written lent 0 (refusalLine (text "        ^ ") (v .number) (v .first)
-          (v .second)) new next
-          → Written lent 0 (verdictLine fragment v) new next
-      unfolding verdictLine
-      verdict-walk e w = rw (ne-eqb (v .number) 0 accepted, ne-eqb (v .number) 3 malformed, ne-eqb (v .rows) 0 e) w
+  pub malformed-written : (offset : ℕ) (bytes : Bytes)
+      → Written lent 0 (refusal 3 0 0 ++ labelled " at " offset ++ text ":" ++ instruction bytes ++ text "\n") new next
+      → Written lent 0 (malformedLine offset bytes) new next
+  unfolding malformedLine refusalLine
+  malformed-written offset bytes w =
+      let a : Bytes = refusal 3 0 0 in
+      let b : Bytes = labelled " at " offset in
+      let c : Bytes = text ":" in
+      let d : Bytes = instruction bytes in
+      written-as (ap (λ (l : Bytes). l ++ text "\n") (ap (λ (l : Bytes). l ++ d) (append-assoc a b c) ∙ append-assoc a (b ++ c) d)) w

@@ -1,2 +1,3 @@
 -- What is proved of the rows for this crate's functions.
 pub mod Texts
+pub mod Rows

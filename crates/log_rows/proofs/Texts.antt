@@ -2,29 +2,17 @@
 -- a text is chosen.
 use mathlib.Core.List.{List, [], _∷_, _++_, append-nil}
 use mathlib.Core.Path.{_≡_, refl, sym, ap, subst, _∙_}
-use Prim.Native.Nat.{ℕ, suc, _+_, _-_, _*_, _/_, _%_, _≤_, _<_}
+use Prim.Native.Nat.{ℕ, zero, suc, _+_, _-_, _*_, _/_, _%_, _≤_, _<_}
 use native.Mathlib.Omega.{arith}
 use borrow.Author.Tests.{lt-ltb, le-ltb, eq-eqb, ne-eqb}
 use lib.ListN.{length, take, set, getD, replicate, length-append, replicate-append-replicate}
 use lib.Seq.{paste-zero, take-suc, take-all}
 use Rattle.definition.specs.Basics.{Bytes}
 use Rattle.definition.specs.Lines.{text, decimal}
-use Rattle.definition.specs.Papers.{display}
+use Rattle.text.specs.Hex.{hexByte}
 use Rattle.text.specs.View.{Written}
 use Rattle.text.proofs.Texts.{written-as, then-written, byte-written, decimal-one, decimal-more}
-use Rattle.log_rows.specs.Rows.{
-  column,
-  filled,
-  bar,
-  rowLine,
-  row,
-  hexDigit,
-  hex,
-  instruction,
-  deadHeights,
-  liveHeights,
-  heights,
-}
+use Rattle.log_rows.specs.Rows.{column, filled, bar, hex, instruction, deadHeights, liveHeights, heights, totalOf}
 
 -- a byte so many times
 
@@ -58,24 +46,13 @@ module _ (n : ℕ) where
 
 -- bytes in hexadecimal
 
-pub digit-low : (d : ℕ) → d < 10 → 48 + d ≡ hexDigit d
-digit-low d h = rw (lt-ltb d 10 h)
-
-pub digit-high : (d : ℕ) → 10 ≤ d → 87 + d ≡ hexDigit d
-digit-high d h = rw (le-ltb d 10 h)
-
-pub hex-byte : {lent : Bytes} {at : ℕ} {new : Bytes} {next : ℕ} {d e : ℕ} (b : ℕ) → d ≡ hexDigit (b / 16) → e ≡ hexDigit (b % 16)
-    → Written lent at ((32 ∷ []) ++ (d ∷ []) ++ (e ∷ [])) new next → Written lent at (hex (b ∷ [])) new next
-hex-byte {lent} {at} {new} {next} {d} {e} b p q w =
-    written-as (ap (λ x. 32 ∷ x ∷ e ∷ []) p ∙ ap (λ x. 32 ∷ hexDigit (b / 16) ∷ x ∷ []) q) w
+pub hex-byte : {lent : Bytes} {at : ℕ} {new : Bytes} {next : ℕ} {n : ℕ} (b : ℕ) → n ≡ b
+    → Written lent at (text " " ++ hexByte n) new next → Written lent at (hex (b ∷ [])) new next
+hex-byte {lent} {at} {new} {next} {n} b e w = written-as (ap (λ x. 32 ∷ hexByte x) e) w
 
 pub hex-append : (s t : Bytes) → hex (s ++ t) ≡ hex s ++ hex t
 hex-append [] t = refl
-hex-append (b ∷ s) t = ap (λ (l : Bytes). 32 ∷ hexDigit (b / 16) ∷ hexDigit (b % 16) ∷ l) (hex-append s t)
-
-pub hex-length : (s : Bytes) → length (hex s) ≡ 3 * length s
-hex-length [] = refl
-hex-length (b ∷ s) = omega (arith, hex-length s)
+hex-append (b ∷ s) t = ap (λ (l : Bytes). 32 ∷ (hexByte b ++ l)) (hex-append s t)
 
 module _ (lent : Bytes) (at : ℕ) (bytes : Bytes) where
   pub hex-none : Written lent at (hex (take 0 bytes)) lent at
@@ -99,31 +76,39 @@ module _ (lent : Bytes) (at : ℕ) (bytes : Bytes) where
       let e : j ≡ count = omega arith in
       written-as (ap (λ n. hex (take n bytes)) e) w
 
-  pub instruction-long : {out : Bytes} {next : ℕ} {new : Bytes} {after : ℕ} → at ≤ length lent → 8 < length bytes
-      → Written lent at (hex (take 8 bytes)) out next → Written out next (text " ..") new after
+  pub instruction-long : {out : Bytes} {next : ℕ} {new : Bytes} {after : ℕ} → at ≤ length lent → 4 < length bytes
+      → Written lent at (hex (take 4 bytes)) out next → Written out next (text " ..") new after
       → Written lent at (instruction bytes) new after
   unfolding instruction
-  instruction-long within h w v = rw (lt-ltb 8 (length bytes) h) (then-written within w v)
+  instruction-long within h w v = rw (lt-ltb 4 (length bytes) h) (then-written within w v)
 
-  pub instruction-whole : {new : Bytes} {after : ℕ} → length bytes ≤ 8
+  pub instruction-whole : {new : Bytes} {after : ℕ} → length bytes ≤ 4
       → Written lent at (hex (take (length bytes) bytes)) new after → Written lent at (instruction bytes) new after
   unfolding instruction
   instruction-whole {new} {after} h w =
-      let e : hex (take (length bytes) bytes) ≡ hex (take 8 bytes) ++ [] = ap hex
-      (take-all (length bytes) bytes (omega arith) ∙ sym (take-all 8 bytes h)) ∙ sym (append-nil (hex (take 8 bytes))) in
-      rw (le-ltb 8 (length bytes) h) (written-as e w)
+      let e : hex (take (length bytes) bytes) ≡ hex (take 4 bytes) ++ [] = ap hex
+      (take-all (length bytes) bytes (omega arith) ∙ sym (take-all 4 bytes h)) ∙ sym (append-nil (hex (take 4 bytes))) in
+      rw (le-ltb 4 (length bytes) h) (written-as e w)
 
 -- heights
 
-module _ {lent : Bytes} {at : ℕ} {new : Bytes} {next : ℕ} (main alt : ℕ) where
-  pub heights-dead : main ≡ 65535 → Written lent at deadHeights new next → Written lent at (heights main alt) new next
+module _ {lent : Bytes} {at : ℕ} {new : Bytes} {next : ℕ} (scale main alt : ℕ) where
+  pub heights-dead : main ≡ 65535 → Written lent at deadHeights new next → Written lent at (heights scale main alt) new next
   heights-dead h w = rw (eq-eqb main 65535 h) w
 
-  pub heights-live : (main ≡ 65535 → ⊥) → Written lent at (liveHeights main alt) new next
-      → Written lent at (heights main alt) new next
+  pub heights-live : (main ≡ 65535 → ⊥) → Written lent at (liveHeights scale main alt) new next
+      → Written lent at (heights scale main alt) new next
   heights-live h w = rw (ne-eqb main 65535 h) w
 
--- a column; a bar; a row of the log
+pub total-dead : (main alt : ℕ) → main ≡ 65535 → 0 ≡ totalOf main alt
+unfolding totalOf
+total-dead main alt h = rw (eq-eqb main 65535 h)
+
+pub total-live : (main alt : ℕ) → (main ≡ 65535 → ⊥) → main + alt ≡ totalOf main alt
+unfolding totalOf
+total-live main alt h = rw (ne-eqb main 65535 h)
+
+-- a column; a bar
 
 module _ {lent : Bytes} {at : ℕ} {mid : Bytes} {between : ℕ} {new : Bytes} {next : ℕ} where
   pub column-written : {size gap : ℕ} (width n : ℕ) → size ≡ length (decimal n) → gap ≡ width - size → at ≤ length lent
@@ -133,22 +118,9 @@ module _ {lent : Bytes} {at : ℕ} {mid : Bytes} {between : ℕ} {new : Bytes} {
   column-written {size} {gap} width n e g within w v =
       written-as (ap (λ m. replicate m 32 ++ decimal n) (g ∙ ap (λ m. width - m) e)) (then-written within w v)
 
-  pub bar-written : {full : ℕ} (n : ℕ) → full ≡ filled n → at ≤ length lent
-      → Written lent at (replicate full 35) mid between → Written mid between (replicate (61 - full) 46) new next
-      → Written lent at (bar n) new next
+  pub bar-written : {full : ℕ} (scale n : ℕ) → full ≡ filled scale n → at ≤ length lent
+      → Written lent at (replicate full 35) mid between → Written mid between (replicate (16 - full) 46) new next
+      → Written lent at (bar scale n) new next
   unfolding bar
-  bar-written {full} n e within w v = written-as (ap (λ m. replicate m 35 ++ replicate (61 - m) 46) e) (then-written within w v)
-
-pub row-written : {lent : Bytes} {new : Bytes} {next : ℕ} {offset main alt : ℕ} {bytes : Bytes} (fragment : Bytes)
-    (log : List ℕ) (j : ℕ)
-    → offset ≡ getD log (3 * j) 0 → main ≡ getD log (3 * j + 1) 0 → alt ≡ getD log (3 * j + 2) 0
-    → bytes ≡ display fragment fragment offset 0
-    → Written lent 0 (rowLine offset main alt bytes) new next → Written lent 0 (row fragment log j) new next
-unfolding row
-row-written {lent} {new} {next} {offset} {main} {alt} {bytes} fragment log j e f g h w =
-    written-as
-    (ap (λ (b : Bytes). rowLine offset main alt b) h
-    ∙ ap (λ o. rowLine o main alt (display fragment fragment o 0)) e
-    ∙ ap (λ m. rowLine (getD log (3 * j) 0) m alt (display fragment fragment (getD log (3 * j) 0) 0)) f
-    ∙ ap (λ a. rowLine (getD log (3 * j) 0) (getD log (3 * j + 1) 0) a (display fragment fragment (getD log (3 * j) 0) 0)) g)
-    w
+  bar-written {full} scale n e within w v =
+      written-as (ap (λ m. replicate m 35 ++ replicate (16 - m) 46) e) (then-written within w v)

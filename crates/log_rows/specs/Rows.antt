@@ -1,11 +1,54 @@
--- A row of the log as `stacklog` prints it, as bytes: an instruction and the heights before it.
+-- The rows of the log as `stacklog` prints them, as bytes: a line for each instruction with the heights before it, a bar of
+-- their total, and its bytes. Of the fragment `63 51 67 6a 52 68 75` from main 2:
+--
+--   offset main  alt total |of 8            | bytes
+--        0    2    0     2 |####............| 63
+--        1    1    0     1 |##..............|  51
+--        2    2    0     2 |####............| 67
+--        3    1    0     1 |##..............|  6a
+--        4 dead dead       |                |  52
+--        5 dead dead       |                | 68
+--        6    2    0     2 |####............| 75
+use mathlib.Core.Bool.{Bool, _||_}
 use mathlib.Core.List.{List, [], _∷_, _++_}
-use Prim.Native.Nat.{ℕ, _+_, _-_, _*_, _/_, _%_, min}
+use Prim.Native.Nat.{ℕ, zero, suc, _+_, _-_, _*_, _/_, min, max}
 use lib.Dec.{ltb, eqb}
 use lib.ListN.{length, take, getD, replicate}
 use Rattle.definition.specs.Basics.{Bytes, pick}
-use Rattle.definition.specs.Lines.{text, decimal}
+use Rattle.definition.specs.Lines.{text, decimal, labelled}
 use Rattle.definition.specs.Papers.{display}
+use Rattle.text.specs.Hex.{hexByte}
+
+-- The numbers of a row
+
+-- "three to an instruction: offset, main height, alt height": those of row j of a log
+abbrev pub offsetAt : List ℕ → ℕ → ℕ
+offsetAt log j = getD log (3 * j) 0
+
+abbrev pub mainAt : List ℕ → ℕ → ℕ
+mainAt log j = getD log (3 * j + 1) 0
+
+abbrev pub altAt : List ℕ → ℕ → ℕ
+altAt log j = getD log (3 * j + 2) 0
+
+-- the opcode of row j, an instruction of this fragment
+abbrev pub opcodeAt : Bytes → List ℕ → ℕ → ℕ
+opcodeAt fragment log j = getD fragment (offsetAt log j) 0
+
+-- the total of heights; a dead arm, "65,535 twice", counts 0
+unfoldable pub totalOf : ℕ → ℕ → ℕ
+totalOf main alt = pick (eqb main 65535) 0 (main + alt)
+
+-- the greatest total of n rows, the first of them row j
+abbrev pub greatest : List ℕ → ℕ → ℕ → ℕ
+greatest log j zero = 0
+greatest log j (suc n) = max (totalOf (mainAt log j) (altAt log j)) (greatest log (j + 1) n)
+
+-- what a whole bar stands for: the largest of 8, the peak and the greatest total
+abbrev pub scaleOf : ℕ → List ℕ → ℕ → ℕ → ℕ
+scaleOf peak log j n = max (max 8 peak) (greatest log j n)
+
+-- Columns
 
 -- so many blanks
 abbrev pub blanks : ℕ → Bytes
@@ -15,46 +58,82 @@ blanks n = replicate n 32
 unfoldable pub column : ℕ → ℕ → Bytes
 column width n = blanks (width - length (decimal n)) ++ decimal n
 
--- how many of the 61 places of a bar are filled: one for each 4 items begun
-abbrev pub filled : ℕ → ℕ
-filled n = min 61 ((n + 3) / 4)
+-- how many of the 16 places of a bar are filled: n of `scale`, rounded up
+abbrev pub filled : ℕ → ℕ → ℕ
+filled scale n = (16 * n + scale - 1) / scale
 
--- the bar of a total against 244: `#` in the filled places, `.` in the rest
-unfoldable pub bar : ℕ → Bytes
-bar n = replicate (filled n) 35 ++ replicate (61 - filled n) 46
+-- the bar of a total: `#` in the filled places, `.` in the rest
+unfoldable pub bar : ℕ → ℕ → Bytes
+bar scale n = replicate (filled scale n) 35 ++ replicate (16 - filled scale n) 46
 
--- a hexadecimal digit; 48 is the code of 0, and 97 that of a
-abbrev pub hexDigit : ℕ → ℕ
-hexDigit d = pick (ltb d 10) (48 + d) (87 + d)
-
--- bytes in hexadecimal with two digits, a blank before each
-abbrev pub hex : Bytes → Bytes
-hex [] = []
-hex (b ∷ bs) = 32 ∷ hexDigit (b / 16) ∷ hexDigit (b % 16) ∷ hex bs
-
--- an instruction: at most 8 bytes of it, and ` ..` where it has more
-unfoldable pub instruction : Bytes → Bytes
-instruction bytes = hex (take 8 bytes) ++ pick (ltb 8 (length bytes)) (text " ..") []
-
--- main height, alt height, the bar of the total, and the total
-unfoldable pub liveHeights : ℕ → ℕ → Bytes
-liveHeights main alt =
-    column 6 main ++ column 6 alt ++ text "  |" ++ bar (main + alt) ++ text "|" ++ column 5 (main + alt)
+-- main height, alt height, the total and its bar
+unfoldable pub liveHeights : ℕ → ℕ → ℕ → Bytes
+liveHeights scale main alt =
+    column 5 main ++ column 5 alt ++ column 6 (main + alt) ++ text " |" ++ bar scale (main + alt) ++ text "|"
 
 -- the same places in a dead arm
 abbrev pub deadHeights : Bytes
-deadHeights = text "  dead  dead  |" ++ blanks 61 ++ text "|     "
+deadHeights = text " dead dead       |                |"
 
--- "or 65,535 twice if dead"
-abbrev pub heights : ℕ → ℕ → Bytes
-heights main alt = pick (eqb main 65535) deadHeights (liveHeights main alt)
+-- those of a row
+abbrev pub heights : ℕ → ℕ → ℕ → Bytes
+heights scale main alt = pick (eqb main 65535) deadHeights (liveHeights scale main alt)
 
--- the line of an instruction
-unfoldable pub rowLine : ℕ → ℕ → ℕ → Bytes → Bytes
-rowLine offset main alt bytes = column 9 offset ++ heights main alt ++ text " " ++ instruction bytes ++ text "\n"
+-- bytes in hexadecimal, a blank before each
+abbrev pub hex : Bytes → Bytes
+hex [] = []
+hex (b ∷ bs) = 32 ∷ (hexByte b ++ hex bs)
 
--- the line of row j of a log: an instruction of this fragment
-unfoldable pub row : Bytes → List ℕ → ℕ → Bytes
-row fragment log j =
-    rowLine (getD log (3 * j) 0) (getD log (3 * j + 1) 0) (getD log (3 * j + 2) 0)
-    (display fragment fragment (getD log (3 * j) 0) 0)
+-- an instruction: at most 4 bytes of it, and ` ..` where it has more
+unfoldable pub instruction : Bytes → Bytes
+instruction bytes = hex (take 4 bytes) ++ pick (ltb 4 (length bytes)) (text " ..") []
+
+-- Conditionals: an instruction stands one blank further to the right for each that is open around it
+
+-- IF or NOTIF; ENDIF; ELSE
+abbrev pub isIf : ℕ → Bool
+isIf opcode = eqb opcode 0x63 || eqb opcode 0x64
+
+abbrev pub isEndif : ℕ → Bool
+isEndif opcode = eqb opcode 0x68
+
+abbrev pub isElse : ℕ → Bool
+isElse opcode = eqb opcode 0x67
+
+-- how many are open behind an instruction, where so many are open before it
+unfoldable pub depthAfter : ℕ → ℕ → ℕ
+depthAfter opcode depth = pick (isIf opcode) (depth + 1) (pick (isEndif opcode) (depth - 1) depth)
+
+-- how far it stands to the right: ELSE and ENDIF under their IF; no more than 24 can be open
+unfoldable pub indent : ℕ → ℕ → ℕ
+indent opcode depth = min 24 (pick (isElse opcode || isEndif opcode) (depth - 1) depth)
+
+-- Lines
+
+-- what stands over the columns
+unfoldable pub heading : ℕ → Bytes
+heading scale =
+    text "offset main  alt total |" ++ labelled "of " scale ++ blanks (16 - length (labelled "of " scale)) ++ text "| bytes\n"
+
+-- the line of an instruction: at most 80 characters
+unfoldable pub rowLine : ℕ → ℕ → ℕ → ℕ → ℕ → Bytes → Bytes
+rowLine scale offset main alt right bytes =
+    column 6 offset ++ heights scale main alt ++ blanks right ++ instruction bytes ++ text "\n"
+
+-- the line of row j of a log, where so many conditionals are open
+unfoldable pub row : Bytes → List ℕ → ℕ → ℕ → ℕ → Bytes
+row fragment log scale depth j =
+    rowLine scale (offsetAt log j) (mainAt log j) (altAt log j) (indent (opcodeAt fragment log j) depth)
+    (display fragment fragment (offsetAt log j) 0)
+
+-- the lines of n rows, the first of them row j
+abbrev pub rowsFrom : Bytes → List ℕ → ℕ → ℕ → ℕ → ℕ → Bytes
+rowsFrom fragment log scale depth j zero = []
+rowsFrom fragment log scale depth j (suc n) =
+    row fragment log scale depth j ++ rowsFrom fragment log scale (depthAfter (opcodeAt fragment log j) depth) (j + 1) n
+
+-- with what stands over the columns; nothing where there are no rows
+unfoldable pub rows : Bytes → List ℕ → ℕ → ℕ → ℕ → Bytes
+rows fragment log peak j n =
+    let scale : ℕ = scaleOf peak log j n in
+    pick (eqb n 0) [] (heading scale ++ rowsFrom fragment log scale 0 j n)

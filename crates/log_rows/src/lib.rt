@@ -2,12 +2,12 @@
 // is. A text is written from an index on; the answer is the index after it.
 ghost use mathlib.Core.List.{[], _∷_};
 ghost use mathlib.Core.Path.{_≡_};
-ghost use Prim.Native.Nat.{_+_, _-_, _*_, _≤_, _<_};
-ghost use lib.ListN.{length, take, replicate};
+ghost use Prim.Native.Nat.{_+_, _-_, _*_, _≤_, _<_, min, max};
+ghost use lib.ListN.{length, take, getD, replicate};
 ghost use Rattle.definition.specs.Lines.{decimal};
 ghost use Rattle.text.specs.View.{Written};
-ghost use Rattle.log_rows.specs.Rows.{column, filled, bar, hexDigit, hex, instruction, deadHeights, liveHeights, heights};
-ghost use Rattle.log_rows.specs.Rows.{rowLine, row};
+ghost use Rattle.log_rows.specs.Rows.{mainAt, altAt, opcodeAt, totalOf, greatest, scaleOf, column, filled, bar, hex, instruction};
+ghost use Rattle.log_rows.specs.Rows.{deadHeights, liveHeights, heights, isIf, depthAfter, indent, heading, rowLine, row};
 
 // A byte so many times.
 fn write_same(out: &mut [u8], at: usize, byte: u8, count: usize) -> usize
@@ -47,11 +47,11 @@ fn left_of(width: usize, size: usize) -> usize
     width - size
 }
 
-// A number at the right of a column.
+// A number at the right of a column of 5 or 6 places, which it fits.
 fn write_column(out: &mut [u8], at: usize, width: usize, n: u64) -> usize
-    requires { ⌜ (at + 20 ≤ length (now out)) × (width ≤ 20) ⌝ }
+    requires { ⌜ (at + width ≤ length (now out)) × (length (decimal n) ≤ width) ⌝ }
     ensures same { λ r. ⌜ Written (now (out .entry)) at (column width n) (now (out .exit)) r ⌝ }
-    ensures short { λ r. ⌜ r ≤ at + 20 ⌝ }
+    ensures ends { λ r. ⌜ r ≡ at + width ⌝ }
 {
     let size = digits(n);
     let gap = left_of(width, size);
@@ -60,46 +60,30 @@ fn write_column(out: &mut [u8], at: usize, width: usize, n: u64) -> usize
 }
 
 // How many places of a bar are filled.
-fn places(n: u32) -> usize
-    requires { ⌜ n ≤ 131070 ⌝ }
-    ensures { λ r. ⌜ r ≡ filled n ⌝ }
+fn places(scale: u32, n: u32) -> usize
+    requires { ⌜ (1 ≤ scale) × (n ≤ scale) ⌝ }
+    ensures same { λ r. ⌜ r ≡ filled scale n ⌝ }
+    ensures short { λ r. ⌜ r ≤ 16 ⌝ }
 {
-    let wanted = ((n + 3) / 4) as usize;
-    if wanted < 61 {
-        return wanted;
-    }
-    61
+    let whole = scale as u64;
+    ((16 * n as u64 + whole - 1) / whole) as usize
 }
 
-// The bar of a total, of 61 places.
-fn write_bar(out: &mut [u8], at: usize, n: u32) -> usize
-    requires { ⌜ (at + 61 ≤ length (now out)) × (n ≤ 131070) ⌝ }
-    ensures same { λ r. ⌜ Written (now (out .entry)) at (bar n) (now (out .exit)) r ⌝ }
-    ensures short { λ r. ⌜ r ≤ at + 61 ⌝ }
+// The bar of a total, of 16 places.
+fn write_bar(out: &mut [u8], at: usize, scale: u32, n: u32) -> usize
+    requires { ⌜ (at + 16 ≤ length (now out)) × ((1 ≤ scale) × (n ≤ scale)) ⌝ }
+    ensures same { λ r. ⌜ Written (now (out .entry)) at (bar scale n) (now (out .exit)) r ⌝ }
+    ensures ends { λ r. ⌜ r ≡ at + 16 ⌝ }
 {
-    let full = places(n);
+    let full = places(scale, n);
     let next = write_same(out, at, b'#', full);
-    write_same(out, next, b'.', 61 - full)
+    write_same(out, next, b'.', 16 - full)
 }
 
-// One byte.
-fn write_byte(out: &mut [u8], at: usize, byte: u8) -> usize
-    requires { ⌜ at < length (now out) ⌝ }
-    ensures { λ r. ⌜ Written (now (out .entry)) at (byte ∷ []) (now (out .exit)) r ⌝ }
+fn wide_byte(x: u8) -> u64
+    ensures { λ r. ⌜ r ≡ x ⌝ }
 {
-    out[at] = byte;
-    at + 1
-}
-
-// A hexadecimal digit.
-fn hex_digit(d: u8) -> u8
-    requires { ⌜ d < 16 ⌝ }
-    ensures { λ r. ⌜ r ≡ hexDigit d ⌝ }
-{
-    if d < 10 {
-        return 48 + d;
-    }
-    87 + d
+    x as u64
 }
 
 // A blank and a byte in hexadecimal.
@@ -108,9 +92,8 @@ fn write_hex_byte(out: &mut [u8], at: usize, byte: u8) -> usize
     ensures same { λ r. ⌜ Written (now (out .entry)) at (hex (byte ∷ [])) (now (out .exit)) r ⌝ }
     ensures ends { λ r. ⌜ r ≡ at + 3 ⌝ }
 {
-    let first = write_byte(out, at, b' ');
-    let second = write_byte(out, first, hex_digit(byte / 16));
-    write_byte(out, second, hex_digit(byte % 16))
+    let next = text::write_word(out, at, b" ");
+    text::write_hex(out, next, wide_byte(byte))
 }
 
 // The first so many bytes in hexadecimal.
@@ -128,14 +111,14 @@ fn write_hex(out: &mut [u8], at: usize, bytes: &[u8], count: usize) -> usize
     next
 }
 
-// An instruction: at most 8 bytes of it.
+// An instruction: at most 4 bytes of it.
 pub fn write_instruction(out: &mut [u8], at: usize, bytes: &[u8]) -> usize
-    requires { ⌜ at + 27 ≤ length (now out) ⌝ }
+    requires { ⌜ at + 15 ≤ length (now out) ⌝ }
     ensures same { λ r. ⌜ Written (now (out .entry)) at (instruction (now (bytes .entry))) (now (out .exit)) r ⌝ }
-    ensures short { λ r. ⌜ r ≤ at + 27 ⌝ }
+    ensures short { λ r. ⌜ r ≤ at + 15 ⌝ }
 {
-    if bytes.len() > 8 {
-        let next = write_hex(out, at, bytes, 8);
+    if bytes.len() > 4 {
+        let next = write_hex(out, at, bytes, 4);
         return text::write_word(out, next, b" ..");
     }
     write_hex(out, at, bytes, bytes.len())
@@ -143,54 +126,113 @@ pub fn write_instruction(out: &mut [u8], at: usize, bytes: &[u8]) -> usize
 
 // The heights of a dead arm.
 fn write_dead(out: &mut [u8], at: usize) -> usize
-    requires { ⌜ at + 125 ≤ length (now out) ⌝ }
+    requires { ⌜ at + 35 ≤ length (now out) ⌝ }
     ensures same { λ r. ⌜ Written (now (out .entry)) at deadHeights (now (out .exit)) r ⌝ }
-    ensures short { λ r. ⌜ r ≤ at + 125 ⌝ }
+    ensures ends { λ r. ⌜ r ≡ at + 35 ⌝ }
 {
-    let a = text::write_word(out, at, b"  dead  dead  |");
-    let b = write_same(out, a, b' ', 61);
-    text::write_word(out, b, b"|     ")
+    text::write_word(out, at, b" dead dead       |                |")
 }
 
-// Main height, alt height, the bar of the total, and the total.
-fn write_live(out: &mut [u8], at: usize, main: u32, alt: u32) -> usize
-    requires { ⌜ (at + 125 ≤ length (now out)) × ((main ≤ 65535) × (alt ≤ 65535)) ⌝ }
-    ensures same { λ r. ⌜ Written (now (out .entry)) at (liveHeights main alt) (now (out .exit)) r ⌝ }
-    ensures short { λ r. ⌜ r ≤ at + 125 ⌝ }
+// Main height, alt height, the total and its bar.
+fn write_live(out: &mut [u8], at: usize, scale: u32, main: u32, alt: u32) -> usize
+    requires { ⌜ (at + 35 ≤ length (now out)) × ((main ≤ 65535) × (alt ≤ 65535)) ⌝ }
+    requires { ⌜ (1 ≤ scale) × (main + alt ≤ scale) ⌝ }
+    ensures same { λ r. ⌜ Written (now (out .entry)) at (liveHeights scale main alt) (now (out .exit)) r ⌝ }
+    ensures ends { λ r. ⌜ r ≡ at + 35 ⌝ }
 {
     let total = main + alt;
-    let a = write_column(out, at, 6, main as u64);
-    let b = write_column(out, a, 6, alt as u64);
-    let c = text::write_word(out, b, b"  |");
-    let d = write_bar(out, c, total);
-    let e = text::write_word(out, d, b"|");
-    write_column(out, e, 5, total as u64)
+    let a = write_column(out, at, 5, main as u64);
+    let b = write_column(out, a, 5, alt as u64);
+    let c = write_column(out, b, 6, total as u64);
+    let d = text::write_word(out, c, b" |");
+    let e = write_bar(out, d, scale, total);
+    text::write_word(out, e, b"|")
 }
 
 // The heights that a row of the log has.
-fn write_heights(out: &mut [u8], at: usize, main: u32, alt: u32) -> usize
-    requires { ⌜ (at + 125 ≤ length (now out)) × ((main ≤ 65535) × (alt ≤ 65535)) ⌝ }
-    ensures same { λ r. ⌜ Written (now (out .entry)) at (heights main alt) (now (out .exit)) r ⌝ }
-    ensures short { λ r. ⌜ r ≤ at + 125 ⌝ }
+fn write_heights(out: &mut [u8], at: usize, scale: u32, main: u32, alt: u32) -> usize
+    requires { ⌜ (at + 35 ≤ length (now out)) × ((main ≤ 65535) × (alt ≤ 65535)) ⌝ }
+    requires { ⌜ (1 ≤ scale) × (totalOf main alt ≤ scale) ⌝ }
+    ensures same { λ r. ⌜ Written (now (out .entry)) at (heights scale main alt) (now (out .exit)) r ⌝ }
+    ensures ends { λ r. ⌜ r ≡ at + 35 ⌝ }
 {
     if main == 65535 {
         return write_dead(out, at);
     }
-    write_live(out, at, main, alt)
+    write_live(out, at, scale, main, alt)
 }
 
-// The line of an instruction, of at most 256 bytes, written from the start on.
-fn write_row_line(out: &mut [u8], offset: u32, main: u32, alt: u32, bytes: &[u8]) -> usize
-    requires { ⌜ (256 ≤ length (now out)) × ((main ≤ 65535) × (alt ≤ 65535)) ⌝ }
+// The line of an instruction, of at most 80 characters and the newline, written from the start on.
+fn write_row_line(
+    out: &mut [u8],
+    scale: u32,
+    offset: u32,
+    main: u32,
+    alt: u32,
+    right: usize,
+    bytes: &[u8],
+) -> usize
+    requires { ⌜ (81 ≤ length (now out)) × ((main ≤ 65535) × (alt ≤ 65535)) ⌝ }
+    requires { ⌜ (1 ≤ scale) × (totalOf main alt ≤ scale) ⌝ }
+    requires { ⌜ (offset ≤ 65535) × (right ≤ 24) ⌝ }
     ensures same { λ r.
-        ⌜ Written (now (out .entry)) 0 (rowLine offset main alt (now (bytes .entry))) (now (out .exit)) r ⌝ }
-    ensures short { λ r. ⌜ r ≤ 256 ⌝ }
+        ⌜
+        Written
+        (now (out .entry))
+        0
+        (rowLine scale offset main alt right (now (bytes .entry)))
+        (now (out .exit))
+        r
+        ⌝ }
+    ensures short { λ r. ⌜ r ≤ 81 ⌝ }
 {
-    let a = write_column(out, 0, 9, offset as u64);
-    let b = write_heights(out, a, main, alt);
-    let c = text::write_word(out, b, b" ");
+    let a = write_column(out, 0, 6, offset as u64);
+    let b = write_heights(out, a, scale, main, alt);
+    let c = write_same(out, b, b' ', right);
     let d = write_instruction(out, c, bytes);
     text::write_word(out, d, b"\n")
+}
+
+// How many conditionals are open behind an instruction.
+pub fn depth_after(opcode: u8, depth: usize) -> usize
+    requires { ⌜ depth < 4294967296 ⌝ }
+    ensures same { λ r. ⌜ r ≡ depthAfter opcode depth ⌝ }
+    ensures near { λ r. ⌜ r ≤ depth + 1 ⌝ }
+{
+    if opcode == 0x63 {
+        return depth + 1;
+    }
+    if opcode == 0x64 {
+        return depth + 1;
+    }
+    if opcode == 0x68 {
+        return left_of(depth, 1);
+    }
+    depth
+}
+
+// At most 24.
+fn at_most_24(n: usize) -> usize
+    ensures same { λ r. ⌜ r ≡ min 24 n ⌝ }
+{
+    if n < 24 {
+        return n;
+    }
+    24
+}
+
+// How far an instruction stands to the right.
+fn indent(opcode: u8, depth: usize) -> usize
+    ensures same { λ r. ⌜ r ≡ indent opcode depth ⌝ }
+    ensures short { λ r. ⌜ r ≤ 24 ⌝ }
+{
+    if opcode == 0x67 {
+        return at_most_24(left_of(depth, 1));
+    }
+    if opcode == 0x68 {
+        return at_most_24(left_of(depth, 1));
+    }
+    at_most_24(depth)
 }
 
 fn wide(x: u16) -> u32
@@ -199,18 +241,125 @@ fn wide(x: u16) -> u32
     x as u32
 }
 
+// The byte at an offset, 0 where there is none.
+fn byte_at(bytes: &[u8], at: usize) -> u8
+    ensures { λ r. ⌜ r ≡ getD (now (bytes .entry)) at 0 ⌝ }
+{
+    if at < bytes.len() {
+        return bytes[at];
+    }
+    0
+}
+
+// The opcode of row j of the log.
+pub fn opcode_at(fragment: &[u8], log: &[u16], j: usize) -> u8
+    requires { ⌜ 3 * j + 3 ≤ length (now log) ⌝ }
+    ensures { λ r. ⌜ r ≡ opcodeAt (now (fragment .entry)) (now (log .entry)) j ⌝ }
+{
+    let at = wide(log[3 * j]);
+    byte_at(fragment, at as usize)
+}
+
+// The heights of row j of the log.
+pub fn main_at(log: &[u16], j: usize) -> u32
+    requires { ⌜ 3 * j + 3 ≤ length (now log) ⌝ }
+    ensures { λ r. ⌜ r ≡ mainAt (now (log .entry)) j ⌝ }
+{
+    wide(log[3 * j + 1])
+}
+
+pub fn alt_at(log: &[u16], j: usize) -> u32
+    requires { ⌜ 3 * j + 3 ≤ length (now log) ⌝ }
+    ensures { λ r. ⌜ r ≡ altAt (now (log .entry)) j ⌝ }
+{
+    wide(log[3 * j + 2])
+}
+
+// Whether an opcode is IF or NOTIF.
+pub fn is_if(opcode: u8) -> bool
+    ensures { λ r. ⌜ r ≡ isIf opcode ⌝ }
+{
+    if opcode == 0x63 {
+        return true;
+    }
+    opcode == 0x64
+}
+
 // The line of row j of the log.
-pub fn write_row(out: &mut [u8], fragment: &[u8], log: &[u16], j: usize) -> usize
-    requires { ⌜ (256 ≤ length (now out)) × (3 * j + 3 ≤ length (now log)) ⌝ }
+pub fn write_row(
+    out: &mut [u8],
+    fragment: &[u8],
+    log: &[u16],
+    scale: u32,
+    depth: usize,
+    j: usize,
+) -> usize
+    requires { ⌜ (81 ≤ length (now out)) × (3 * j + 3 ≤ length (now log)) ⌝ }
+    requires { ⌜ (1 ≤ scale) × (totalOf (mainAt (now log) j) (altAt (now log) j) ≤ scale) ⌝ }
     ensures same { λ r.
         ⌜
-        Written (now (out .entry)) 0 (row (now (fragment .entry)) (now (log .entry)) j) (now (out .exit)) r
+        Written
+        (now (out .entry))
+        0
+        (row (now (fragment .entry)) (now (log .entry)) scale depth j)
+        (now (out .exit))
+        r
         ⌝ }
-    ensures short { λ r. ⌜ r ≤ 256 ⌝ }
+    ensures short { λ r. ⌜ r ≤ 81 ⌝ }
 {
     let offset = wide(log[3 * j]);
     let main = wide(log[3 * j + 1]);
     let alt = wide(log[3 * j + 2]);
+    let right = indent(byte_at(fragment, offset as usize), depth);
     let bytes = display::display(fragment, fragment, offset as usize, 0);
-    write_row_line(out, offset, main, alt, bytes)
+    write_row_line(out, scale, offset, main, alt, right, bytes)
+}
+
+// What stands over the columns, written from the start on.
+pub fn write_heading(out: &mut [u8], scale: u32) -> usize
+    requires { ⌜ 81 ≤ length (now out) ⌝ }
+    ensures same { λ r. ⌜ Written (now (out .entry)) 0 (heading scale) (now (out .exit)) r ⌝ }
+    ensures short { λ r. ⌜ r ≤ 81 ⌝ }
+{
+    let a = text::write_word(out, 0, b"offset main  alt total |");
+    let b = text::write_labelled(out, a, b"of ", scale as u64);
+    let c = write_same(out, b, b' ', left_of(16, 3 + digits(scale as u64)));
+    text::write_word(out, c, b"| bytes\n")
+}
+
+// The total of heights.
+fn total(main: u32, alt: u32) -> u32
+    requires { ⌜ (main ≤ 65535) × (alt ≤ 65535) ⌝ }
+    ensures { λ r. ⌜ r ≡ totalOf main alt ⌝ }
+{
+    if main != 65535 {
+        return main + alt;
+    }
+    0
+}
+
+fn larger(a: u32, b: u32) -> u32
+    ensures { λ r. ⌜ r ≡ max a b ⌝ }
+{
+    if a < b {
+        return b;
+    }
+    a
+}
+
+// What a whole bar stands for, over `count` rows from row `from` on.
+pub fn scale_of(peak: u32, log: &[u16], from: usize, count: usize) -> u32
+    requires { ⌜ 3 * (from + count) ≤ length (now log) ⌝ }
+    ensures same { λ r. ⌜ r ≡ scaleOf peak (now (log .entry)) from count ⌝ }
+{
+    let mut scale = larger(8, peak);
+    let mut j = 0;
+    while j < count {
+        let row = from + j;
+        let main = wide(log[3 * row + 1]);
+        let alt = wide(log[3 * row + 2]);
+        scale = larger(scale, total(main, alt));
+        j += 1;
+    }
+    scale
 }

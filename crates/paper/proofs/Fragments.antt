@@ -28,7 +28,7 @@ module _ (R : Rules) where
   rows-end [] s = refl
   rows-end (f ∷ fs) s = refl
 
-  rows-walk : (is : List Instruction) (s : State) → answered (walk R is s) .verdict .rows ≤ s .rows + length is
+  pub rows-walk : (is : List Instruction) (s : State) → answered (walk R is s) .verdict .rows ≤ s .rows + length is
   unfolding walk
   rows-walk [] s = omega (arith, rows-end (s .frames) s)
   rows-walk (i ∷ is) s = by (λ t. rows-walk is t) (effect R i (R .classFor (i .opcode)) (s .arm) (s .frames))

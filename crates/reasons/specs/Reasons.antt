@@ -5,10 +5,15 @@ use Prim.Native.String.{String}
 use lib.ListN.{getD}
 use Rattle.definition.specs.Basics.{Bytes}
 use Rattle.definition.specs.Lines.{text, labelled}
+use Rattle.text.specs.Hex.{hexByte}
 
 -- a word with both figures
 abbrev pub both : String → ℕ → String → ℕ → Bytes
 both word first and second = labelled word first ++ labelled and second
+
+-- a word with an opcode, in hexadecimal
+abbrev pub ofOpcode : String → ℕ → Bytes
+ofOpcode word opcode = text word ++ hexByte opcode
 
 -- the word of each number with its figures, from 0 on
 abbrev pub reasons : ℕ → ℕ → List Bytes
@@ -24,7 +29,7 @@ reasons first second =
     ∷ text "alt dry"
     ∷ text "index"
     ∷ text "tag"
-    ∷ labelled "unmodelled: opcode " first
+    ∷ ofOpcode "unmodelled: opcode " first
     ∷ text "arms differ"
     ∷ text "stray ELSE"
     ∷ text "second ELSE"

@@ -4,6 +4,7 @@ ghost use mathlib.Core.List.{_++_};
 ghost use Prim.Native.Nat.{_+_, _≤_};
 ghost use lib.ListN.{length};
 ghost use Rattle.definition.specs.Lines.{decimal};
+ghost use Rattle.text.specs.Hex.{hexByte};
 ghost use Rattle.text.specs.View.{Written};
 ghost use Rattle.reasons.specs.Reasons.{reason};
 
@@ -23,6 +24,17 @@ fn write_both(out: &mut [u8], at: usize, word: &[u8], first: u64, and: &[u8], se
 {
     let next = text::write_labelled(out, at, word, first);
     text::write_labelled(out, next, and, second)
+}
+
+// A word with an opcode, in hexadecimal.
+fn write_opcode(out: &mut [u8], at: usize, word: &[u8], opcode: u64) -> usize
+    requires { ⌜ at + length (now word) + 2 ≤ length (now out) ⌝ }
+    ensures same { λ r.
+        ⌜ Written (now (out .entry)) at (now (word .entry) ++ hexByte opcode) (now (out .exit)) r ⌝ }
+    ensures short { λ r. ⌜ r ≤ at + length (now (word .entry)) + 2 ⌝ }
+{
+    let next = text::write_word(out, at, word);
+    text::write_hex(out, next, opcode)
 }
 
 // The word of a number with its figures: document 01, section 7. From 0 to 5, to 11, to 17 and to 22.
@@ -66,7 +78,7 @@ fn write_reason_6(out: &mut [u8], at: usize, number: u32, first: u64, second: u6
         8 => text::write_word(out, at, b"alt dry"),
         9 => text::write_word(out, at, b"index"),
         10 => text::write_word(out, at, b"tag"),
-        _ => text::write_labelled(out, at, b"unmodelled: opcode ", first),
+        _ => write_opcode(out, at, b"unmodelled: opcode ", first),
     }
 }
 

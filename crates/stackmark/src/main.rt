@@ -17,12 +17,19 @@ fn marked(input: &[u8]) -> Lines
     lines::mark_lines(input, &mut log)
 }
 
-// Reads until 8,001 bytes are held, the input ends or a read fails, however few bytes a read gives.
+// A read or a write that fails is said on standard error, and is no verdict.
 fn main() {
-    let mut input = [0u8; 8001];
-    let n = io::read_full(0, &mut input);
-    let l = marked(&input[..n]);
+    let mut paper = [0u8; 8001];
+    let i = input::read_input(&mut paper);
+    if i.failed {
+        io::write_all(2, b"stackmark: cannot read standard input\n");
+        return;
+    }
+    let n = i.size;
+    let l = marked(&paper[..n]);
     let bytes = l.bytes;
     let size = l.size;
-    io::write_all(1, &bytes[..size]);
+    if !io::write_all(1, &bytes[..size]) {
+        io::write_all(2, b"stackmark: cannot write to standard output\n");
+    }
 }

@@ -10,6 +10,7 @@ use lib.ListN.{length, take, drop, set, getD, length-append, length-take, length
 use lib.Seq.{paste, paste-zero, paste-suc, take-at, drop-append-add, drop-drop, take-length, set-split, length-take-le}
 use Rattle.definition.specs.Basics.{Bytes, pick}
 use Rattle.definition.specs.Lines.{decimalWithin, decimal}
+use Rattle.text.specs.Hex.{hexDigit, hexByte}
 use Rattle.text.specs.View.{placed, Written}
 
 -- a text by another name
@@ -95,7 +96,7 @@ decimal-more (suc n) h =
     ∙ ap (λ (t : Bytes). t ++ ((48 + suc n % 10) ∷ [])) (enough n (suc n / 10) (suc n / 10) (omega arith) (omega arith))
 
 -- how many digits
-decimal-length : (k n : ℕ) → n < 10 ^ suc k → length (decimal n) ≤ suc k
+pub decimal-length : (k n : ℕ) → n < 10 ^ suc k → length (decimal n) ≤ suc k
 decimal-length zero n h = omega (arith, ap length (decimal-one n (omega arith)))
 decimal-length (suc k) n h = by (λ l. decimal-length k (n / 10) l) (ltb n 10) refl
   where
@@ -123,3 +124,16 @@ module _ (n : ℕ) where
   pub number-more : {lent : Bytes} {at : ℕ} {mid : Bytes} {between : ℕ} {new : Bytes} {next : ℕ} → 10 ≤ n → at ≤ length lent
       → Written lent at (decimal (n / 10)) mid between → Written mid between ((48 + n % 10) ∷ []) new next → Written lent at (decimal n) new next
   number-more {lent} {at} {mid} {between} {new} {next} h l w v = subst (λ (t : Bytes). Written lent at t new next) (sym (decimal-more n h)) (then-written l w v)
+
+-- Bytes in hexadecimal
+
+pub digit-low : (d : ℕ) → d < 10 → 48 + d ≡ hexDigit d
+digit-low d h = rw (lt-ltb d 10 h)
+
+pub digit-high : (d : ℕ) → 10 ≤ d → 87 + d ≡ hexDigit d
+digit-high d h = rw (le-ltb d 10 h)
+
+pub hex-written : {lent : Bytes} {at : ℕ} {new : Bytes} {next : ℕ} {d e : ℕ} (n : ℕ) → d ≡ hexDigit (n / 16 % 16)
+    → e ≡ hexDigit (n % 16) → Written lent at ((d ∷ []) ++ (e ∷ [])) new next → Written lent at (hexByte n) new next
+hex-written {lent} {at} {new} {next} {d} {e} n p q w =
+    written-as (ap (λ x. x ∷ e ∷ []) p ∙ ap (λ x. hexDigit (n / 16 % 16) ∷ x ∷ []) q) w

@@ -1,8 +1,10 @@
 // Words and numbers written into lent bytes: each from an index on; the answer is the index after it.
 ghost use mathlib.Core.List.{[], _∷_, _++_};
+ghost use mathlib.Core.Path.{_≡_};
 ghost use Prim.Native.Nat.{_+_, _≤_, _<_};
 ghost use lib.ListN.{length};
 ghost use Rattle.definition.specs.Lines.{decimal};
+ghost use Rattle.text.specs.Hex.{hexDigit, hexByte};
 ghost use Rattle.text.specs.View.{Written};
 
 // A word, byte by byte.
@@ -47,4 +49,34 @@ pub fn write_labelled(out: &mut [u8], at: usize, word: &[u8], n: u64) -> usize
 {
     let next = write_word(out, at, word);
     write_number(out, next, n)
+}
+
+// One byte.
+fn write_byte(out: &mut [u8], at: usize, byte: u8) -> usize
+    requires { ⌜ at < length (now out) ⌝ }
+    ensures { λ r. ⌜ Written (now (out .entry)) at (byte ∷ []) (now (out .exit)) r ⌝ }
+{
+    out[at] = byte;
+    at + 1
+}
+
+// A hexadecimal digit.
+fn hex_digit(d: u64) -> u8
+    requires { ⌜ d < 16 ⌝ }
+    ensures { λ r. ⌜ r ≡ hexDigit d ⌝ }
+{
+    if d < 10 {
+        return 48 + d as u8;
+    }
+    87 + d as u8
+}
+
+// A byte in hexadecimal.
+pub fn write_hex(out: &mut [u8], at: usize, n: u64) -> usize
+    requires { ⌜ at + 2 ≤ length (now out) ⌝ }
+    ensures same { λ r. ⌜ Written (now (out .entry)) at (hexByte n) (now (out .exit)) r ⌝ }
+    ensures ends { λ r. ⌜ r ≡ at + 2 ⌝ }
+{
+    let next = write_byte(out, at, hex_digit(n / 16 % 16));
+    write_byte(out, next, hex_digit(n % 16))
 }

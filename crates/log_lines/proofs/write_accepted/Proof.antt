@@ -1,9 +1,7 @@
-use borrow.Author.Needs.{needs}
-use native.Mathlib.Omega.{arith}
-use Prim.Native.Nat.{_≤_}
-use lib.ListN.{length}
-use Rattle.text.proofs.Texts.{then-written}
 use Rattle.log_lines.specs.Log.{acceptedLine}
+use native.Mathlib.Omega.{arith}
+use Rattle.text.proofs.Texts.{then-written}
+use borrow.Author.Needs.{needs}
 use Rattle.log_lines.proofs.write_accepted.Statement.{statement}
 use Rattle.log_lines.proofs.write_accepted.Tie as tie
 
@@ -30,11 +28,9 @@ unfolding acceptedLine
 returns c =
     let d = c .before .before in
     let b = d .before .before .before .before .before in
-    let a = b .before .before .before .before in
-    let s = a .before .before .before .before in (
-      then-written (omega arith) (then-written (omega arith) (a .write-labelled .ensures .0) (b .write-ending .ensures .0))
-          (d .write-word .ensures),
-      omega (arith, a .write-labelled .ensures .1, b .write-ending .ensures .1, d .write-word .ensures .ends, s .pre),
+    let a = b .before .before .before .before in (
+      then-written (omega arith) (then-written (omega arith) (a .write-labelled .ensures .0) (b .write-ending .ensures .0)) (d .write-word .ensures),
+      omega (arith, a .write-labelled .ensures .1, b .write-ending .ensures .1, d .write-word .ensures .ends),
     )
 
 pub write-accepted-spec : {M : Type 1} → statement M

@@ -1,9 +1,7 @@
-use borrow.Author.Needs.{needs}
 use native.Mathlib.Omega.{arith}
-use Prim.Native.Nat.{_≤_}
-use lib.ListN.{length}
 use Rattle.text.proofs.Texts.{then-written}
-use Rattle.log_lines.specs.Log.{dispatchLine}
+use Rattle.log_lines.proofs.Texts.{dispatch-written}
+use borrow.Author.Needs.{needs}
 use Rattle.log_lines.proofs.write_dispatch.Statement.{statement}
 use Rattle.log_lines.proofs.write_dispatch.Tie as tie
 
@@ -32,23 +30,16 @@ same-length : tie.Need-same-length
 same-length c = search needs
 
 returns : tie.Need-returns
-unfolding dispatchLine
 returns c =
     let e = c .before .before in
     let d = e .before .before .before .before .before in
     let b = d .before .before .before .before in
     let a = b .before .before .before .before .before in
     let s = a .before .before .before .before in (
-      then-written (omega arith) (then-written (omega arith) (then-written (omega arith) (a .write-labelled .ensures .0)
-          (b .write-word .ensures)) (d .write-refusal .ensures .0)) (e .write-word2 .ensures),
-      omega (
-        arith,
-        a .write-labelled .ensures .1,
-        b .write-word .ensures .ends,
-        d .write-refusal .ensures .1,
-        e .write-word2 .ensures .ends,
-        s .pre,
-      ),
+      dispatch-written (s .args .entry) (s .args .sum) (s .args .limit)
+          (then-written (omega arith) (then-written (omega arith) (then-written (omega arith) (a .write-labelled .ensures .0)
+          (b .write-word .ensures)) (d .write-refusal .ensures .0)) (e .write-word2 .ensures)),
+      omega (arith, a .write-labelled .ensures .1, b .write-word .ensures .ends, d .write-refusal .ensures .1, e .write-word2 .ensures .ends),
     )
 
 pub write-dispatch-spec : {M : Type 1} → statement M

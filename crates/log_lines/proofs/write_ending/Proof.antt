@@ -1,6 +1,6 @@
-use borrow.Author.Needs.{needs}
 use native.Mathlib.Omega.{arith}
 use Rattle.log_lines.proofs.Texts.{ending-some, ending-none}
+use borrow.Author.Needs.{needs}
 use Rattle.log_lines.proofs.write_ending.Statement.{statement}
 use Rattle.log_lines.proofs.write_ending.Tie as tie
 
@@ -25,7 +25,8 @@ returns c =
     let a = b .before .before .before .before .before in
     let i = a .before .before .before in
     let s = i .before .before in (
-      ending-some _ _ _ (i .if1 .taken) (omega (arith, s .pre)) (a .write-labelled .ensures .0) (b .write-labelled2 .ensures .0),
+      ending-some (s .args .main) (s .args .alt) (s .args .ended) (i .if1 .taken) (omega (arith, s .pre)) (a .write-labelled .ensures .0)
+          (b .write-labelled2 .ensures .0),
       omega (arith, a .write-labelled .ensures .1, b .write-labelled2 .ensures .1),
     )
 
@@ -41,8 +42,9 @@ same-length-2 c = search needs
 returns-2 : tie.Need-returns-2
 returns-2 c =
     let a = c .before .before in
-    let i = a .before .before .before in (
-      ending-none _ _ _ (i .if1 .left) (a .write-word .ensures),
+    let i = a .before .before .before in
+    let s = i .before .before in (
+      ending-none (s .args .main) (s .args .alt) (s .args .ended) (i .if1 .left) (a .write-word .ensures),
       omega (arith, a .write-word .ensures .ends),
     )
 

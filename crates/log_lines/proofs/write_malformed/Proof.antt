@@ -1,9 +1,7 @@
-use borrow.Author.Needs.{needs}
 use native.Mathlib.Omega.{arith}
-use Prim.Native.Nat.{_≤_}
-use lib.ListN.{length}
 use Rattle.text.proofs.Texts.{then-written}
-use Rattle.log_lines.specs.Log.{malformedLine}
+use Rattle.log_lines.proofs.Texts.{malformed-written}
+use borrow.Author.Needs.{needs}
 use Rattle.log_lines.proofs.write_malformed.Statement.{statement}
 use Rattle.log_lines.proofs.write_malformed.Tie as tie
 
@@ -35,25 +33,24 @@ same-length : tie.Need-same-length
 same-length c = search needs
 
 returns : tie.Need-returns
-unfolding malformedLine
 returns c =
-    let f = c .before .before in
-    let e = f .before .before .before .before .before in
+    let g = c .before .before in
+    let e = g .before .before .before .before .before in
     let d = e .before .before .before .before in
     let b = d .before .before .before .before .before in
     let a = b .before .before .before .before .before in
     let s = a .before .before .before .before in (
-      then-written (omega arith) (then-written (omega arith) (then-written (omega arith)
-          (then-written (omega arith) (a .write-refusal .ensures .0) (b .write-labelled .ensures .0)) (d .write-word .ensures))
-          (e .write-instruction .ensures .0)) (f .write-word2 .ensures),
+      malformed-written (s .args .offset) (s .args .bytes .now)
+          (then-written (omega arith) (then-written (omega arith) (then-written (omega arith) (then-written (omega arith)
+          (a .write-refusal .ensures .0) (b .write-labelled .ensures .0)) (d .write-word .ensures)) (e .write-instruction .ensures .0))
+          (g .write-word2 .ensures)),
       omega (
         arith,
         a .write-refusal .ensures .1,
         b .write-labelled .ensures .1,
         d .write-word .ensures .ends,
         e .write-instruction .ensures .1,
-        f .write-word2 .ensures .ends,
-        s .pre,
+        g .write-word2 .ensures .ends,
       ),
     )
 

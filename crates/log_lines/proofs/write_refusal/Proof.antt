@@ -1,9 +1,9 @@
-use borrow.Author.Needs.{needs}
 use native.Mathlib.Omega.{arith}
 use Prim.Native.Nat.{_≤_}
 use lib.ListN.{length}
 use Rattle.text.proofs.Texts.{then-written}
 use Rattle.log_lines.specs.Log.{refusal}
+use borrow.Author.Needs.{needs}
 use Rattle.log_lines.proofs.write_refusal.Statement.{statement}
 use Rattle.log_lines.proofs.write_refusal.Tie as tie
 
@@ -33,9 +33,8 @@ returns c =
     let a = b .before .before .before .before .before in
     let s = a .before .before .before .before in
     let room : s .args .at ≤ length (s .args .out .now) = omega (arith, s .pre) in (
-      then-written room (then-written room (a .write-labelled .ensures .0) (b .write-word .ensures))
-          (d .write-reason .ensures .0),
-      omega (arith, a .write-labelled .ensures .1, b .write-word .ensures .ends, d .write-reason .ensures .1, s .pre),
+      then-written room (then-written room (a .write-labelled .ensures .0) (b .write-word .ensures)) (d .write-reason .ensures .0),
+      omega (arith, a .write-labelled .ensures .1, b .write-word .ensures .ends, d .write-reason .ensures .1),
     )
 
 pub write-refusal-spec : {M : Type 1} → statement M

@@ -1,9 +1,7 @@
-use borrow.Author.Needs.{needs}
 use native.Mathlib.Omega.{arith}
-use Prim.Native.Nat.{_≤_}
-use lib.ListN.{length}
 use Rattle.text.proofs.Texts.{then-written}
-use Rattle.log_lines.specs.Log.{refusalLine}
+use Rattle.log_lines.proofs.Texts.{refusal-alone}
+use borrow.Author.Needs.{needs}
 use Rattle.log_lines.proofs.write_refusal_line.Statement.{statement}
 use Rattle.log_lines.proofs.write_refusal_line.Tie as tie
 
@@ -23,14 +21,13 @@ same-length : tie.Need-same-length
 same-length c = search needs
 
 returns : tie.Need-returns
-unfolding refusalLine
 returns c =
     let d = c .before .before in
     let b = d .before .before .before .before .before in
     let a = b .before .before .before .before in
     let s = a .before .before .before .before in (
-      then-written (omega arith) (then-written (omega arith) (a .write-word .ensures) (b .write-refusal .ensures .0))
-          (d .write-word2 .ensures),
+      refusal-alone (s .args .lead .now) (s .args .number) (s .args .first) (s .args .second)
+          (then-written (omega arith) (then-written (omega arith) (a .write-word .ensures) (b .write-refusal .ensures .0)) (d .write-word2 .ensures)),
       omega (arith, a .write-word .ensures .ends, b .write-refusal .ensures .1, d .write-word2 .ensures .ends, s .pre),
     )
 

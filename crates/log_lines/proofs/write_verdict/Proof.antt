@@ -1,6 +1,6 @@
-use borrow.Author.Needs.{needs}
 use native.Mathlib.Omega.{arith}
-use Rattle.log_lines.proofs.Texts.{verdict-accepted, verdict-malformed, verdict-before, verdict-walk}
+use Rattle.log_lines.proofs.Verdicts.{verdict-accepted, verdict-malformed, verdict-before, verdict-arms, verdict-walk}
+use borrow.Author.Needs.{needs}
 use Rattle.log_lines.proofs.write_verdict.Statement.{statement}
 use Rattle.log_lines.proofs.write_verdict.Tie as tie
 
@@ -14,10 +14,8 @@ returns : tie.Need-returns
 returns c =
     let w = c .before .before in
     let i = w .before .before in
-    let s = i .before .before .before .before in (
-      verdict-accepted (s .args .fragment .now) (s .args .v) (i .if1 .taken) (w .write-accepted .ensures .0),
-      w .write-accepted .ensures .1,
-    )
+    let s = i .before .before .before .before .before in
+    (verdict-accepted (s .args .fragment .now) (s .args .log .now) (s .args .from) (s .args .t) (i .if1 .taken) (w .write-accepted .ensures .0), w .write-accepted .ensures .1)
 
 display-requires : tie.Need-display-requires
 display-requires c κs = search needs
@@ -34,9 +32,8 @@ returns-2 c =
     let d = w .before .before in
     let j = d .before in
     let i = j .before .before in
-    let s = i .before .before .before .before in (
-      verdict-malformed (s .args .fragment .now) (s .args .v) (i .if1 .left) (j .if2 .taken) (d .display .ensures)
-          (w .write-malformed .ensures .0),
+    let s = i .before .before .before .before .before in (
+      verdict-malformed (s .args .fragment .now) (s .args .log .now) (s .args .from) (s .args .t) (i .if1 .left) (j .if2 .taken) (d .display .ensures) (w .write-malformed .ensures .0),
       w .write-malformed .ensures .1,
     )
 
@@ -55,10 +52,30 @@ returns-3 c =
     let k = w .before .before .before in
     let j = k .before .before in
     let i = j .before .before in
-    let s = i .before .before .before .before in (
-      verdict-before (s .args .fragment .now) (s .args .v) (i .if1 .left) (j .if2 .left) (k .if3 .taken)
-          (w .write-refusal-line .ensures .0),
+    let s = i .before .before .before .before .before in (
+      verdict-before (s .args .fragment .now) (s .args .log .now) (s .args .from) (s .args .t) (i .if1 .left) (j .if2 .left) (k .if3 .taken) (w .write-refusal-line .ensures .0),
       w .write-refusal-line .ensures .1,
+    )
+
+sub-write-differ : tie.Need-sub-write-differ
+sub-write-differ c = search needs
+
+write-differ-requires : tie.Need-write-differ-requires
+write-differ-requires c κs = search needs
+
+same-length-4 : tie.Need-same-length-4
+same-length-4 c = search needs
+
+returns-4 : tie.Need-returns-4
+returns-4 c =
+    let w = c .before .before in
+    let l = w .before .before .before in
+    let k = l .before .before in
+    let j = k .before .before in
+    let i = j .before .before in
+    let s = i .before .before .before .before .before in (
+      verdict-arms (s .args .fragment .now) (s .args .log .now) (s .args .from) (s .args .t) (i .if1 .left) (j .if2 .left) (k .if3 .left) (l .if4 .taken) (w .write-differ .ensures .0),
+      w .write-differ .ensures .1,
     )
 
 slice-aggregate-write-refusal-line-2 : tie.Need-slice-aggregate-write-refusal-line-2
@@ -67,18 +84,18 @@ slice-aggregate-write-refusal-line-2 c = search needs
 write-refusal-line-requires-2 : tie.Need-write-refusal-line-requires-2
 write-refusal-line-requires-2 c κs = search needs
 
-same-length-4 : tie.Need-same-length-4
-same-length-4 c = search needs
+same-length-5 : tie.Need-same-length-5
+same-length-5 c = search needs
 
-returns-4 : tie.Need-returns-4
-returns-4 c =
+returns-5 : tie.Need-returns-5
+returns-5 c =
     let w = c .before .before in
-    let k = w .before .before .before in
+    let l = w .before .before .before in
+    let k = l .before .before in
     let j = k .before .before in
     let i = j .before .before in
-    let s = i .before .before .before .before in (
-      verdict-walk (s .args .fragment .now) (s .args .v) (i .if1 .left) (j .if2 .left) (k .if3 .left)
-          (w .write-refusal-line2 .ensures .0),
+    let s = i .before .before .before .before .before in (
+      verdict-walk (s .args .fragment .now) (s .args .log .now) (s .args .from) (s .args .t) (i .if1 .left) (j .if2 .left) (k .if3 .left) (l .if4 .left) (w .write-refusal-line2 .ensures .0),
       w .write-refusal-line2 .ensures .1,
     )
 
@@ -97,7 +114,11 @@ write-verdict-spec =
     write-refusal-line-requires
     same-length-3
     returns-3
+    sub-write-differ
+    write-differ-requires
+    same-length-4
+    returns-4
     slice-aggregate-write-refusal-line-2
     write-refusal-line-requires-2
-    same-length-4
-    returns-4)
+    same-length-5
+    returns-5)

@@ -1,6 +1,6 @@
-use borrow.Author.Needs.{needs}
 use native.Mathlib.Omega.{arith}
 use Rattle.log_rows.proofs.Texts.{bar-written}
+use borrow.Author.Needs.{needs}
 use Rattle.log_rows.proofs.write_bar.Statement.{statement}
 use Rattle.log_rows.proofs.write_bar.Tie as tie
 
@@ -25,9 +25,9 @@ returns c =
     let w = n .before .before .before .before in
     let p = w .before .before in
     let s = p .before .before in (
-      bar-written (s .args .n) (p .places .ensures) (omega (arith, s .pre)) (w .write-same .ensures .0)
+      bar-written (s .args .scale) (s .args .n) (p .places .ensures .0) (omega (arith, s .pre)) (w .write-same .ensures .0)
           (n .write-same2 .ensures .0),
-      omega (arith, n .write-same2 .ensures .1, w .write-same .ensures .1, p .places .ensures),
+      omega (arith, n .write-same2 .ensures .1, w .write-same .ensures .1, p .places .ensures .1),
     )
 
 pub write-bar-spec : {M : Type 1} → statement M

@@ -1,6 +1,6 @@
-use borrow.Author.Needs.{needs}
 use native.Mathlib.Omega.{arith}
 use Rattle.log_rows.proofs.Texts.{column-written}
+use borrow.Author.Needs.{needs}
 use Rattle.log_rows.proofs.write_column.Statement.{statement}
 use Rattle.log_rows.proofs.write_column.Tie as tie
 
@@ -34,7 +34,6 @@ returns c =
         w .write-same .ensures .1,
         l .left-of .ensures,
         d .digits .ensures .0,
-        d .digits .ensures .1,
         s .pre,
       ),
     )

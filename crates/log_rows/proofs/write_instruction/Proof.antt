@@ -1,6 +1,6 @@
-use borrow.Author.Needs.{needs}
 use native.Mathlib.Omega.{arith}
 use Rattle.log_rows.proofs.Texts.{instruction-long, instruction-whole}
+use borrow.Author.Needs.{needs}
 use Rattle.log_rows.proofs.write_instruction.Statement.{statement}
 use Rattle.log_rows.proofs.write_instruction.Tie as tie
 

@@ -1,6 +1,6 @@
-use borrow.Author.Needs.{needs}
 use native.Mathlib.Omega.{arith}
-use Rattle.log_rows.proofs.Texts.{row-written}
+use Rattle.log_rows.proofs.Rows.{row-written, total-within}
+use borrow.Author.Needs.{needs}
 use Rattle.log_rows.proofs.write_row.Statement.{statement}
 use Rattle.log_rows.proofs.write_row.Tie as tie
 
@@ -46,6 +46,15 @@ shared-slice-read-wide-3 c = search needs
 wide-requires-3 : tie.Need-wide-requires-3
 wide-requires-3 c κs = search needs
 
+cast-byte-at : tie.Need-cast-byte-at
+cast-byte-at c = search needs
+
+byte-at-requires : tie.Need-byte-at-requires
+byte-at-requires c κs = search needs
+
+indent-requires : tie.Need-indent-requires
+indent-requires c κs = search needs
+
 cast-display : tie.Need-cast-display
 cast-display c = search needs
 
@@ -53,7 +62,18 @@ display-requires : tie.Need-display-requires
 display-requires c κs = search needs
 
 write-row-line-requires : tie.Need-write-row-line-requires
-write-row-line-requires c κs = search needs
+write-row-line-requires c κs =
+    let r = c .before .before in
+    let a = r .before .before in
+    let m = a .before .before in
+    let o = m .before .before in
+    let s = o .before .before .before .before .before in (
+      (s .pre .0 .0, (m .wide2 .ensures .1, a .wide3 .ensures .1)),
+      (
+        (s .pre .1 .0, total-within (s .args .log .now) (s .args .scale) (s .args .j) (m .wide2 .ensures .0) (a .wide3 .ensures .0) (s .pre .1 .1)),
+        (o .wide .ensures .1, r .indent .ensures .1),
+      ),
+    )
 
 same-length : tie.Need-same-length
 same-length c = search needs
@@ -62,10 +82,14 @@ returns : tie.Need-returns
 returns c =
     let w = c .before .before in
     let d = w .before .before in
-    let a = d .before in
+    let r = d .before in
+    let b = r .before in
+    let a = b .before in
     let m = a .before .before in
-    let o = m .before .before in (
-      row-written _ _ _ (o .wide .ensures .0) (m .wide2 .ensures .0) (a .wide3 .ensures .0) (d .display .ensures)
+    let o = m .before .before in
+    let s = o .before .before .before .before .before in (
+      row-written (s .args .fragment .now) (s .args .log .now) (s .args .scale) (s .args .depth) (s .args .j) (o .wide .ensures .0)
+          (m .wide2 .ensures .0) (a .wide3 .ensures .0) (b .byte-at .ensures) (r .indent .ensures .0) (d .display .ensures)
           (w .write-row-line .ensures .0),
       w .write-row-line .ensures .1,
     )
@@ -88,6 +112,9 @@ write-row-spec =
     mul-wide-6
     shared-slice-read-wide-3
     wide-requires-3
+    cast-byte-at
+    byte-at-requires
+    indent-requires
     cast-display
     display-requires
     write-row-line-requires

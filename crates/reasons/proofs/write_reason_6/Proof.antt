@@ -41,11 +41,11 @@ slice-aggregate-write-word-3 c = search needs
 write-word-requires-3 : tie.Need-write-word-requires-3
 write-word-requires-3 c κs = search needs
 
-slice-aggregate-write-labelled : tie.Need-slice-aggregate-write-labelled
-slice-aggregate-write-labelled c = search needs
+slice-aggregate-write-opcode : tie.Need-slice-aggregate-write-opcode
+slice-aggregate-write-opcode c = search needs
 
-write-labelled-requires : tie.Need-write-labelled-requires
-write-labelled-requires c κs = search needs
+write-opcode-requires : tie.Need-write-opcode-requires
+write-opcode-requires c κs = search needs
 
 same-length : tie.Need-same-length
 same-length c = search needs
@@ -130,8 +130,8 @@ returns-6 c =
             m .match .rest .0 .0 .1,
             m .match .rest .0 .0 .0 .1,
             m .match .rest .0 .0 .0 .0 .1,
-          )) (w .write-labelled .ensures .0),
-      omega (arith, w .write-labelled .ensures .1),
+          )) (w .write-opcode .ensures .0),
+      omega (arith, w .write-opcode .ensures .1),
     )
 
 pub write-reason-6-spec : {M : Type 1} → statement M
@@ -150,8 +150,8 @@ write-reason-6-spec =
     write-word-requires-2
     slice-aggregate-write-word-3
     write-word-requires-3
-    slice-aggregate-write-labelled
-    write-labelled-requires
+    slice-aggregate-write-opcode
+    write-opcode-requires
     same-length
     returns
     same-length-2

@@ -1,0 +1,125 @@
+-- Laws of the rows: what a bar stands for, how far an instruction stands to the right, the line of a row.
+use mathlib.Core.List.{List, _++_}
+use mathlib.Core.Logic.{_↔_}
+use mathlib.Core.Path.{_≡_, refl, sym, ap, _∙_}
+use Prim.Native.Nat.{ℕ, zero, suc, _+_, _-_, _*_, _/_, _≤_, _<_, min, max}
+use native.Mathlib.Nat.{div-lt-iff-lt-mul}
+use native.Mathlib.Omega.{arith}
+use borrow.Author.Tests.{eq-eqb, ne-eqb}
+use lib.ListN.{length, getD, replicate, length-append}
+use Rattle.definition.specs.Basics.{Bytes}
+use Rattle.definition.specs.Lines.{text, decimal, labelled}
+use Rattle.definition.specs.Papers.{display}
+use Rattle.text.specs.View.{Written}
+use Rattle.text.proofs.Texts.{written-as, then-written, decimal-length}
+use Rattle.log_rows.specs.Rows.{opcodeAt, offsetAt, mainAt, altAt, totalOf, greatest, scaleOf, filled, depthAfter, indent, heading, rowLine, row}
+
+-- a bar has 16 places
+
+pub filled-16 : (scale n : ℕ) → 1 ≤ scale → n ≤ scale → filled scale n ≤ 16
+filled-16 scale n h l =
+    let d : (16 * n + scale - 1) / scale < 17 = div-lt-iff-lt-mul h .1 (omega arith) in
+    omega (arith, d)
+
+-- how many digits stand in a column
+
+pub digits-5 : (n : ℕ) → n ≤ 65535 → length (decimal n) ≤ 5
+digits-5 n h = decimal-length 4 n (omega arith)
+
+pub digits-6 : (n : ℕ) → n ≤ 131070 → length (decimal n) ≤ 6
+digits-6 n h = decimal-length 5 n (omega arith)
+
+-- what a whole bar stands for: the rows before `from + j` are seen
+
+module _ (peak : ℕ) (log : List ℕ) (from count : ℕ) where
+  abbrev pub Scaling : ℕ → ℕ → Type 0
+  Scaling scale j = max scale (greatest log (from + j) (count - j)) ≡ scaleOf peak log from count
+
+  pub scaling-none : (scale : ℕ) → scale ≡ max 8 peak → Scaling scale 0
+  scaling-none scale e =
+      let f : from + 0 ≡ from = omega arith in
+      let g : count - 0 ≡ count = omega arith in
+      rw (e, f, g)
+
+  pub scaling-more : (scale j row main alt total scale′ : ℕ) → Scaling scale j → j < count → row ≡ from + j → main ≡ mainAt log row
+      → alt ≡ altAt log row → total ≡ totalOf main alt → scale′ ≡ max scale total → Scaling scale′ (j + 1)
+  scaling-more scale j row main alt total scale′ i h r m a t s =
+      let e : count - j ≡ suc (count - (j + 1)) = omega arith in
+      let f : from + j + 1 ≡ from + (j + 1) = omega arith in
+      let g : greatest log (from + j) (count - j) ≡ max total (greatest log (from + (j + 1)) (count - (j + 1))) =
+      ap (greatest log (from + j)) e
+      ∙ ap (λ x. max (totalOf (mainAt log (from + j)) (altAt log (from + j))) (greatest log x (count - (j + 1)))) f
+      ∙ ap (λ x. max x (greatest log (from + (j + 1)) (count - (j + 1)))) (sym (t ∙ rw (m, a, r))) in
+      omega (arith, i, g, s)
+
+  pub scaling-end : (scale j : ℕ) → Scaling scale j → count ≤ j → scale ≡ scaleOf peak log from count
+  scaling-end scale j i h =
+      let e : count - j ≡ 0 = omega arith in
+      let g : greatest log (from + j) (count - j) ≡ 0 = ap (greatest log (from + j)) e in
+      omega (arith, i, g)
+
+-- conditionals
+
+module _ (opcode depth : ℕ) where
+  pub depth-if : opcode ≡ 0x63 → depth + 1 ≡ depthAfter opcode depth
+  unfolding depthAfter
+  depth-if e = rw (eq-eqb opcode 0x63 e)
+
+  pub right-else : (less : ℕ) → opcode ≡ 0x67 → less ≡ depth - 1 → min 24 less ≡ indent opcode depth
+  unfolding indent
+  right-else less e l = rw (eq-eqb opcode 0x67 e, l)
+
+  module _ (no : opcode ≡ 0x63 → ⊥) where
+    pub depth-notif : opcode ≡ 0x64 → depth + 1 ≡ depthAfter opcode depth
+    unfolding depthAfter
+    depth-notif e = rw (ne-eqb opcode 0x63 no, eq-eqb opcode 0x64 e)
+
+    module _ (no′ : opcode ≡ 0x64 → ⊥) where
+      pub depth-endif : opcode ≡ 0x68 → depth - 1 ≡ depthAfter opcode depth
+      unfolding depthAfter
+      depth-endif e = rw (ne-eqb opcode 0x63 no, ne-eqb opcode 0x64 no′, eq-eqb opcode 0x68 e)
+
+      pub depth-same : (opcode ≡ 0x68 → ⊥) → depth ≡ depthAfter opcode depth
+      unfolding depthAfter
+      depth-same e = rw (ne-eqb opcode 0x63 no, ne-eqb opcode 0x64 no′, ne-eqb opcode 0x68 e)
+
+  module _ (no : opcode ≡ 0x67 → ⊥) where
+    pub right-endif : (less : ℕ) → opcode ≡ 0x68 → less ≡ depth - 1 → min 24 less ≡ indent opcode depth
+    unfolding indent
+    right-endif less e l = rw (ne-eqb opcode 0x67 no, eq-eqb opcode 0x68 e, l)
+
+    pub right-other : (opcode ≡ 0x68 → ⊥) → min 24 depth ≡ indent opcode depth
+    unfolding indent
+    right-other e = rw (ne-eqb opcode 0x67 no, ne-eqb opcode 0x68 e)
+
+-- the line of a row; the heading
+
+pub row-written : {lent : Bytes} {new : Bytes} {next : ℕ} {offset main alt opcode right : ℕ} {bytes : Bytes} (fragment : Bytes)
+    (log : List ℕ) (scale depth j : ℕ)
+    → offset ≡ offsetAt log j → main ≡ mainAt log j → alt ≡ altAt log j → opcode ≡ getD fragment offset 0
+    → right ≡ indent opcode depth → bytes ≡ display fragment fragment offset 0
+    → Written lent 0 (rowLine scale offset main alt right bytes) new next → Written lent 0 (row fragment log scale depth j) new next
+unfolding row
+row-written {lent} {new} {next} {offset} {main} {alt} {opcode} {right} {bytes} fragment log scale depth j e f g o r h w =
+    written-as
+    (ap (λ (b : Bytes). rowLine scale offset main alt right b) h
+    ∙ ap (λ x. rowLine scale offset main alt x (display fragment fragment offset 0)) (r ∙ ap (λ x. indent x depth) o)
+    ∙ ap (λ x. rowLine scale x main alt (indent (getD fragment x 0) depth) (display fragment fragment x 0)) e
+    ∙ ap (λ x. rowLine scale (offsetAt log j) x alt (indent (opcodeAt fragment log j) depth) (display fragment fragment (offsetAt log j) 0)) f
+    ∙ ap (λ x. rowLine scale (offsetAt log j) (mainAt log j) x (indent (opcodeAt fragment log j) depth) (display fragment fragment (offsetAt log j) 0)) g)
+    w
+
+pub total-within : {main alt : ℕ} (log : List ℕ) (scale j : ℕ) → main ≡ mainAt log j → alt ≡ altAt log j
+    → totalOf (mainAt log j) (altAt log j) ≤ scale → totalOf main alt ≤ scale
+total-within {main} {alt} log scale j e f h = rw (e, f) h
+
+pub heading-written : {lent : Bytes} {a b c : Bytes} {at bt ct : ℕ} {new : Bytes} {next : ℕ} {size gap : ℕ} (scale : ℕ)
+    → size ≡ length (decimal scale) → gap ≡ 16 - (3 + size)
+    → Written lent 0 (text "offset main  alt total |") a at → Written a at (labelled "of " scale) b bt
+    → Written b bt (replicate gap 32) c ct → Written c ct (text "| bytes\n") new next → Written lent 0 (heading scale) new next
+unfolding heading
+heading-written {lent} {size = size} {gap} scale e g w v u t =
+    let l : length (labelled "of " scale) ≡ 3 + length (decimal scale) = length-append (text "of ") (decimal scale) in
+    let n : gap ≡ 16 - length (labelled "of " scale) = omega (arith, g, e, l) in
+    written-as (ap (λ m. text "offset main  alt total |" ++ labelled "of " scale ++ replicate m 32 ++ text "| bytes\n") n)
+    (then-written (omega arith) (then-written (omega arith) (then-written (omega arith) w v) u) t)

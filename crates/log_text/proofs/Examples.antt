@@ -1,0 +1,43 @@
+-- What `stacklog` prints, by example: the paper of LogText, and a header of seven bytes.
+use mathlib.Core.List.{[], _∷_, _++_}
+use mathlib.Core.Path.{_≡_, refl}
+use lib.ListN.{replicate}
+use Rattle.definition.specs.Basics.{Bytes}
+use Rattle.definition.specs.Decoding.{front, decode, serialize, deserialize}
+use Rattle.definition.specs.Classes.{classNumber, classOf}
+use Rattle.definition.specs.Stacks.{pushItem, dropItems, copyItems, rotateItems, tuckTop, nipSecond, moveToAlt, moveFromAlt, step, plainStep}
+use Rattle.definition.specs.Walk.{joinStacks, logRow, walk, analysisOf, analysis}
+use Rattle.definition.specs.Papers.{goodHeader, fragments, markFrom, dispatch, markPaper, display}
+use Rattle.definition.specs.Lines.{text, decimal, refusedLine, lastLine}
+use Rattle.faults.specs.Faults.{fault, faultWords}
+use Rattle.reasons.specs.Reasons.{reason}
+use Rattle.log_rows.specs.Rows.{totalOf, column, bar, liveHeights, instruction, depthAfter, indent, heading, rowLine, row, rows}
+use Rattle.log_lines.specs.Log.{startLine, start, acceptedLine, refusal, refusalLine, headerLine, dispatchLine, malformedLine, opener, otherMain, arms, toldOf, verdictLine}
+use Rattle.log_blocks.specs.Blocks.{block}
+use Rattle.log_marks.specs.Marks.{refusedTold}
+use Rattle.log_text.specs.LogText.{refused, logText}
+
+-- two arms that leave different heights
+unfoldable pub armsDiffer : Bytes
+armsDiffer =
+    0x01 ∷ 0x00 ∷ 0x01 ∷ 0x00 ∷ 0x0e ∷ 0x00 ∷ 0x00 ∷ 0x00 ∷ 0x01 ∷ 0x00 ∷ 0x0e ∷ 0x00 ∷ 0x06 ∷ 0x00 ∷
+    0x63 ∷ 0x51 ∷ 0x67 ∷ 0x75 ∷ 0x68 ∷ 0x75 ∷ []
+
+pub armsDifferLogged : logText armsDiffer (replicate 18 0)
+    ≡ text "entry 0: length 6, from main 2 alt 0\n"
+    ++ text "offset main  alt total |of 8            | bytes\n"
+    ++ text "     0    2    0     2 |####............| 63\n"
+    ++ text "     1    1    0     1 |##..............|  51\n"
+    ++ text "     2    2    0     2 |####............| 67\n"
+    ++ text "     3    1    0     1 |##..............|  75\n"
+    ++ text "     4    0    0     0 |................| 68\n"
+    ++ text "     ^ refused 12, arms differ: main 0 alt 0 against main 2 alt 0\n"
+    ++ text "\n"
+    ++ text "refused 12 at 0 4 0 0\n"
+unfolding armsDiffer logText refused block refusedTold toldOf verdictLine startLine start acceptedLine refusal refusalLine malformedLine opener otherMain arms rows row rowLine heading indent depthAfter instruction liveHeights bar column totalOf reason display lastLine refusedLine decimal goodHeader fragments markFrom dispatch markPaper analysis analysisOf walk logRow joinStacks step plainStep pushItem dropItems copyItems rotateItems tuckTop nipSecond moveToAlt moveFromAlt classOf classNumber decode front serialize deserialize
+armsDifferLogged = refl
+
+-- a header that is cut
+pub sevenBytesLogged : logText (replicate 7 0) [] ≡ text "refused 19, header: 7 bytes, fewer than 8\n\nrefused 19 at 0 0 0 0\n"
+unfolding logText refused block refusedTold toldOf headerLine refusal refusalLine fault faultWords reason lastLine refusedLine decimal goodHeader markPaper
+sevenBytesLogged = refl

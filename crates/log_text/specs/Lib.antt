@@ -1,0 +1,2 @@
+pub mod LogText
+pub mod View

@@ -1,0 +1,2 @@
+-- What is proved of the input that is read.
+pub mod Inputs
