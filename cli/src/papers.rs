@@ -7,7 +7,7 @@ use std::path::{Path, PathBuf};
 
 use crate::Stop;
 use crate::names::shown;
-use crate::streams::{input, say};
+use crate::streams::{input, is_output, say};
 
 /// More bytes than this are not read. A paper of so many is refused for its length by far, and a device may have no end.
 pub const MOST: u64 = 1 << 28;
@@ -52,7 +52,10 @@ fn unread(path: &Path, error: &io::Error) -> String {
 pub fn read(source: &Source) -> io::Result<Vec<u8>> {
     match source {
         Source::Input => whole(input()?),
-        Source::File(path) => whole(File::open(path)?),
+        Source::File(path) => {
+            let file = File::open(path)?;
+            if is_output(&file) { Err(io::Error::other("it is where the output goes")) } else { whole(file) }
+        }
     }
 }
 

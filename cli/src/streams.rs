@@ -1,8 +1,9 @@
 //! Standard input, output and error, with every failure told.
 use std::ffi::c_int;
-use std::fs::File;
+use std::fs::{File, Metadata};
 use std::io::{self, BufWriter, IsTerminal, Read, Write};
 use std::os::fd::AsFd;
+use std::os::unix::fs::MetadataExt;
 use std::sync::atomic::{AtomicBool, Ordering};
 use std::time::{Duration, Instant};
 
@@ -43,6 +44,13 @@ pub fn input() -> io::Result<impl Read> {
         return Err(closed());
     }
     file(&io::stdin())
+}
+
+/// Whether the file is the one that standard output goes to: it has been emptied, or holds what is written meanwhile.
+pub fn is_output(file: &File) -> bool {
+    let place = |file: &File| file.metadata().ok().filter(Metadata::is_file).map(|file| (file.dev(), file.ino()));
+    let own = self::file(&io::stdout()).ok().and_then(|output| place(&output));
+    own.is_some() && own == place(file)
 }
 
 /// Standard output, in large pieces.
