@@ -24,7 +24,7 @@ const fn meaning(given: &'static str, figures: &'static str, line: &'static str,
 
 /// The numbers in their order.
 pub const MEANINGS: [Meaning; 23] = [
-    meaning("nothing below holds", "0, 0", "listochur fragment 0 0 51", "accepted, peak 1, end main 1 alt 0"),
+    meaning("none of the numbers below is given", "0, 0", "listochur fragment 0 0 51", "accepted, peak 1, end main 1 alt 0"),
     meaning(
         "a fragment has over 10,000 bytes",
         "its length, 10000",
@@ -102,7 +102,7 @@ pub const MEANINGS: [Meaning; 23] = [
         "listochur fragment 0 0 67",
         "refused 13 at offset 0, stray ELSE",
     ),
-    meaning("a conditional has two", "0, 0", "listochur fragment 1 0 '63 67 67 68'", "refused 14 at offset 2, second ELSE"),
+    meaning("a conditional has two ELSE", "0, 0", "listochur fragment 1 0 '63 67 67 68'", "refused 14 at offset 2, second ELSE"),
     meaning(
         "an ENDIF stands outside every conditional",
         "0, 0",
