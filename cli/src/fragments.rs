@@ -10,23 +10,19 @@ use crate::{Status, Stop};
 /// Numbers of the log for the longest fragment that is analysed, of 10,000 instructions.
 const LOG: usize = 30_000;
 
-/// As many items as both stacks can hold, of any limit that a number of 16 bits in the log can tell.
-const ITEMS: usize = 65_535;
-
 /// As many bytes of an instruction are shown.
 const SHOWN: usize = 8;
 
 /// `fragment`: the verdict, the items at the end from the bottom up, the log.
 pub fn fragment(out: &mut Output, main: u32, alt: u32, fragment: &[u8]) -> Result<Status, Stop> {
     let mut log = vec![0; LOG];
-    let mut items = vec![Item::Unknown; ITEMS];
-    let verdict = listochur::analyze_items(fragment, main, alt, &mut log, &mut items);
-    out.write(analysed(fragment, &verdict, &items, &log).as_bytes())?;
+    let (verdict, end) = listochur::analyze_items(fragment, main, alt, &mut log);
+    out.write(analysed(fragment, &verdict, end.main(), end.alt(), &log).as_bytes())?;
     Ok(Status::of(verdict.number))
 }
 
 /// What is written of a fragment's analysis.
-pub fn analysed(fragment: &[u8], verdict: &Verdict, items: &[Item], log: &[u16]) -> String {
+pub fn analysed(fragment: &[u8], verdict: &Verdict, main: &[Item], alt: &[Item], log: &[u16]) -> String {
     let mut text = told(verdict.number, verdict.offset, verdict.first, verdict.second);
     if verdict.number == 0 {
         add(&mut text, format_args!(", peak {}, ", verdict.peak));
@@ -36,12 +32,9 @@ pub fn analysed(fragment: &[u8], verdict: &Verdict, items: &[Item], log: &[u16])
         }
     }
     text.push('\n');
-    if let Some(end) = verdict.end {
-        let (mains, alts) = items.split_at(items.len().min(end.main as usize));
-        for (stack, items) in [("main", mains), ("alt", &alts[..alts.len().min(end.alt as usize)])] {
-            for (place, item) in items.iter().enumerate() {
-                add(&mut text, format_args!("  {stack} {place} {}\n", known(*item)));
-            }
+    for (stack, items) in [("main", main), ("alt", alt)] {
+        for (place, item) in items.iter().enumerate() {
+            add(&mut text, format_args!("  {stack} {place} {}\n", known(item)));
         }
     }
     if verdict.rows > 0 {
@@ -57,11 +50,11 @@ pub fn analysed(fragment: &[u8], verdict: &Verdict, items: &[Item], log: &[u16])
 }
 
 /// What the marker knows of an item: nothing, or its bytes.
-fn known(item: Item) -> String {
-    match item {
-        Item::Unknown => "unknown".into(),
-        Item::Exact { length: 0, .. } => "exact, no bytes".into(),
-        Item::Exact { length, bytes } => format!("exact {}", spaced(&bytes.to_le_bytes()[..usize::from(length).min(8)])),
+fn known(item: &Item) -> String {
+    match item.bytes() {
+        None => "unknown".into(),
+        Some([]) => "exact, no bytes".into(),
+        Some(bytes) => format!("exact {}", spaced(bytes)),
     }
 }
 
@@ -98,7 +91,7 @@ pub fn limits(out: &mut Output, bytecode: &[u8]) -> Result<Status, Stop> {
 #[cfg(test)]
 mod tests {
     use super::{analysed, told};
-    use listochur::{DEAD, Heights, Item, Verdict};
+    use listochur::{DEAD, Heights, Item, Value, Verdict};
 
     #[test]
     fn verdicts() {
@@ -111,12 +104,14 @@ mod tests {
     fn items_and_rows() {
         let end = Some(Heights { main: 3, alt: 1 });
         let verdict = Verdict { number: 0, offset: 0, first: 0, second: 0, rows: 3, peak: 4, end };
-        let exact = |length, bytes| Item::Exact { length, bytes };
-        let items = [Item::Unknown, exact(0, 0), exact(2, 0x0201), exact(8, u64::MAX), exact(1, 9)];
+        let item = |value| Item { value, mark: 0 };
+        let exact = |len, bytes| item(Value::Exact { len, bytes });
+        let main = [item(Value::Unknown), exact(0, [0; 8]), exact(2, [1, 2, 0, 0, 0, 0, 0, 0])];
+        let alt = [exact(8, [0xff; 8])];
         let fragment = [&[0x51, 0x4c, 9][..], &[7; 9], &[0x61]].concat();
         let log = [0, 2, 1, 1, DEAD, DEAD, 12, 244, 0, 99, 99, 99];
         assert_eq!(
-            analysed(&fragment, &verdict, &items, &log),
+            analysed(&fragment, &verdict, &main, &alt, &log),
             "accepted, peak 4, end main 3 alt 1\n\
              \x20 main 0 unknown\n  main 1 exact, no bytes\n  main 2 exact 01 02\n  alt 0 exact ff ff ff ff ff ff ff ff\n\
              offset  main   alt  bytes\n\
@@ -129,6 +124,6 @@ mod tests {
     #[test]
     fn no_end_and_no_rows() {
         let verdict = Verdict { number: 0, offset: 0, first: 0, second: 0, rows: 0, peak: 0, end: None };
-        assert_eq!(analysed(&[], &verdict, &[], &[]), "accepted, peak 0, end none\n");
+        assert_eq!(analysed(&[], &verdict, &[], &[], &[]), "accepted, peak 0, end none\n");
     }
 }

@@ -126,12 +126,12 @@ fn a_fragment_of_any_bytes() {
     use command::fragments::analysed;
     let mut numbers = Numbers(4);
     let mut log = vec![0; 30_000];
-    let mut items = vec![listochur::Item::Unknown; 244];
     for _ in 0..20_000 {
         let size = numbers.below(40);
         let bytes = numbers.bytes(size);
-        let verdict = listochur::analyze_items(&bytes, numbers.below(250) as u32, numbers.below(5) as u32, &mut log, &mut items);
-        let text = analysed(&bytes, &verdict, &items, &log);
+        let (main, alt) = (numbers.below(250) as u32, numbers.below(5) as u32);
+        let (verdict, end) = listochur::analyze_items(&bytes, main, alt, &mut log);
+        let text = analysed(&bytes, &verdict, end.main(), end.alt(), &log);
         let items = verdict.end.map_or(0, |end| end.main + end.alt) as usize;
         assert_eq!(text.lines().count(), 1 + items + verdict.rows + usize::from(verdict.rows > 0), "{text}");
     }
