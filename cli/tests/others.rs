@@ -2,7 +2,6 @@
 mod common;
 
 use std::fs;
-use std::os::unix::fs::PermissionsExt;
 use std::process::Command;
 
 use common::{DRY, Folder, LISTOCHUR, ROOT, SAMPLE, SAMPLE_LINES, paper, ran};
@@ -172,8 +171,7 @@ fn no_such_number() {
 /// A folder with a driver that answers each line by a shell's `case` on its bytes.
 fn with_driver(cases: &str) -> Folder {
     let folder = Folder::with_papers();
-    folder.file("driver", format!("#!/bin/sh\nwhile read -r word bytes; do case $bytes in {cases} esac; done\n").as_bytes());
-    fs::set_permissions(folder.0.join("driver"), fs::Permissions::from_mode(0o755)).unwrap();
+    folder.program("driver", format!("#!/bin/sh\nwhile read -r word bytes; do case $bytes in {cases} esac; done\n").as_bytes());
     folder
 }
 
@@ -220,7 +218,7 @@ fn a_driver_that_fails() {
     compare(&with_driver("*) exit 3;;"), &["good"]).fails("", &["it ended without an answer"]);
     let late = with_driver("*) echo paper 0 0 0 0 0;;");
     let script = fs::read_to_string(late.0.join("driver")).unwrap();
-    late.file("driver", format!("{script}exit 3\n").as_bytes());
+    late.program("driver", format!("{script}exit 3\n").as_bytes());
     assert_eq!(compare(&late, &["good"]).status, Some(2));
     fs::remove_file(late.0.join("driver")).unwrap();
     compare(&late, &["good"]).fails("", &["cannot run", "driver"]);
@@ -230,7 +228,7 @@ fn a_driver_that_fails() {
 #[test]
 fn the_driver_is_looked_for_beside_the_command() {
     let folder = with_driver("*) echo paper outside;;");
-    fs::copy(LISTOCHUR, folder.0.join("listochur")).unwrap();
+    folder.program("listochur", &fs::read(LISTOCHUR).unwrap());
     let run = || ran(Command::new(folder.0.join("listochur")).args(["compare", "good"]).current_dir(&folder.0), b"");
     run().gives(0, "good: ours accepted, Rust outside, not compared\npapers 1, equal 0, different 0, outside 1\n");
     fs::remove_file(folder.0.join("driver")).unwrap();

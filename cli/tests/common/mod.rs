@@ -50,6 +50,14 @@ impl Folder {
         fs::create_dir(self.0.join(name)).unwrap();
     }
 
+    /// A program. It is written by another process: a file that this one writes may be open in a child that another test is
+    /// just starting, and what is open to write cannot be run.
+    pub fn program(&self, name: &str, bytes: &[u8]) {
+        let mut command = Command::new("sh");
+        command.args(["-c", "cat >\"$0\" && chmod +x \"$0\"", name]);
+        ran(command.current_dir(&self.0), bytes).gives(0, "");
+    }
+
     /// Runs the command in this folder.
     pub fn run<W: AsRef<OsStr>>(&self, words: &[W]) -> Ran {
         self.run_on(words, b"")
