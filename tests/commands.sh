@@ -80,6 +80,7 @@ mkdir "$work/bin" "$work/elsewhere"
 cat >"$work/bin/rt" <<END
 #!/bin/sh
 echo "rt \$*" >>"$work/calls"
+! grep -qs "^\$1\$" "$work/during" || { sleep 0.05; touch "$tree/crates/one/src/lib.rt"; rm "$work/during"; }
 case \$1 in
 version) echo "a kit" ;;
 check)
@@ -96,7 +97,7 @@ END
 cat >"$work/bin/cargo" <<END
 #!/bin/sh
 echo "cargo \$*" >>"$work/calls"
-[ ! -f "$work/during" ] || { sleep 0.05; touch "$tree/cli/src/main.rs"; rm "$work/during"; }
+! grep -qs "^cargo\$" "$work/during" || { sleep 0.05; touch "$tree/cli/src/main.rs"; rm "$work/during"; }
 mkdir -p "$tree/cli/target/release" && cp "$root/built/listochur" "$tree/cli/target/release/listochur"
 END
 chmod +x "$work/bin/rt" "$work/bin/cargo"
@@ -193,12 +194,14 @@ gives "a link in PATH" 0 "$good"
 cd "$tree" || exit 1
 try sh mark ../good
 gives "as an argument of sh" 0 "$good"
-cd "$work/elsewhere" || exit 1
-CDPATH=$work
+cd "$work" || exit 1
+mkdir "$work/elsewhere/a tree"
+CDPATH=$work/elsewhere
 export CDPATH
-try "../a tree/mark" ../good
+try "a tree/mark" good
 gives "with CDPATH" 0 "$good"
 unset CDPATH
+rmdir "$work/elsewhere/a tree"
 
 # Several at once, and in little time
 began=$(date +%s)
@@ -278,11 +281,20 @@ try "$tree/mark" "$work/good"
 gives "without target/" 0 "$good"
 
 # A source that changes during the build is newer than it
-: >"$work/during"
-touch "$tree/cli/src/main.rs"
-try "$tree/build"
-try "$tree/mark" "$work/good"
-gives "changed during the build" 2 ""
+for step in check staticlib cargo; do
+    sleep 0.02
+    touch "$tree/crates.txt"
+    echo $step >"$work/during"
+    try "$tree/build"
+    is "changed during $step" ! -e "$work/during"
+    try "$tree/mark" "$work/good"
+    gives "changed during $step" 2 ""
+    : >"$work/calls"
+    try "$tree/build"
+    try "$tree/mark" "$work/good"
+    gives "built after a change during $step" 0 "$good"
+    [ $step = cargo ] || is "proved after a change during $step" "$(calls 'rt staticlib')" -eq 1
+done
 
 # First runs at once: one builds, the others wait
 new_tree
