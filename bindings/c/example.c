@@ -41,10 +41,10 @@ int main(void) {
 
     /* 1; 05 06, to alt; a plain effect that pushes */
     const uint8_t pushes[] = {0x51, 0x02, 0x05, 0x06, 0x6b, 0xb2};
-    uint64_t items[LISTOCHUR_ITEMS_PLACES];
-    listochur_analyze_items(pushes, sizeof pushes, 0, 0, log, 24000, items, LISTOCHUR_ITEMS_PLACES, v, LISTOCHUR_VERDICT_PLACES);
-    show("main", items, v[7]);
-    show("alt", items + LISTOCHUR_ITEM_NUMBERS * v[7], v[8]);
+    uint64_t items[LISTOCHUR_ITEMS_PLACES], w[LISTOCHUR_VERDICT_PLACES];
+    listochur_analyze_items(pushes, sizeof pushes, 0, 0, log, 24000, items, LISTOCHUR_ITEMS_PLACES, w, LISTOCHUR_VERDICT_PLACES);
+    show("main", items, w[7]);
+    show("alt", items + LISTOCHUR_ITEM_NUMBERS * w[7], w[8]);
 
     /* the paper has one fragment, so its verdict is that fragment's */
     uint32_t tally[4] = {0};
