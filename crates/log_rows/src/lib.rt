@@ -6,7 +6,7 @@ ghost use Prim.Native.Nat.{_+_, _-_, _*_, _≤_, _<_, min, max};
 ghost use lib.ListN.{length, take, getD, replicate};
 ghost use Rattle.definition.specs.Lines.{decimal};
 ghost use Rattle.text.specs.View.{Written};
-ghost use Rattle.log_rows.specs.Rows.{mainAt, altAt, opcodeAt, totalOf, greatest, scaleOf, column, filled, bar, hex, instruction};
+ghost use Rattle.log_rows.specs.Rows.{mainAt, altAt, opcodeAt, totalOf, scaleOf, column, filled, bar, hex, instruction};
 ghost use Rattle.log_rows.specs.Rows.{deadHeights, liveHeights, heights, isIf, depthAfter, indent, heading, rowLine, row};
 
 // A byte so many times.

@@ -12,7 +12,7 @@ use Rattle.definition.specs.Lines.{text, decimal, refusedLine, lastLine}
 use Rattle.faults.specs.Faults.{fault, faultWords}
 use Rattle.reasons.specs.Reasons.{reason}
 use Rattle.log_rows.specs.Rows.{totalOf, column, bar, liveHeights, instruction, depthAfter, indent, heading, rowLine, row, rows}
-use Rattle.log_lines.specs.Log.{startLine, start, acceptedLine, refusal, refusalLine, headerLine, dispatchLine, malformedLine, opener, otherMain, arms, toldOf, verdictLine}
+use Rattle.log_lines.specs.Log.{startLine, start, acceptedLine, refusal, refusalLine, headerLine, malformedLine, opener, otherMain, arms, toldOf, verdictLine}
 use Rattle.log_blocks.specs.Blocks.{block}
 use Rattle.log_marks.specs.Marks.{refusedTold}
 use Rattle.log_text.specs.LogText.{refused, logText}

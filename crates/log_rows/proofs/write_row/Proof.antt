@@ -1,4 +1,3 @@
-use native.Mathlib.Omega.{arith}
 use Rattle.log_rows.proofs.Rows.{row-written, total-within}
 use borrow.Author.Needs.{needs}
 use Rattle.log_rows.proofs.write_row.Statement.{statement}
