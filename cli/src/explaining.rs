@@ -88,7 +88,7 @@ pub const MEANINGS: [Meaning; 23] = [
         "a run may come to an opcode that the marker has no effect for",
         "the opcode, 0",
         "listochur fragment 0 0 ff",
-        "refused 11 at offset 0, unmodelled: opcode 255",
+        "refused 11 at offset 0, unmodelled: opcode ff",
     ),
     meaning(
         "the two arms of a conditional leave different heights",

@@ -54,7 +54,9 @@ fn random_paper(numbers: &mut Numbers) -> Vec<u8> {
     };
     let entries = if numbers.below(20) == 0 { numbers.below(40) } else { 1 + numbers.below(4) };
     let init = if numbers.below(2) == 0 { Vec::new() } else { script(numbers) };
-    let bodies: Vec<_> = (0..entries).map(|_| (numbers.below(12) as u16, script(numbers))).collect();
+    // some start near the limit
+    let most = if numbers.below(20) == 0 { 238 } else { 0 };
+    let bodies: Vec<_> = (0..entries).map(|_| (most + numbers.below(12) as u16, script(numbers))).collect();
     let mut paper = command::writing::written(numbers.below(6) as u16, &init, &bodies).unwrap_or_default();
     if numbers.below(10) == 0 && !paper.is_empty() {
         let place = numbers.below(paper.len() as u64) as usize;
