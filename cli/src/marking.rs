@@ -66,12 +66,8 @@ impl Marker {
 
 /// A verdict in words.
 pub fn reason(number: u32, first: u64, second: u64) -> String {
-    let mut text = vec![0; 80];
-    let mut size = listochur::reason(number, first, second, &mut text);
-    if size > text.len() {
-        text.resize(size, 0);
-        size = listochur::reason(number, first, second, &mut text);
-    }
+    let mut text = [0; listochur::REASON_BYTES];
+    let size = listochur::reason(number, first, second, &mut text);
     String::from_utf8_lossy(&text[..size]).into_owned()
 }
 
