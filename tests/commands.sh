@@ -98,7 +98,15 @@ cat >"$work/bin/cargo" <<END
 #!/bin/sh
 echo "cargo \$*" >>"$work/calls"
 ! grep -qs "^cargo\$" "$work/during" || { sleep 0.05; touch "$tree/cli/src/main.rs"; rm "$work/during"; }
-mkdir -p "$tree/cli/target/release" && cp "$root/built/listochur" "$tree/cli/target/release/listochur"
+case "\$*" in
+*compare/Cargo.toml*)
+    [ ! -f "$work/fail" ] || { echo "why it is not"; exit 1; }
+    mkdir -p "$tree/compare/target/release"
+    printf '#!/bin/sh\nwhile read -r line; do echo paper outside; done\n' >"$tree/compare/target/release/driver"
+    chmod +x "$tree/compare/target/release/driver"
+    ;;
+*) mkdir -p "$tree/cli/target/release" && cp "$root/built/listochur" "$tree/cli/target/release/listochur" ;;
+esac
 END
 chmod +x "$work/bin/rt" "$work/bin/cargo"
 path=$PATH
@@ -126,8 +134,9 @@ is "nothing was called" "$(calls '')" -eq 0
 # The first run builds, with a line for each crate, and marks
 try "$tree/mark" "$work/good"
 gives "the first run" 0 "$good"
-says "the first run" "about five minutes"
+says "the first run" "about six minutes"
 says "the first run" "build: one proved (3 s)"
+says "the first run" "build: export proved"
 says "the first run" "the folder of the Rust's sources is not here"
 is "proved once" "$(calls 'rt staticlib export')" -eq 1
 is "programs proved too" "$(calls 'rt check stackmark stacklog one')" -eq 1
@@ -279,6 +288,42 @@ is "all again" "$(calls 'rt staticlib')" -eq 1
 rm -rf "$tree/target"
 try "$tree/mark" "$work/good"
 gives "without target/" 0 "$good"
+: >"$work/calls"
+sleep 0.02
+touch "$tree/cli/src/main.rs"
+try "$tree/build"
+is "the command alone, without target/" "$(calls 'rt staticlib')" -eq 0
+try "$tree/mark" "$work/good"
+gives "built without target/" 0 "$good"
+
+# The Rust's driver is built where its sources come, and again where compare/ changes
+: >"$work/calls"
+mkdir -p "$work/sources" "$tree/compare/reference" "$tree/compare/stand-ins" "$tree/compare/tools"
+: >"$tree/compare/Cargo.toml"
+LISTOCHUR_SHARED=$work/sources
+export LISTOCHUR_SHARED
+try "$tree/build"
+is "the driver" "$(calls "cargo build .*compare/Cargo.toml .*--bin driver")" -eq 1
+is "the driver: nothing else" "$(calls '')" -eq 1
+is "the driver stands beside the command" -x "$tree/built/driver"
+try "$tree/listochur" compare "$work/good"
+gives "compared" 0 "$work/good: ours accepted, Rust outside, not compared
+papers 1, equal 0, different 0, outside 1"
+try "$tree/build"
+is "the driver is built once" "$(calls '')" -eq 1
+sleep 0.02
+touch "$tree/compare/reference"
+try "$tree/build"
+is "the driver is built again" "$(calls '')" -eq 2
+rm "$tree/built/driver"
+: >"$work/fail"
+try "$tree/build"
+is "a driver that is not built: status" "$status" -eq 0
+is "a driver that is not built is said" "$(grep -c 'built/compare.log says why' "$work/out")" -eq 1
+rm "$work/fail"
+try "$tree/mark" "$work/good"
+gives "without a driver" 0 "$good"
+unset LISTOCHUR_SHARED
 
 # A source that changes during the build is newer than it
 for step in check staticlib cargo; do

@@ -15,8 +15,8 @@ use crate::{Status, Stop};
 /// The variable that names the driver.
 const VARIABLE: &str = "LISTOCHUR_DRIVER";
 
-/// Where the driver stands in the repository that this command was built in.
-const BUILT: &str = concat!(env!("CARGO_MANIFEST_DIR"), "/../compare/target/release/driver");
+/// Where `./build` puts the driver in the repository that this command was built in.
+const BUILT: &str = concat!(env!("CARGO_MANIFEST_DIR"), "/../built/driver");
 
 /// The protocol takes no more bytes.
 const MOST: usize = 1_000_000;
@@ -127,7 +127,7 @@ fn find() -> Result<PathBuf, Stop> {
         Stop::Failed(format!(
             "compare: the Rust's program `driver` is not here. It is built from sources that are not in the repository:\n\
              compare/README.md says which. With their folder beside the repository as `shared`, or named by\n\
-             LISTOCHUR_SHARED, run ./build, or `cargo build --release` in compare/. {VARIABLE} names a driver elsewhere."
+             LISTOCHUR_SHARED, run ./build. {VARIABLE} names a driver elsewhere."
         ))
     })
 }

@@ -24,7 +24,8 @@ and a summary stands at the end.
   --        what follows are papers, whatever they begin with
 
 In a name a backslash is shown as \\\\, a newline as \\n, a byte that is no UTF-8 as \\xNN. With --csv and --json the
-summary goes to standard error. A paper that cannot be read is said there and gets no verdict and no record.
+summary goes to standard error. A paper that cannot be read is said there and gets no verdict and no record. Over 200
+papers are counted there as they are marked, where it is a terminal and the output goes elsewhere.
 Status 0: all accepted. 1: some refused. 2: a paper could not be read, or a write failed; the others are marked.
 ",
     examples: "\
@@ -115,9 +116,9 @@ pub static COMPARE: Usage = Usage {
     about: "\
 Marks papers, asks the Rust about each, and lays the two verdicts side by side: a line for each paper, and a count at
 the end. The Rust is the program `driver` of the folder compare/: that of the variable LISTOCHUR_DRIVER, else one beside
-this command, else compare/target/release/driver of the folder that it was built in. A paper outside the limits that
-the Rust shares is said to be outside, and is no difference. Of 19 and 21, which the Rust does not have, the driver
-has a plain reading of document 01.
+this command, else built/driver of the folder that it was built in. A paper outside the limits that the Rust shares is
+said to be outside, and is no difference. Of 19 and 21, which the Rust does not have, the driver has a plain reading of
+document 01.
 
   PAPER     a file, - for standard input, or a folder: every file in it, in the order of their names
 

@@ -232,7 +232,7 @@ fn the_driver_is_looked_for_beside_the_command() {
     let run = || ran(Command::new(folder.0.join("listochur")).args(["compare", "good"]).current_dir(&folder.0), b"");
     run().gives(0, "good: ours accepted, Rust outside, not compared\npapers 1, equal 0, different 0, outside 1\n");
     fs::remove_file(folder.0.join("driver")).unwrap();
-    if fs::exists(format!("{ROOT}/compare/target/release/driver")).unwrap() {
+    if fs::exists(format!("{ROOT}/built/driver")).unwrap() {
         run().gives(0, "good: ours accepted, Rust accepted, equal\npapers 1, equal 1, different 0, outside 0\n");
     } else {
         run().fails("", &["driver", "not here", "compare/README.md", "LISTOCHUR_SHARED", "./build"]);

@@ -74,7 +74,7 @@ fn a_hundred_thousand_papers_of_any_bytes() {
     let mut summary = Summary::default();
     let mut seen = [0; 23];
     let (mut csv, mut json) = (Records::new(Form::Csv), Records::new(Form::Json));
-    for count in 0..100_000 {
+    for _ in 0..100_000 {
         let paper = random_paper(&mut numbers);
         let verdict = marker.verdict(&paper);
         let (number, lines) = marker.lines(&paper);
@@ -93,12 +93,10 @@ fn a_hundred_thousand_papers_of_any_bytes() {
         assert!(csv.record(b"x", &verdict, &lines).is_some());
         assert!(json.record(b"x", &verdict, &lines).is_some());
         summary.gain(&verdict);
-        // the log costs more, so of some
-        if count % 100 == 0 {
-            let (number, text) = marker.log(&paper);
-            assert_eq!(number, verdict.number);
-            assert!(text.ends_with([last, &b"\n"[..]].concat().as_slice()));
-        }
+        let (number, text) = marker.log(&paper);
+        assert_eq!(number, verdict.number);
+        assert!(text.ends_with([last, &b"\n"[..]].concat().as_slice()));
+        assert!(split(text).all(|line| line.len() <= 80));
     }
     assert_eq!(summary.tally.fragments, 100_000);
     assert_eq!(summary.tally.accepted, seen[0]);
