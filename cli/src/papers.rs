@@ -50,16 +50,13 @@ fn unread(path: &Path, error: &io::Error) -> String {
 
 /// The bytes, all of them. Whatever fails is an error: there are no bytes of a file that cannot be read whole.
 pub fn read(source: &Source) -> io::Result<Vec<u8>> {
-    match source {
-        Source::Input => whole(input()?),
-        Source::File(path) => {
-            let file = File::open(path)?;
-            if is_output(&file) { Err(io::Error::other("it is where the output goes")) } else { whole(file) }
-        }
+    let file = match source {
+        Source::Input => input()?,
+        Source::File(path) => File::open(path)?,
+    };
+    if is_output(&file) {
+        return Err(io::Error::other("it is where the output goes"));
     }
-}
-
-fn whole(file: impl Read) -> io::Result<Vec<u8>> {
     let mut bytes = Vec::new();
     file.take(MOST + 1).read_to_end(&mut bytes)?;
     if bytes.len() as u64 > MOST {

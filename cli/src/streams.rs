@@ -1,7 +1,7 @@
 //! Standard input, output and error, with every failure told.
 use std::ffi::c_int;
 use std::fs::{File, Metadata};
-use std::io::{self, BufWriter, IsTerminal, Read, Write};
+use std::io::{self, BufWriter, IsTerminal, Write};
 use std::os::fd::AsFd;
 use std::os::unix::fs::MetadataExt;
 use std::sync::atomic::{AtomicBool, Ordering};
@@ -39,7 +39,7 @@ fn file(stream: &impl AsFd) -> io::Result<File> {
 }
 
 /// Standard input, to read.
-pub fn input() -> io::Result<impl Read> {
+pub fn input() -> io::Result<File> {
     if CLOSED[0].load(Ordering::Relaxed) {
         return Err(closed());
     }

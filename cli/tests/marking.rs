@@ -151,7 +151,8 @@ fn the_output_is_no_paper() {
     let register = fs::read_to_string(folder.0.join("pile/register")).unwrap();
     assert!(register.ends_with("pile/good,0,accepted,0,0,0,0,6,2,entry 0 peak 2 end 1 0\n"), "{register}");
     assert_eq!(register.lines().count(), 2);
-    folder.shell("listochur mark good >>good").fails("", &["it is where the output goes"]);
+    folder.shell("listochur mark good >>good").fails("", &["cannot read good: it is where the output goes"]);
+    folder.shell("listochur mark - <good >>good").fails("", &["cannot read standard input: it is where the output goes"]);
     folder.shell("listochur mark good >/dev/null").gives(0, "");
 }
 

@@ -6,7 +6,7 @@ use std::path::PathBuf;
 use std::process::Command;
 
 use command::marking::Marker;
-use common::{Folder, Numbers, ROOT, ran};
+use common::{Folder, ROOT, ran};
 
 /// A program that `rt check` leaves.
 fn program(name: &str) -> PathBuf {
@@ -63,7 +63,6 @@ fn the_fixed_list() {
 fn lines_are_those_of_stackmark_and_logs_those_of_stacklog() {
     let (stackmark, stacklog) = (program("stackmark"), program("stacklog"));
     let mut marker = Marker::default();
-    let mut numbers = Numbers(6);
     for (paper, _) in papers() {
         // a longer one is cut by the programs, and judged whole here
         if paper.len() > 8_001 {
@@ -72,11 +71,9 @@ fn lines_are_those_of_stackmark_and_logs_those_of_stacklog() {
         let printed = ran(&mut Command::new(&stackmark), &paper);
         assert_eq!((printed.status, printed.err.as_str()), (Some(0), ""));
         assert_eq!(marker.lines(&paper).1, printed.out, "{paper:02x?}");
-        if numbers.below(3) == 0 {
-            let printed = ran(&mut Command::new(&stacklog), &paper);
-            assert_eq!((printed.status, printed.err.as_str()), (Some(0), ""));
-            assert_eq!(marker.log(&paper).1, printed.out, "{paper:02x?}");
-        }
+        let printed = ran(&mut Command::new(&stacklog), &paper);
+        assert_eq!((printed.status, printed.err.as_str()), (Some(0), ""));
+        assert_eq!(marker.log(&paper).1, printed.out, "{paper:02x?}");
     }
 }
 
