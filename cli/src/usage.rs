@@ -7,7 +7,7 @@ pub struct Usage {
     pub name: &'static str,
     pub line: &'static str,
     pub about: &'static str,
-    pub examples: &'static str,
+    pub examples: &'static [&'static str],
 }
 
 pub static MARK: Usage = Usage {
@@ -28,12 +28,12 @@ summary goes to standard error. A paper that cannot be read is said there and ge
 papers are counted there as they are marked, where it is a terminal and the output goes elsewhere.
 Status 0: all accepted. 1: some refused. 2: a paper could not be read, or a write failed; the others are marked.
 ",
-    examples: "\
-  listochur mark sample.paper
-  listochur mark room1 room2 late.paper
-  listochur mark --csv room1 >register.csv
-  head -c 100 draft.paper | listochur mark -
-",
+    examples: &[
+        "listochur mark sample.paper",
+        "listochur mark room1 room2 late.paper",
+        "listochur mark --csv room1 >register.csv",
+        "head -c 100 draft.paper | listochur mark -",
+    ],
 };
 
 pub static LOG: Usage = Usage {
@@ -44,7 +44,7 @@ Prints the log of one paper as a person reads it: a line for each instruction wi
 verdict in words. PAPER is a file, or - for standard input.
 Status 0: accepted. 1: refused. 2: the paper could not be read, or a write failed.
 ",
-    examples: "  listochur log sample.paper\n",
+    examples: &["listochur log sample.paper"],
 };
 
 pub static FRAGMENT: Usage = Usage {
@@ -58,11 +58,7 @@ bottom up, and a line of the log for each instruction met.
 
 Status 0: accepted. 1: refused. 2: bad words, a file that could not be read, or a write that failed.
 ",
-    examples: "\
-  listochur fragment 2 0 635167526875
-  listochur fragment 1 0 '51 79'
-  listochur fragment 0 0 @body.bin
-",
+    examples: &["listochur fragment 2 0 635167526875", "listochur fragment 1 0 '51 79'", "listochur fragment 0 0 @body.bin"],
 };
 
 pub static PAPER: Usage = Usage {
@@ -77,10 +73,10 @@ with its parameters and its body. Behind the header stands the initialiser, then
 What the marker says of the paper is not asked here. What does not fit the header's fields of 16 bits is not written.
 Status 0: written. 2: bad words, a number over 65535, a file that could not be read, or a write that failed.
 ",
-    examples: "\
-  listochur paper --fields 1 1:635167526875 >sample.paper
-  listochur paper --fields 2 --init 6c75 0:51 3:@body.bin | listochur mark -
-",
+    examples: &[
+        "listochur paper --fields 1 1:635167526875 >sample.paper",
+        "listochur paper --fields 2 --init 6c75 0:51 3:@body.bin | listochur mark -",
+    ],
 };
 
 pub static LIMITS: Usage = Usage {
@@ -94,10 +90,7 @@ The limit check, which is no part of marking a paper: malformed bytes, more than
 
 Status 0: within the limits. 1: refused. 2: bad words, a file that could not be read, or a write that failed.
 ",
-    examples: "\
-  listochur limits 5193
-  listochur limits @redeem.bin
-",
+    examples: &["listochur limits 5193", "listochur limits @redeem.bin"],
 };
 
 pub static EXPLAIN: Usage = Usage {
@@ -107,7 +100,7 @@ pub static EXPLAIN: Usage = Usage {
 A verdict number in words: when it is given, what its figures are, and an example that gets it.
 Status 0, or 2: N is no verdict number, or a write failed.
 ",
-    examples: "  listochur explain 7\n",
+    examples: &["listochur explain 7"],
 };
 
 pub static COMPARE: Usage = Usage {
@@ -124,7 +117,7 @@ document 01.
 
 Status 0: no difference. 1: some differ. 2: no driver, a paper could not be read, or a write failed.
 ",
-    examples: "  listochur compare room1\n",
+    examples: &["listochur compare room1"],
 };
 
 /// All sub-commands.
@@ -143,9 +136,14 @@ pub fn named(name: &OsStr) -> Option<&'static Usage> {
     ALL.into_iter().find(|usage| name == usage.name)
 }
 
+/// Examples, each on a line.
+fn examples<'a>(lines: impl IntoIterator<Item = &'a &'static str>) -> String {
+    lines.into_iter().map(|line| format!("  {line}\n")).collect()
+}
+
 /// The help of one sub-command.
 pub fn whole(usage: &Usage) -> String {
-    format!("usage: {}\n\n{}\nFor example:\n\n{}", usage.line, usage.about, usage.examples)
+    format!("usage: {}\n\n{}\nFor example:\n\n{}", usage.line, usage.about, examples(usage.examples))
 }
 
 /// The help of the command.
@@ -174,9 +172,8 @@ that failed. 2 goes before 1, and the other papers are marked all the same.
 
 For example:
 
-  listochur mark sample.paper
 ";
-    text
+    text + &examples(ALL.iter().filter_map(|usage| usage.examples.first()))
 }
 
 /// The version, and the toolchain that the proved functions were proved with where the build has said it.

@@ -249,11 +249,15 @@ fn help() {
             assert!(ran.out().contains(usage.line));
         }
     }
+    let all = folder.run(&["help"]);
     for usage in command::usage::ALL {
         let own = folder.run(&["help", usage.name]);
         assert_eq!((own.status, own.err.as_str()), (Some(0), ""));
         assert!(own.out().contains(usage.line) && own.out().contains(&format!("  listochur {} ", usage.name)), "{own:?}");
         assert!(own.out().lines().all(|line| line.len() <= 120));
+        let examples: Vec<_> = own.out().lines().skip_while(|line| *line != "For example:").skip(2).collect();
+        assert!(!examples.is_empty() && examples.iter().all(|line| line.starts_with("  ")), "{examples:?}");
+        assert!(examples[0].starts_with(&format!("  listochur {} ", usage.name)) && all.out().contains(examples[0]));
         folder.run(&[usage.name, "--help"]).gives(0, own.out());
         folder.run(&[usage.name, "-h"]).gives(0, own.out());
         folder.run(&[usage.name, "--nothing"]).fails("", &["no option '--nothing'", &format!("usage: {}", usage.line)]);
