@@ -6,9 +6,9 @@
 //! neither 0 nor 1 reach the callee as they are: it takes every input and has refused them, with a number of document 01,
 //! section 7, before anything here could. Nothing panics and nothing is allocated.
 //!
-//! What is proved is that the answer and the log are those of document 01, for every input. This crate and the compilers are
-//! not: here are a call for each function, the numbers that it leaves, and the part that the display's two numbers cut out. A
-//! call uses up to 512 KiB of stack.
+//! What is proved is that the answer and the log are those of document 01, for every input, and the texts those of the
+//! definitions. This crate and the compilers are not: here are a call for each function, the numbers that it leaves, and the
+//! part that the display's two numbers cut out. A call uses up to 512 KiB of stack.
 //!
 //! ```
 //! let mut log = [0u16; 6];
