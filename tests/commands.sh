@@ -305,7 +305,7 @@ export LISTOCHUR_SHARED
 try "$tree/build"
 is "the driver" "$(calls "cargo build .*compare/Cargo.toml .*--bin driver")" -eq 1
 is "the driver: nothing else" "$(calls '')" -eq 1
-is "the driver stands beside the command" -x "$tree/built/driver"
+is "the driver stands beside the command" -x "$tree/built/listochur-driver"
 try "$tree/listochur" compare "$work/good"
 gives "compared" 0 "$work/good: ours accepted, Rust outside, not compared
 papers 1, equal 0, different 0, outside 1"
@@ -315,7 +315,7 @@ sleep 0.02
 touch "$tree/compare/reference"
 try "$tree/build"
 is "the driver is built again" "$(calls '')" -eq 2
-rm "$tree/built/driver"
+rm "$tree/built/listochur-driver"
 : >"$work/fail"
 try "$tree/build"
 is "a driver that is not built: status" "$status" -eq 0

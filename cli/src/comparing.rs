@@ -15,8 +15,11 @@ use crate::{Status, Stop};
 /// The variable that names the driver.
 const VARIABLE: &str = "LISTOCHUR_DRIVER";
 
-/// Where `./build` puts the driver in the repository that this command was built in.
-const BUILT: &str = concat!(env!("CARGO_MANIFEST_DIR"), "/../built/driver");
+/// The driver's name beside the command.
+const NAME: &str = "listochur-driver";
+
+/// Where `./build` puts both in the repository that this command was built in.
+const BUILT: &str = concat!(env!("CARGO_MANIFEST_DIR"), "/../built");
 
 /// The protocol takes no more bytes.
 const MOST: usize = 1_000_000;
@@ -68,7 +71,9 @@ pub fn beside(name: &[u8], ours: [u64; 5], last: &[u8], rust: &Answer) -> (Outco
 
 /// `compare`.
 pub fn compare(out: &mut Output, words: &[OsString]) -> Result<Status, Stop> {
-    let mut driver = Driver::start(&find()?)?;
+    let own = env::current_exe().ok();
+    let folders = own.iter().filter_map(|own| own.parent()).chain([Path::new(BUILT)]);
+    let mut driver = Driver::start(&find(env::var_os(VARIABLE), folders)?)?;
     let pile = papers::pile(words);
     let mut marker = Marker::default();
     let mut progress = Progress::new(pile.papers.len(), out);
@@ -117,15 +122,14 @@ pub fn compare(out: &mut Output, words: &[OsString]) -> Result<Status, Stop> {
     })
 }
 
-/// The driver that is named, or the first that is there.
-fn find() -> Result<PathBuf, Stop> {
-    if let Some(named) = env::var_os(VARIABLE) {
+/// The driver that is named, or the first that is in one of the folders.
+fn find<'a>(named: Option<OsString>, folders: impl IntoIterator<Item = &'a Path>) -> Result<PathBuf, Stop> {
+    if let Some(named) = named {
         return Ok(named.into());
     }
-    let beside = env::current_exe().ok().and_then(|own| Some(own.parent()?.join("driver")));
-    beside.into_iter().chain([PathBuf::from(BUILT)]).find(|path| path.is_file()).ok_or_else(|| {
+    folders.into_iter().map(|folder| folder.join(NAME)).find(|path| path.is_file()).ok_or_else(|| {
         Stop::Failed(format!(
-            "compare: the Rust's program `driver` is not here. It is built from sources that are not in the repository:\n\
+            "compare: the Rust's program, {NAME}, is not here. It is built from sources that are not in the repository:\n\
              compare/README.md says which. With their folder beside the repository as `shared`, or named by\n\
              LISTOCHUR_SHARED, run ./build. {VARIABLE} names a driver elsewhere."
         ))
@@ -197,7 +201,18 @@ impl Drop for Driver {
 
 #[cfg(test)]
 mod tests {
-    use super::{Answer, Outcome, beside};
+    use super::{Answer, Outcome, beside, find};
+    use crate::Stop;
+    use std::path::Path;
+
+    #[test]
+    fn no_driver() {
+        let Err(Stop::Failed(said)) = find(None, [Path::new("/nowhere"), Path::new("")]) else { panic!("found") };
+        for word in ["is not here", "compare/README.md", "LISTOCHUR_SHARED", "./build", "LISTOCHUR_DRIVER"] {
+            assert!(said.contains(word), "{said}");
+        }
+        assert_eq!(find(Some("x".into()), []).ok().as_deref(), Some(Path::new("x")));
+    }
 
     #[test]
     fn answers() {

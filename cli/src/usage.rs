@@ -108,10 +108,10 @@ pub static COMPARE: Usage = Usage {
     line: "listochur compare PAPER..",
     about: "\
 Marks papers, asks the Rust about each, and lays the two verdicts side by side: a line for each paper, and a count at
-the end. The Rust is the program `driver` of the folder compare/: that of the variable LISTOCHUR_DRIVER, else one beside
-this command, else built/driver of the folder that it was built in. A paper outside the limits that the Rust shares is
-said to be outside, and is no difference. Of 19 and 21, which the Rust does not have, the driver has a plain reading of
-document 01.
+the end. The Rust is the program `driver` of the folder compare/: what the variable LISTOCHUR_DRIVER names, else
+listochur-driver beside this command, else that of the folder built/ that this command comes from. A paper outside the
+limits that the Rust shares is said to be outside, and is no difference. Of 19 and 21, which the Rust does not have,
+the driver has a plain reading of document 01.
 
   PAPER     a file, - for standard input, or a folder: every file in it, in the order of their names
 

@@ -171,13 +171,16 @@ fn no_such_number() {
 /// A folder with a driver that answers each line by a shell's `case` on its bytes.
 fn with_driver(cases: &str) -> Folder {
     let folder = Folder::with_papers();
-    folder.program("driver", format!("#!/bin/sh\nwhile read -r word bytes; do case $bytes in {cases} esac; done\n").as_bytes());
+    folder.program(
+        "listochur-driver",
+        format!("#!/bin/sh\nwhile read -r word bytes; do case $bytes in {cases} esac; done\n").as_bytes(),
+    );
     folder
 }
 
 fn compare(folder: &Folder, papers: &[&str]) -> common::Ran {
     let mut command = Command::new(LISTOCHUR);
-    command.arg("compare").args(papers).env("LISTOCHUR_DRIVER", folder.0.join("driver"));
+    command.arg("compare").args(papers).env("LISTOCHUR_DRIVER", folder.0.join("listochur-driver"));
     ran(command.current_dir(&folder.0), b"")
 }
 
@@ -217,10 +220,10 @@ fn a_driver_that_fails() {
     compare(&with_driver("*) echo paper 7 0;;"), &["good"]).fails("", &["an answer is not understood"]);
     compare(&with_driver("*) exit 3;;"), &["good"]).fails("", &["it ended without an answer"]);
     let late = with_driver("*) echo paper 0 0 0 0 0;;");
-    let script = fs::read_to_string(late.0.join("driver")).unwrap();
-    late.program("driver", format!("{script}exit 3\n").as_bytes());
+    let script = fs::read_to_string(late.0.join("listochur-driver")).unwrap();
+    late.program("listochur-driver", format!("{script}exit 3\n").as_bytes());
     assert_eq!(compare(&late, &["good"]).status, Some(2));
-    fs::remove_file(late.0.join("driver")).unwrap();
+    fs::remove_file(late.0.join("listochur-driver")).unwrap();
     compare(&late, &["good"]).fails("", &["cannot run", "driver"]);
     compare(&late, &[]).fails("", &["no paper is named", "usage: listochur compare PAPER.."]);
 }
@@ -231,8 +234,8 @@ fn the_driver_is_looked_for_beside_the_command() {
     folder.program("listochur", &fs::read(LISTOCHUR).unwrap());
     let run = || ran(Command::new(folder.0.join("listochur")).args(["compare", "good"]).current_dir(&folder.0), b"");
     run().gives(0, "good: ours accepted, Rust outside, not compared\npapers 1, equal 0, different 0, outside 1\n");
-    fs::remove_file(folder.0.join("driver")).unwrap();
-    if fs::exists(format!("{ROOT}/built/driver")).unwrap() {
+    fs::remove_file(folder.0.join("listochur-driver")).unwrap();
+    if fs::exists(format!("{ROOT}/built/listochur-driver")).unwrap() {
         run().gives(0, "good: ours accepted, Rust accepted, equal\npapers 1, equal 1, different 0, outside 0\n");
     } else {
         run().fails("", &["driver", "not here", "compare/README.md", "LISTOCHUR_SHARED", "./build"]);
