@@ -187,17 +187,17 @@ pub fn plain(code: &[u8], log: &mut [u16], start: Walk) -> Walk
     requires { ⌜ start .stop ≡ Stop.Running ⌝ }
     ensures { λ r. ⌜ Runs builtIn (now (code .entry)) start (now (log .entry)) r (now (log .exit)) ⌝ }
 {
-    if !start.live {
-        let k = skip(code, log, start.at, start.last, start.rows);
-        let s = start.stacks;
-        let stop = k.stop;
-        return stopped(s, false, k.at, k.last, k.rows, start.peak, stop);
-    }
     let s0 = start.stacks;
     let mut t = Stepped {
         stacks: s0,
         answer: Answer::Done,
     };
+    if !start.live {
+        let k = skip(code, log, start.at, start.last, start.rows);
+        let s = t.stacks;
+        let stop = k.stop;
+        return stopped(s, false, k.at, k.last, k.rows, start.peak, stop);
+    }
     let mut at = start.at;
     let mut last = start.last;
     let mut rows = start.rows;

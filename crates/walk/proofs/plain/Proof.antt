@@ -66,7 +66,7 @@ met c =
     }
 
 skip-requires : tie.Need-skip-requires Inv-loop μ-loop
-skip-requires c κs = room-there (c .before .before .before .before .before .pre .0)
+skip-requires c κs = room-there (c .before .before .before .before .before .before .pre .0)
 
 stopped-requires : tie.Need-stopped-requires Inv-loop μ-loop
 stopped-requires c κs = tt
@@ -75,7 +75,7 @@ same-length : tie.Need-same-length Inv-loop μ-loop
 same-length c = c .before .before .before .before .skip .kept .1 .0
 
 returns : tie.Need-returns Inv-loop μ-loop
-returns c = rw (c .stopped .ensures) (runs-from (c .before .before .before .before .before .before .before .before .before .before .args .start) (not-live _ (c .before .before .before .before .before .before .if1 .taken)) (c .before .before .before .before .before .before .before .before .before .before .pre .1) (c .before .before .before .before .skip .ensures (c .before .before .before .before .before .before .before .before .before .before .args .start .stacks) (c .before .before .before .before .before .before .before .before .before .before .args .start .peak) (c .before .before .before .before .before .before .before .before .before .before .pre .0 .fit)))
+returns c = rw (c .stopped .ensures) (runs-from (c .before .before .before .before .before .before .before .before .before .before .before .args .start) (not-live _ (c .before .before .before .before .before .before .if1 .taken)) (c .before .before .before .before .before .before .before .before .before .before .before .pre .1) (c .before .before .before .before .skip .ensures (c .before .before .before .before .before .before .before .before .before .before .before .args .start .stacks) (c .before .before .before .before .before .before .before .before .before .before .before .args .start .peak) (c .before .before .before .before .before .before .before .before .before .before .before .pre .0 .fit)))
 
 loop-holds : tie.Need-loop-holds Inv-loop μ-loop
 loop-holds c = walking-none (slice-bytes (c .before .before .before .before .before .args .code .now) (c .before .before .before .before .shared-slice-known .given)) (ready-running (c .before .before .before .before .before .args .start) (c .before .before .before .before .before .pre .0))
@@ -90,7 +90,7 @@ same-length-2 : tie.Need-same-length-2 Inv-loop μ-loop
 same-length-2 c = search needs
 
 returns-2 : tie.Need-returns-2 Inv-loop μ-loop
-returns-2 c = rw (c .stopped2 .ensures) (runs-from (c .before .before .before .before .before .before .before .before .before .before .before .args .start) (is-live _ (c .before .before .before .before .before .before .before .if1 .left)) (c .before .before .before .before .before .before .before .before .before .before .before .pre .1) (was-refused _ _ _ _ _ _ (c .before .before .before .before .before .loop .inv) (c .before .before .before .answer .given .1)))
+returns-2 c = rw (c .stopped2 .ensures) (runs-from (c .before .before .before .before .before .before .before .before .before .before .before .args .start) (is-live _ (c .before .before .before .before .before .before .if1 .left)) (c .before .before .before .before .before .before .before .before .before .before .before .pre .1) (was-refused _ _ _ _ _ _ (c .before .before .before .before .before .loop .inv) (c .before .before .before .answer .given .1)))
 
 enum-told : tie.Need-enum-told Inv-loop μ-loop
 enum-told c = search needs
@@ -114,7 +114,7 @@ same-length-3 : tie.Need-same-length-3 Inv-loop μ-loop
 same-length-3 c = search needs
 
 returns-3 : tie.Need-returns-3 Inv-loop μ-loop
-returns-3 c = rw (c .stopped3 .ensures) (runs-from (c .before .before .before .before .before .before .before .before .before .before .before .before .before .args .start) (is-live _ (c .before .before .before .before .before .before .before .before .before .if1 .left)) (c .before .before .before .before .before .before .before .before .before .before .before .before .before .pre .1) (none-left (c .before .before .before .before .before .before .before .loop .inv) (rw (c .before .before .before .before .before .enum-told .given .1)) (high-of (c .before .before .before .before .before .before .before .loop .peak) (c .before .before .before .before .higher .result) true (c .before .before .before .before .before .before .before .loop .t .stacks) (c .before .before .before .before .higher .ensures)) (no-instruction _ _ (c .before .before .before .decode-at .result) (c .before .before .before .decode-at .ensures .1) (c .before .before .match2 .keys2))))
+returns-3 c = rw (c .stopped3 .ensures) (runs-from (c .before .before .before .before .before .before .before .before .before .before .before .before .before .args .start) (is-live _ (c .before .before .before .before .before .before .before .before .if1 .left)) (c .before .before .before .before .before .before .before .before .before .before .before .before .before .pre .1) (none-left (c .before .before .before .before .before .before .before .loop .inv) (rw (c .before .before .before .before .before .enum-told .given .1)) (high-of (c .before .before .before .before .before .before .before .loop .peak) (c .before .before .before .before .higher .result) true (c .before .before .before .before .before .before .before .loop .t .stacks) (c .before .before .before .before .higher .ensures)) (no-instruction _ _ (c .before .before .before .decode-at .result) (c .before .before .before .decode-at .ensures .1) (c .before .before .match2 .keys2))))
 
 cast-log-row : tie.Need-cast-log-row Inv-loop μ-loop
 cast-log-row c = search needs
@@ -141,7 +141,7 @@ same-length-4 : tie.Need-same-length-4 Inv-loop μ-loop
 same-length-4 c = let m = met (c .before .before .before) in m .len ∙ m .walking .len
 
 returns-4 : tie.Need-returns-4 Inv-loop μ-loop
-returns-4 c = rw (c .stopped4 .ensures) (runs-from (c .before .before .before .before .before .before .before .before .before .before .before .before .before .before .before .before .before .before .before .before .before .args .start) (is-live _ (c .before .before .before .before .before .before .before .before .before .before .before .before .before .before .before .before .before .if1 .left)) (c .before .before .before .before .before .before .before .before .before .before .before .before .before .before .before .before .before .before .before .before .before .pre .1) (met-if (met (c .before .before .before)) (c .before .before .match3 .keys1)))
+returns-4 c = rw (c .stopped4 .ensures) (runs-from (c .before .before .before .before .before .before .before .before .before .before .before .before .before .before .before .before .before .before .before .before .before .args .start) (is-live _ (c .before .before .before .before .before .before .before .before .before .before .before .before .before .before .before .before .if1 .left)) (c .before .before .before .before .before .before .before .before .before .before .before .before .before .before .before .before .before .before .before .before .before .pre .1) (met-if (met (c .before .before .before)) (c .before .before .match3 .keys1)))
 
 stopped-requires-5 : tie.Need-stopped-requires-5 Inv-loop μ-loop
 stopped-requires-5 c κs = search needs
@@ -150,7 +150,7 @@ same-length-5 : tie.Need-same-length-5 Inv-loop μ-loop
 same-length-5 c = let m = met (c .before .before .before) in m .len ∙ m .walking .len
 
 returns-5 : tie.Need-returns-5 Inv-loop μ-loop
-returns-5 c = rw (c .stopped5 .ensures) (runs-from (c .before .before .before .before .before .before .before .before .before .before .before .before .before .before .before .before .before .before .before .before .before .args .start) (is-live _ (c .before .before .before .before .before .before .before .before .before .before .before .before .before .before .before .before .before .if1 .left)) (c .before .before .before .before .before .before .before .before .before .before .before .before .before .before .before .before .before .before .before .before .before .pre .1) (met-notif (met (c .before .before .before)) (c .before .before .match3 .keys2)))
+returns-5 c = rw (c .stopped5 .ensures) (runs-from (c .before .before .before .before .before .before .before .before .before .before .before .before .before .before .before .before .before .before .before .before .before .args .start) (is-live _ (c .before .before .before .before .before .before .before .before .before .before .before .before .before .before .before .before .if1 .left)) (c .before .before .before .before .before .before .before .before .before .before .before .before .before .before .before .before .before .before .before .before .before .pre .1) (met-notif (met (c .before .before .before)) (c .before .before .match3 .keys2)))
 
 stopped-requires-6 : tie.Need-stopped-requires-6 Inv-loop μ-loop
 stopped-requires-6 c κs = search needs
@@ -159,7 +159,7 @@ same-length-6 : tie.Need-same-length-6 Inv-loop μ-loop
 same-length-6 c = let m = met (c .before .before .before) in m .len ∙ m .walking .len
 
 returns-6 : tie.Need-returns-6 Inv-loop μ-loop
-returns-6 c = rw (c .stopped6 .ensures) (runs-from (c .before .before .before .before .before .before .before .before .before .before .before .before .before .before .before .before .before .before .before .before .before .args .start) (is-live _ (c .before .before .before .before .before .before .before .before .before .before .before .before .before .before .before .before .before .if1 .left)) (c .before .before .before .before .before .before .before .before .before .before .before .before .before .before .before .before .before .before .before .before .before .pre .1) (met-else (met (c .before .before .before)) (c .before .before .match3 .keys3)))
+returns-6 c = rw (c .stopped6 .ensures) (runs-from (c .before .before .before .before .before .before .before .before .before .before .before .before .before .before .before .before .before .before .before .before .before .args .start) (is-live _ (c .before .before .before .before .before .before .before .before .before .before .before .before .before .before .before .before .if1 .left)) (c .before .before .before .before .before .before .before .before .before .before .before .before .before .before .before .before .before .before .before .before .before .pre .1) (met-else (met (c .before .before .before)) (c .before .before .match3 .keys3)))
 
 stopped-requires-7 : tie.Need-stopped-requires-7 Inv-loop μ-loop
 stopped-requires-7 c κs = search needs
@@ -168,7 +168,7 @@ same-length-7 : tie.Need-same-length-7 Inv-loop μ-loop
 same-length-7 c = let m = met (c .before .before .before) in m .len ∙ m .walking .len
 
 returns-7 : tie.Need-returns-7 Inv-loop μ-loop
-returns-7 c = rw (c .stopped7 .ensures) (runs-from (c .before .before .before .before .before .before .before .before .before .before .before .before .before .before .before .before .before .before .before .before .before .args .start) (is-live _ (c .before .before .before .before .before .before .before .before .before .before .before .before .before .before .before .before .before .if1 .left)) (c .before .before .before .before .before .before .before .before .before .before .before .before .before .before .before .before .before .before .before .before .before .pre .1) (met-endif (met (c .before .before .before)) (c .before .before .match3 .keys4)))
+returns-7 c = rw (c .stopped7 .ensures) (runs-from (c .before .before .before .before .before .before .before .before .before .before .before .before .before .before .before .before .before .before .before .before .before .args .start) (is-live _ (c .before .before .before .before .before .before .before .before .before .before .before .before .before .before .before .before .if1 .left)) (c .before .before .before .before .before .before .before .before .before .before .before .before .before .before .before .before .before .before .before .before .before .pre .1) (met-endif (met (c .before .before .before)) (c .before .before .match3 .keys4)))
 
 skip-requires-2 : tie.Need-skip-requires-2 Inv-loop μ-loop
 skip-requires-2 c κs = room-on (met-return (met (c .before .before)) (c .before .match3 .keys5))
@@ -180,7 +180,7 @@ same-length-8 : tie.Need-same-length-8 Inv-loop μ-loop
 same-length-8 c = c .before .before .before .before .skip2 .kept .1 .0 ∙ (let m = met (c .before .before .before .before .before .before .before) in m .len ∙ m .walking .len)
 
 returns-8 : tie.Need-returns-8 Inv-loop μ-loop
-returns-8 c = rw (c .stopped8 .ensures) (runs-from (c .before .before .before .before .before .before .before .before .before .before .before .before .before .before .before .before .before .before .before .before .before .before .before .before .before .args .start) (is-live _ (c .before .before .before .before .before .before .before .before .before .before .before .before .before .before .before .before .before .before .before .before .before .if1 .left)) (c .before .before .before .before .before .before .before .before .before .before .before .before .before .before .before .before .before .before .before .before .before .before .before .before .before .pre .1) (let w = met-return (met (c .before .before .before .before .before .before .before)) (c .before .before .before .before .before .before .match3 .keys5) in then-dead w (c .before .before .before .before .skip2 .ensures _ _ (w .goes .fit))))
+returns-8 c = rw (c .stopped8 .ensures) (runs-from (c .before .before .before .before .before .before .before .before .before .before .before .before .before .before .before .before .before .before .before .before .before .before .before .before .before .args .start) (is-live _ (c .before .before .before .before .before .before .before .before .before .before .before .before .before .before .before .before .before .before .before .before .if1 .left)) (c .before .before .before .before .before .before .before .before .before .before .before .before .before .before .before .before .before .before .before .before .before .before .before .before .before .pre .1) (let w = met-return (met (c .before .before .before .before .before .before .before)) (c .before .before .before .before .before .before .match3 .keys5) in then-dead w (c .before .before .before .before .skip2 .ensures _ _ (w .goes .fit))))
 
 loop-less : tie.Need-loop-less Inv-loop μ-loop
 loop-less c = nearer (met (c .before))
