@@ -142,41 +142,19 @@ fn skip(code: &[u8], log: &mut [u16], from: usize, met: usize, written: usize) -
         last = at;
         at = i.next;
         let class = opcodes::class_at(i.opcode);
-        match class {
-            opcodes::IF => {
-                return Skipped {
-                    at,
-                    last,
-                    rows,
-                    stop: Stop::Conditional,
-                };
-            }
-            opcodes::NOTIF => {
-                return Skipped {
-                    at,
-                    last,
-                    rows,
-                    stop: Stop::Conditional,
-                };
-            }
-            opcodes::ELSE => {
-                return Skipped {
-                    at,
-                    last,
-                    rows,
-                    stop: Stop::Else,
-                };
-            }
-            opcodes::ENDIF => {
-                return Skipped {
-                    at,
-                    last,
-                    rows,
-                    stop: Stop::Endif,
-                };
-            }
-            _ => {}
-        }
+        let stop = match class {
+            opcodes::IF => Stop::Conditional,
+            opcodes::NOTIF => Stop::Conditional,
+            opcodes::ELSE => Stop::Else,
+            opcodes::ENDIF => Stop::Endif,
+            _ => continue,
+        };
+        return Skipped {
+            at,
+            last,
+            rows,
+            stop,
+        };
     }
 }
 

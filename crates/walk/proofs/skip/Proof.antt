@@ -94,6 +94,8 @@ skip-spec =
     log-row-requires
     add-rows
     class-at-requires
+    loop-less
+    loop-again
     same-length-2
     returns-2
     same-length-3
@@ -101,6 +103,4 @@ skip-spec =
     same-length-4
     returns-4
     same-length-5
-    returns-5
-    loop-less
-    loop-again)
+    returns-5)
