@@ -105,54 +105,104 @@ not-else End k = tt
 not-else Endif k = tt
 not-else (Refused r) k = tt
 
-stopped-ended : (from to : ℕ) (z : Stop) → Stopped from to z → OneOf (0 ∷ 1 ∷ 3 ∷ 4 ∷ 5 ∷ []) (tagOf the-type z) → Ended z
-stopped-ended from to Running h k = h
-stopped-ended from to Conditional h k = absurd (⊎-elim (λ e. omega arith) (⊎-elim (λ e. omega arith) (⊎-elim (λ e. omega arith) (⊎-elim (λ e. omega arith) (λ e. omega arith)))) k)
-stopped-ended from to End h k = tt
-stopped-ended from to Else h k = tt
-stopped-ended from to Endif h k = tt
-stopped-ended from to (Refused r) h k = tt
+-- a walk that runs no more
+abbrev pub Halted : Stop → Type 0
+Halted Running = ⊥
+Halted Conditional = Unit {0}
+Halted End = Unit {0}
+Halted Else = Unit {0}
+Halted Endif = Unit {0}
+Halted (Refused r) = Unit {0}
+
+pub halted : (from to : ℕ) (z : Stop) → Stopped from to z → Halted z
+halted from to Running h = h
+halted from to Conditional h = tt
+halted from to End h = tt
+halted from to Else h = tt
+halted from to Endif h = tt
+halted from to (Refused r) h = tt
+
+halted-ended : (z : Stop) → Halted z → OneOf (0 ∷ 1 ∷ 3 ∷ 4 ∷ 5 ∷ []) (tagOf the-type z) → Ended z
+halted-ended Running h k = h
+halted-ended Conditional h k = absurd (⊎-elim (λ e. omega arith) (⊎-elim (λ e. omega arith) (⊎-elim (λ e. omega arith) (⊎-elim (λ e. omega arith) (λ e. omega arith)))) k)
+halted-ended End h k = tt
+halted-ended Else h k = tt
+halted-ended Endif h k = tt
+halted-ended (Refused r) h k = tt
 
 -- a conditional that was met lies behind the start
 pub met-later : {s : Bytes} {u v : Walk} {l m : List ℕ} → Runs builtIn s u l v m → v .stop ≡ Conditional → u .at < v .at
 met-later r e = rw e at (r .stopped)
 
--- The loop of the arm walker, which runs at the head of each turn.
+-- The loop of the arm walker, at the head of each turn: p is where the first plain part has stopped, w where the last has.
 
-pub record Arming (s : Bytes) (depth : ℕ) (v : Walk) (before : List ℕ) (w : Walk) (now : List ℕ) : Type 0 where
-  pub goes : Goes builtIn s (Open depth) v before w now
+pub record Arming (s : Bytes) (depth : ℕ) (p : Walk) (before : List ℕ) (w : Walk) (now : List ℕ) : Type 0 where
+  pub goes : Goes builtIn s (Open depth) p before w now
   pub len : length now ≡ length before
-  pub runs : w .stop ≡ Running
+  pub stops : Halted (w .stop)
+  pub since : w .stop ≡ Conditional → p .stop ≡ Conditional
 
-pub arming-none : {s : Bytes} {depth : ℕ} {v : Walk} {l : List ℕ} → Ready s l v → v .stop ≡ Running → Arming s depth v l v l
-arming-none r e = record { goes = stays (r .fit) (r .high); len = refl; runs = e }
+-- the measure of the loop falls even where no byte is left
+abbrev standing : Stop → ℕ
+standing Conditional = 1
+standing Running = 0
+standing End = 0
+standing Else = 0
+standing Endif = 0
+standing (Refused r) = 0
 
-module _ {s : Bytes} {depth : ℕ} {v w : Walk} {l n : List ℕ} (a : Arming s depth v l w n) where
-  pub ready-in : Ready s l v → Ready s n w
-  ready-in k = ready-on k (a .goes) (a .len)
+abbrev pub left-in : Bytes → Walk → ℕ
+left-in s w = 2 * (length s - w .at) + standing (w .stop)
 
-  -- the plain part of a turn
-  module _ {p : Walk} {o : List ℕ} (q : Runs builtIn s w n p o) where
-    so-far : Goes builtIn s (Open depth) v l p o
-    so-far = goes-on (a .goes) (among (q .goes))
+stands-later : {from to len : ℕ} (z : Stop) → Stopped from to z → from ≤ to → to ≤ len → 2 * (len - to) + standing z < 2 * (len - from) + 1
+stands-later Running h k m = absurd h
+stands-later Conditional h k m = omega arith
+stands-later End h k m = omega arith
+stands-later Else h k m = omega arith
+stands-later Endif h k m = omega arith
+stands-later (Refused r) h k m = omega arith
 
-    -- it has come to the end of the arm
-    pub arm-ended : OneOf (0 ∷ 1 ∷ 3 ∷ 4 ∷ 5 ∷ []) (tagOf the-type (p .stop)) → Walks builtIn s depth v l p o
-    arm-ended k = record { goes = so-far; ended = stopped-ended (w .at) (p .at) (p .stop) (q .stopped) k }
+-- the first plain part, from the arm's start v
+module _ {s : Bytes} {depth : ℕ} {v p : Walk} {l o : List ℕ} (r : Ready s l v) (q : Runs builtIn s v l p o) (f : length o ≡ length l) where
+  pub arming-none : Arming s depth p o p o
+  arming-none = record { goes = stays (q .goes .fit) (q .goes .high); len = refl; stops = halted (v .at) (p .at) (p .stop) (q .stopped); since = λ e. e }
 
-    -- or to a conditional, which lies behind the start
-    pub falls-in : p .stop ≡ Conditional → 2 * (length s - p .at) + 1 < 2 * (length s - v .at)
-    falls-in e = omega (arith, a .goes .low, met-later q e, q .goes .high)
+  -- where a later one stands
+  module _ {w : Walk} {n : List ℕ} (a : Arming s depth p o w n) where
+    so-far : Goes builtIn s (Open depth) v l w n
+    so-far = goes-on (among (q .goes)) (a .goes)
 
-    pub ready-met : Ready s l v → length o ≡ length n → Ready s o p
-    ready-met k f = ready-on (ready-in k) (q .goes) f
+    pub same-log : length n ≡ length l
+    same-log = a .len ∙ f
 
-    module _ {x : Walk} {m : List ℕ} (c : Closes builtIn s depth p o x m) where
+    -- at the end of the arm
+    pub arm-ended : OneOf (0 ∷ 1 ∷ 3 ∷ 4 ∷ 5 ∷ []) (tagOf the-type (w .stop)) → Walks builtIn s depth v l w n
+    arm-ended k = record { goes = so-far; ended = halted-ended (w .stop) (a .stops) k }
+
+    -- or at a conditional, which lies behind the start
+    pub falls-in : w .stop ≡ Conditional → 2 * (length s - w .at) + 1 < 2 * (length s - v .at)
+    falls-in e = omega (arith, a .goes .low, a .goes .high, met-later q (a .since e))
+
+    pub ready-in : Ready s n w
+    ready-in = ready-on r so-far same-log
+
+    module _ {x : Walk} {m : List ℕ} (c : Closes builtIn s depth w n x m) where
       pub arm-refused : (y : Refusal) → x .stop ≡ Refused y → Walks builtIn s depth v l x m
       arm-refused y e = record { goes = goes-on so-far (c .goes); ended = rw e tt }
 
-      pub arm-again : OneOf (0 ∷ 1 ∷ 2 ∷ 3 ∷ 4 ∷ []) (tagOf the-type (x .stop)) → length o ≡ length n → length m ≡ length o → Arming s depth v l x m
-      arm-again k f g = record { goes = goes-on so-far (c .goes); len = g ∙ f ∙ a .len; runs = closed-running (x .stop) (c .closed) k }
+      module _ (g : length m ≡ length n) where
+        pub ready-next : Ready s m x
+        ready-next = ready-on ready-in (c .goes) g
 
-      pub arm-nearer : p .stop ≡ Conditional → length s - x .at < length s - w .at
-      arm-nearer e = omega (arith, met-later q e, c .goes .low, c .goes .high)
+        -- the next plain part
+        module _ (e : w .stop ≡ Conditional) {u : Walk} {j : List ℕ} (t : Runs builtIn s x m u j) where
+          pub arm-again : length j ≡ length m → Arming s depth p o u j
+          arm-again h = record {
+            goes = goes-on (a .goes) (goes-on (c .goes) (among (t .goes)));
+            len = h ∙ g ∙ a .len;
+            stops = halted (x .at) (u .at) (u .stop) (t .stopped);
+            since = λ i. a .since e;
+          }
+
+          pub arm-nearer : left-in s u < left-in s w
+          arm-nearer = rw e (omega (arith, c .goes .low, c .goes .high, stands-later (u .stop) (t .stopped) (t .goes .low) (t .goes .high)))

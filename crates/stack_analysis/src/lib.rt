@@ -188,19 +188,18 @@ fn arm(code: &[u8], log: &mut [u16], start: Walk, depth: u32) -> Walk
     ensures { λ r.
         ⌜ Walks builtIn (now (code .entry)) depth start (now (log .entry)) r (now (log .exit)) ⌝ }
 {
-    let mut w = start;
+    let mut w = walk::plain(code, log, start);
     loop {
-        let p = walk::plain(code, log, w);
-        let met = p.stop;
+        let met = w.stop;
         let Stop::Conditional = met else {
-            return p;
+            return w;
         };
-        let v = conditional(code, log, p, depth);
+        let v = conditional(code, log, w, depth);
         let closed = v.stop;
         if let Stop::Refused(_) = closed {
             return v;
         }
-        w = v;
+        w = walk::plain(code, log, v);
     }
 }
 

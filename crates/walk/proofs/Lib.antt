@@ -3,3 +3,4 @@ pub mod Goings
 pub mod Rows
 pub mod Steps
 pub mod Loop
+pub mod Dead

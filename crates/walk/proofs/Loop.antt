@@ -39,8 +39,8 @@ use Rattle.walk.proofs.Goings.{stays, goes-on}
 use Rattle.walk.proofs.Steps.{past, at-if, at-notif, at-else, at-endif, at-return, skipped, stepped, at-end}
 
 -- the walk that the loop's variables stand for
-abbrev pub walkOf : Stepped → Bool → ℕ → ℕ → ℕ → ℕ → Walk
-walkOf t live at last rows peak = record { stacks = t .stacks; live = live; at = at; last = last; rows = rows; peak = peak; stop = stopOf (t .answer) }
+abbrev pub walkOf : Stepped → ℕ → ℕ → ℕ → ℕ → Walk
+walkOf t at last rows peak = record { stacks = t .stacks; live = true; at = at; last = last; rows = rows; peak = peak; stop = stopOf (t .answer) }
 
 -- the loop's invariant
 pub record Walking (s : Bytes) (before : List ℕ) (v : Walk) (now : List ℕ) (w : Walk) : Type 0 where
@@ -53,15 +53,15 @@ pub walking-none : {s : Bytes} {log : List ℕ} {v : Walk} → AreBytes s → Re
 walking-none b r = record { bytes = b; ready = r; len = refl; goes = stays (r .fit) (r .high) }
 
 -- the walk from v is the walk from its record, where v runs
-pub runs-from : {s : Bytes} {before now : List ℕ} (v : Walk) {w : Walk} → v .stop ≡ Running
-    → Runs builtIn s (record { stacks = v .stacks; live = v .live; at = v .at; last = v .last; rows = v .rows; peak = v .peak; stop = Running }) before w now → Runs builtIn s v before w now
-runs-from {s} {before} {now} v {w} e r = subst (λ (u : Walk). Runs builtIn s u before w now) same r
+pub runs-from : {s : Bytes} {before now : List ℕ} (v : Walk) {alive : Bool} {w : Walk} → v .live ≡ alive → v .stop ≡ Running
+    → Runs builtIn s (record { stacks = v .stacks; live = alive; at = v .at; last = v .last; rows = v .rows; peak = v .peak; stop = Running }) before w now → Runs builtIn s v before w now
+runs-from {s} {before} {now} v {alive} {w} l e r = subst (λ (u : Walk). Runs builtIn s u before w now) same r
   where
-    same : record { stacks = v .stacks; live = v .live; at = v .at; last = v .last; rows = v .rows; peak = v .peak; stop = Running } ≡ v
-    same = λ i. record { stacks = v .stacks; live = v .live; at = v .at; last = v .last; rows = v .rows; peak = v .peak; stop = sym e i }
+    same : record { stacks = v .stacks; live = alive; at = v .at; last = v .last; rows = v .rows; peak = v .peak; stop = Running } ≡ v
+    same = λ i. record { stacks = v .stacks; live = sym l i; at = v .at; last = v .last; rows = v .rows; peak = v .peak; stop = sym e i }
 
 -- in a dead arm an instruction of this class is skipped
-abbrev Skips : Class → Type 0
+abbrev pub Skips : Class → Type 0
 Skips k = (i : Decoding.Instruction) (fs : List Frame) → effect builtIn i k dead fs ≡ moves dead fs
 
 -- What is known once the instruction i is met by w, its row is written, and its class number is read.
@@ -106,12 +106,12 @@ module _ {s : Bytes} {before : List ℕ} {v : Walk} {old : List ℕ} {w : Walk} 
   kept : {t : Stacks} {alive other : Bool} {x y : Stop} → alive ≡ other → x ≡ y → Walking s before v new (past w i peak t alive x) → Walking s before v new (past w i peak t other y)
   kept {t} {alive} {other} {x} {y} e f k = subst (λ (z : Stop). Walking s before v new (past w i peak t other z)) f (subst (λ (z : Bool). Walking s before v new (past w i peak t z x)) e k)
 
-  pub met-return : class ≡ 7 → Walking s before v new (past w i peak (w .stacks) false (w .stop))
-  met-return e = kept refl (sym (m .run)) (on (at-return builtIn s (m .stands) w (m .run) refl old (m .row) (m .high) (kind 7 e) fits))
+  pub met-return : class ≡ 7 → Walking s before v new (past w i peak (w .stacks) false Running)
+  met-return e = on (at-return builtIn s (m .stands) w (m .run) refl old (m .row) (m .high) (kind 7 e) fits)
 
   -- an ordinary instruction in a dead arm
-  pub met-dead : Skips (classAt class) → w .live ≡ false → Walking s before v new (past w i peak (w .stacks) (w .live) (w .stop))
-  met-dead k l = kept (sym l) (sym (m .run)) (on (skipped builtIn s (m .stands) w (m .run) refl old (m .row) (m .high) (classAt class) (kind class refl) (k _) l fits))
+  pub met-dead : Skips (classAt class) → w .live ≡ false → Walking s before v new (past w i peak (w .stacks) false Running)
+  met-dead k l = on (skipped builtIn s (m .stands) w (m .run) refl old (m .row) (m .high) (classAt class) (kind class refl) (k _) l fits)
 
   -- an ordinary instruction in a live arm
   pub met-live : (n : ℕ) (o : Ordinary) → class ≡ n → classAt n ≡ ordinary o → w .live ≡ true → (r : Stepped)
@@ -131,10 +131,10 @@ module _ {s : Bytes} {before : List ℕ} {v : Walk} {old : List ℕ} {w : Walk} 
 -- The other needs of the loop.
 module _ {s : Bytes} {before : List ℕ} {v : Walk} {now : List ℕ} where
   -- the operation before was refused
-  pub was-refused : (t : Stepped) (live : Bool) (at last rows peak : ℕ) (r : Refusal) → Walking s before v now (walkOf t live at last rows peak) → t .answer ≡ A.Refused r
-      → Runs builtIn s v before (record { stacks = t .stacks; live = live; at = at; last = last; rows = rows; peak = peak; stop = Refused r }) now
-  was-refused t live at last rows peak r w e = record {
-    goes = subst (λ (x : Stop). Goes builtIn s Any v before (record { stacks = t .stacks; live = live; at = at; last = last; rows = rows; peak = peak; stop = x }) now) (ap stopOf e) (w .goes);
+  pub was-refused : (t : Stepped) (at last rows peak : ℕ) (r : Refusal) → Walking s before v now (walkOf t at last rows peak) → t .answer ≡ A.Refused r
+      → Runs builtIn s v before (record { stacks = t .stacks; live = true; at = at; last = last; rows = rows; peak = peak; stop = Refused r }) now
+  was-refused t at last rows peak r w e = record {
+    goes = subst (λ (x : Stop). Goes builtIn s Any v before (record { stacks = t .stacks; live = true; at = at; last = last; rows = rows; peak = peak; stop = x }) now) (ap stopOf e) (w .goes);
     stopped = tt;
   }
 
@@ -155,8 +155,8 @@ no-instruction s p (D.At i) e h = absurd (⊎-elim (λ k. omega arith) (λ k. om
 no-instruction s p D.End e h = ap instructions (code-ends s p (sym e) .0)
 no-instruction s p (D.Malformed at) e h = ap instructions (code-malformed s p (sym e) .0)
 
-pub ready-running : {s : Bytes} {log : List ℕ} (v : Walk) → Ready s log v
-    → Ready s log (record { stacks = v .stacks; live = v .live; at = v .at; last = v .last; rows = v .rows; peak = v .peak; stop = Running })
+pub ready-running : {s : Bytes} {log : List ℕ} (v : Walk) {alive : Bool} → Ready s log v
+    → Ready s log (record { stacks = v .stacks; live = alive; at = v .at; last = v .last; rows = v .rows; peak = v .peak; stop = Running })
 ready-running v r = record { fit = r .fit; high = r .high; short = r .short; room = r .room }
 
 -- the loop's measure falls
@@ -212,37 +212,10 @@ unfolding step
 met-unmodelled {w = w} {i = i} m l e =
     met-live m 0 unmodelled e refl l (record { stacks = w .stacks; answer = A.Refused (F.Unmodelled (i .opcode)) }) (record { fit = m .walking .goes .fit; same = refl })
 
--- What the two matches leave: the numbers of the control classes, and those of the classes with a method.
-abbrev pub control : List (List ℕ)
-control = (7 ∷ []) ∷ (6 ∷ []) ∷ (5 ∷ []) ∷ (4 ∷ []) ∷ (3 ∷ []) ∷ []
+-- What the match leaves: the numbers of the classes with an arm of their own.
+abbrev pub handled : List (List ℕ)
+handled = (31 ∷ []) ∷ (30 ∷ []) ∷ (29 ∷ []) ∷ (28 ∷ []) ∷ (27 ∷ []) ∷ (26 ∷ []) ∷ (25 ∷ []) ∷ (24 ∷ []) ∷ (23 ∷ []) ∷ (22 ∷ []) ∷ (21 ∷ []) ∷ (20 ∷ []) ∷ (19 ∷ []) ∷ (18 ∷ []) ∷ (17 ∷ []) ∷ (16 ∷ []) ∷ (15 ∷ []) ∷ (14 ∷ []) ∷ (13 ∷ []) ∷ (12 ∷ []) ∷ (11 ∷ []) ∷ (10 ∷ []) ∷ (9 ∷ []) ∷ (8 ∷ []) ∷ (1 ∷ []) ∷ (2 ∷ []) ∷ (7 ∷ []) ∷ (6 ∷ []) ∷ (5 ∷ []) ∷ (4 ∷ []) ∷ (3 ∷ []) ∷ []
 
-abbrev asOrdinary : Class → ℕ
-asOrdinary (ordinary o) = 1
-asOrdinary (plain pops pushes) = 1
-asOrdinary IF = 0
-asOrdinary NOTIF = 0
-asOrdinary ELSE = 0
-asOrdinary ENDIF = 0
-asOrdinary RETURN = 0
-
-is-ordinary : (c : Class) → 1 ≡ asOrdinary c → Skips c
-is-ordinary (ordinary o) e i fs = refl
-is-ordinary (plain pops pushes) e i fs = refl
-is-ordinary IF e i fs = absurd (omega (arith, e))
-is-ordinary NOTIF e i fs = absurd (omega (arith, e))
-is-ordinary ELSE e i fs = absurd (omega (arith, e))
-is-ordinary ENDIF e i fs = absurd (omega (arith, e))
-is-ordinary RETURN e i fs = absurd (omega (arith, e))
-
-both-rest : (a b : List (List ℕ)) (x : ℕ) → Rest a x → Rest b x → Rest (a ++ b) x
-both-rest [] b x p q = q
-both-rest (k ∷ a) b x p q = (both-rest a b x (p .0) q, p .1)
-
-module _ {s : Bytes} {before : List ℕ} {v : Walk} {old : List ℕ} {w : Walk} {new : List ℕ} {i : Instruction} {peak class : ℕ} (m : Met s before v old w new i peak class)
-    (rest : Rest control class) where
-  pub met-skipped : w .live ≡ false → Walking s before v new (past w i peak (w .stacks) (w .live) (w .stop))
-  met-skipped l =
-      met-dead m (is-ordinary (classAt class) (below (λ n. asOrdinary (classAt n)) control class 1 32 rest (result-below (i .opcode) class (m .number)) tt)) l
-
-  pub class-left : (arms : List (List ℕ)) → Rest arms class → T (every (gives (λ n. n) (arms ++ control) 0) 32 0) → class ≡ 0
-  class-left arms k t = sym (below (λ n. n) (arms ++ control) class 0 32 (both-rest arms control class k rest) (result-below (i .opcode) class (m .number)) t)
+pub class-left : {s : Bytes} {before : List ℕ} {v : Walk} {old : List ℕ} {w : Walk} {new : List ℕ} {i : Instruction} {peak class : ℕ} → Met s before v old w new i peak class
+    → Rest handled class → class ≡ 0
+class-left {i = i} {class = class} m k = sym (below (λ n. n) handled class 0 32 k (result-below (i .opcode) class (m .number)) tt)

@@ -6,27 +6,12 @@ use Prim.Native.Nat.{ℕ, _+_, _*_, _≤_, _<_, max}
 use native.Mathlib.Omega.{arith}
 use lib.ListN.{length, set}
 use Rattle.definition.specs.Basics.{pick}
-use Rattle.definition.specs.Walk.{totalOf, logRow}
+use Rattle.definition.specs.Walk.{dead, totalOf, logRow}
 use Rattle.definition.proofs.Arms.{mainHeight, altHeight, row-stores}
 use Rattle.stack.specs.View.{view}
 use Rattle.stack.specs.declared.Stacks.{Stacks}
 use Rattle.slots.proofs.Laws.{length-tops}
 use Rattle.walk.specs.Runs.{armOf}
-
-pub higher-now : (peak total : ℕ) (alive : Bool) → alive ≡ true → peak < total → total ≡ max peak (pick alive total 0)
-higher-now peak total alive e h = rw e (omega arith)
-
-pub high-already : (peak total : ℕ) (alive : Bool) → alive ≡ true → total ≤ peak → peak ≡ max peak (pick alive total 0)
-high-already peak total alive e h = rw e (omega arith)
-
-pub high-dead : (peak total : ℕ) (alive : Bool) → alive ≡ false → peak ≡ max peak (pick alive total 0)
-high-dead peak total alive e = rw e (omega arith)
-
-pub logged-live : (height : ℕ) (alive : Bool) → alive ≡ true → height ≡ pick alive height 65535
-logged-live height alive e = rw e
-
-pub logged-dead : (height : ℕ) (alive : Bool) → alive ≡ false → 65535 ≡ pick alive height 65535
-logged-dead height alive e = rw e
 
 -- what the log and the peak take from an arm
 main-height : (alive : Bool) (s : Stacks) → mainHeight (armOf alive s) ≡ pick alive (s .mains) 65535
@@ -47,6 +32,9 @@ total-arm false s = refl
 pub row-written : (k offset m a : ℕ) (alive : Bool) (s : Stacks) (log new : List ℕ) → new ≡ set (set (set log (3 * k) offset) (3 * k + 1) m) (3 * k + 2) a
     → m ≡ pick alive (s .mains) 65535 → a ≡ pick alive (s .alts) 65535 → new ≡ logRow k offset (armOf alive s) log
 row-written k offset m a alive s log new e f g = e ∙ rw (row-stores, main-height alive s, alt-height alive s, f, g)
+
+pub row-dead : (k offset : ℕ) (log new : List ℕ) → new ≡ set (set (set log (3 * k) offset) (3 * k + 1) 65535) (3 * k + 2) 65535 → new ≡ logRow k offset dead log
+row-dead k offset log new e = e ∙ rw row-stores
 
 pub high-of : (peak high : ℕ) (alive : Bool) (s : Stacks) → high ≡ max peak (pick alive (s .mains + s .alts) 0) → high ≡ max peak (totalOf (armOf alive s))
 high-of peak high alive s e = e ∙ rw (total-arm alive s)

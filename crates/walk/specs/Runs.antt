@@ -92,6 +92,17 @@ Stopped from to Else = Unit {0}
 Stopped from to Endif = Unit {0}
 Stopped from to (Refused r) = Unit {0}
 
+-- the walk over a dead arm, with these stacks left aside
+abbrev pub deadWalk : Stacks → ℕ → ℕ → ℕ → ℕ → Stop → Walk
+deadWalk s at last rows peak stop =
+    record { stacks = s; live = false; at = at; last = last; rows = rows; peak = peak; stop = stop }
+
+-- room in the log for the rows that are left, and offsets that fit it
+pub record Room (s : Bytes) (log : List ℕ) (at rows : ℕ) : Type 0 where
+  pub high : at ≤ length s
+  pub short : length s ≤ 10000
+  pub room : 3 * (rows + length (instructions (codeAt s at))) ≤ length log
+
 -- what each of the walkers asks: room in the log for the rows that are left, and offsets that fit it
 pub record Ready (s : Bytes) (log : List ℕ) (w : Walk) : Type 0 where
   pub fit : Fit (w .stacks)

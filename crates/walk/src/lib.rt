@@ -2,9 +2,9 @@
 ghost use mathlib.Core.Path.{_≡_};
 ghost use Prim.Native.Nat.{ℕ, _+_, _*_, _≤_, _<_, max};
 ghost use lib.ListN.{length, set};
-ghost use Rattle.definition.specs.Basics.{pick};
 ghost use Rattle.definition.specs.Stacks.{builtIn};
-ghost use Rattle.walk.specs.Runs.{Ready, Runs};
+ghost use Rattle.stack.specs.View.{Fit};
+ghost use Rattle.walk.specs.Runs.{deadWalk, Room, Ready, Runs};
 use decode::Decoded;
 use decode::Value;
 use stack::Answer;
@@ -14,6 +14,9 @@ use stack::Stepped;
 
 // The most items that the stacks hold together.
 const LIMIT: u32 = 244;
+
+// What the log has for a height in a dead arm.
+const DEAD: u16 = 65535;
 
 // How a walk stands: it runs, or has stopped at the end, at an instruction of a conditional, whose row is written, or
 // with a refusal.
@@ -38,27 +41,14 @@ pub struct Walk {
     pub stop: Stop,
 }
 
-// The peak with the total of an arm.
-fn higher(peak: u32, live: bool, total: u32) -> u32
-    ensures { λ r. ⌜ r ≡ max peak (pick live total 0) ⌝ }
+// The peak with the total of a live arm.
+fn higher(peak: u32, total: u32) -> u32
+    ensures { λ r. ⌜ r ≡ max peak total ⌝ }
 {
-    if live {
-        if peak < total {
-            return total;
-        }
+    if peak < total {
+        return total;
     }
     peak
-}
-
-// What the log says of a height: 65535 where the arm is dead.
-fn logged(live: bool, height: u32) -> u16
-    requires { ⌜ height ≤ 244 ⌝ }
-    ensures { λ r. ⌜ r ≡ pick live height 65535 ⌝ }
-{
-    if live {
-        return height as u16;
-    }
-    65535
 }
 
 // Row k of the log.
@@ -110,6 +100,64 @@ fn stopped(
     }
 }
 
+// Where the walk over a dead arm stands: the offset of the next instruction, that of the one met last, the rows written.
+struct Skipped {
+    at: usize,
+    last: usize,
+    rows: usize,
+    stop: Stop,
+}
+
+// In a dead arm, the instructions up to the next IF, NOTIF, ELSE or ENDIF, whose row is written too, or to the end.
+fn skip(code: &[u8], log: &mut [u16], from: usize, met: usize, written: usize) -> Skipped
+    requires { ⌜ Room (now code) (now log) from written ⌝ }
+    ensures { λ r.
+        ⌜
+        ((s : Stacks) (peak : ℕ)
+        → Fit s
+        → Runs
+        builtIn
+        (now (code .entry))
+        (deadWalk s from met written peak Stop.Running)
+        (now (log .entry))
+        (deadWalk s (r .at) (r .last) (r .rows) peak (r .stop))
+        (now (log .exit)))
+        ⌝ }
+{
+    let mut at = from;
+    let mut last = met;
+    let mut rows = written;
+    loop {
+        let d = decode::decode_at(code, at);
+        let Decoded::At(i) = d else {
+            return Skipped {
+                at,
+                last,
+                rows,
+                stop: Stop::End,
+            };
+        };
+        log_row(log, rows, at as u16, DEAD, DEAD);
+        rows += 1;
+        last = at;
+        at = i.next;
+        let class = opcodes::class_at(i.opcode);
+        let stop = match class {
+            opcodes::IF => Stop::Conditional,
+            opcodes::NOTIF => Stop::Conditional,
+            opcodes::ELSE => Stop::Else,
+            opcodes::ENDIF => Stop::Endif,
+            _ => continue,
+        };
+        return Skipped {
+            at,
+            last,
+            rows,
+            stop,
+        };
+    }
+}
+
 // The instructions up to the next IF, NOTIF, ELSE or ENDIF, whose row is written too, or to the end. It calls no walker,
 // so that the methods of the stacks are compiled into its loop.
 pub fn plain(code: &[u8], log: &mut [u16], start: Walk) -> Walk
@@ -122,7 +170,12 @@ pub fn plain(code: &[u8], log: &mut [u16], start: Walk) -> Walk
         stacks: s0,
         answer: Answer::Done,
     };
-    let mut live = start.live;
+    if !start.live {
+        let k = skip(code, log, start.at, start.last, start.rows);
+        let s = t.stacks;
+        let stop = k.stop;
+        return stopped(s, false, k.at, k.last, k.rows, start.peak, stop);
+    }
     let mut at = start.at;
     let mut last = start.last;
     let mut rows = start.rows;
@@ -131,17 +184,17 @@ pub fn plain(code: &[u8], log: &mut [u16], start: Walk) -> Walk
         let answer = t.answer;
         if let Answer::Refused(r) = answer {
             let s1 = t.stacks;
-            return stopped(s1, live, at, last, rows, peak, Stop::Refused(r));
+            return stopped(s1, true, at, last, rows, peak, Stop::Refused(r));
         }
         let m = t.stacks.mains;
         let a = t.stacks.alts;
-        peak = higher(peak, live, m + a);
+        peak = higher(peak, m + a);
         let d = decode::decode_at(code, at);
         let Decoded::At(i) = d else {
             let s2 = t.stacks;
-            return stopped(s2, live, at, last, rows, peak, Stop::End);
+            return stopped(s2, true, at, last, rows, peak, Stop::End);
         };
-        log_row(log, rows, at as u16, logged(live, m), logged(live, a));
+        log_row(log, rows, at as u16, m as u16, a as u16);
         rows += 1;
         last = at;
         at = i.next;
@@ -150,30 +203,26 @@ pub fn plain(code: &[u8], log: &mut [u16], start: Walk) -> Walk
         match class {
             opcodes::IF => {
                 let s3 = t.stacks;
-                return stopped(s3, live, at, last, rows, peak, Stop::Conditional);
+                return stopped(s3, true, at, last, rows, peak, Stop::Conditional);
             }
             opcodes::NOTIF => {
                 let s4 = t.stacks;
-                return stopped(s4, live, at, last, rows, peak, Stop::Conditional);
+                return stopped(s4, true, at, last, rows, peak, Stop::Conditional);
             }
             opcodes::ELSE => {
                 let s5 = t.stacks;
-                return stopped(s5, live, at, last, rows, peak, Stop::Else);
+                return stopped(s5, true, at, last, rows, peak, Stop::Else);
             }
             opcodes::ENDIF => {
                 let s6 = t.stacks;
-                return stopped(s6, live, at, last, rows, peak, Stop::Endif);
+                return stopped(s6, true, at, last, rows, peak, Stop::Endif);
             }
             opcodes::RETURN => {
-                live = false;
-                continue;
+                let k = skip(code, log, at, last, rows);
+                let s7 = t.stacks;
+                let stop = k.stop;
+                return stopped(s7, false, k.at, k.last, k.rows, peak, stop);
             }
-            _ => {}
-        }
-        if !live {
-            continue;
-        }
-        match class {
             opcodes::NOTHING => continue,
             opcodes::PUSH => {
                 let v = i.literal;

@@ -1,5 +1,5 @@
 use mathlib.Core.Path.{_≡_, refl, _∙_}
-use Rattle.stack_analysis.proofs.Cycle.{second, ready-on, ready-there, one-deeper, not-entered, one-arm, two-arms, closed-running, not-else, Arming, arming-none, ready-in, arm-ended, falls-in, ready-met, arm-refused, arm-again, arm-nearer}
+use Rattle.stack_analysis.proofs.Cycle.{second, ready-on, ready-there, one-deeper, not-entered, one-arm, two-arms, closed-running, not-else, Arming, arming-none, left-in, same-log, ready-in, arm-ended, falls-in, arm-refused, ready-next, arm-again, arm-nearer}
 use lib.ListN.{length}
 use borrow.Author.Needs.{needs}
 use native.Mathlib.Omega.{arith}
@@ -42,15 +42,7 @@ abbrev arm-Inv-loop : arm-lts.InvT-loop
 arm-Inv-loop code log₀ depth w₀ log w = Arming code depth w₀ log₀ w log
 
 abbrev arm-μ-loop : arm-lts.MeasureT-loop
-arm-μ-loop code log₀ depth w₀ log w = length code - w .at
-
-arm-loop-holds : (t : ℕ) → arm-lts.Need-loop-holds (
-  plain-reads.Asked,
-  plain-reads.Learnt,
-  conditional-below t,
-  conditional.Post,
-) (arm-at t) arm.Post arm-Inv-loop arm-μ-loop
-arm-loop-holds t c = arming-none (c .before .before .pre .1 .0 .0) (c .before .before .pre .1 .0 .1)
+arm-μ-loop code log₀ depth w₀ log w = left-in code w
 
 arm-plain-requires : (t : ℕ) → arm-lts.Need-plain-requires (
   plain-reads.Asked,
@@ -58,7 +50,18 @@ arm-plain-requires : (t : ℕ) → arm-lts.Need-plain-requires (
   conditional-below t,
   conditional.Post,
 ) (arm-at t) arm.Post arm-Inv-loop arm-μ-loop
-arm-plain-requires t c κs = (ready-in (c .before .loop .inv) (c .before .before .before .before .pre .1 .0 .0), c .before .loop .inv .runs)
+arm-plain-requires t c κs = c .before .before .before .pre .1 .0
+
+arm-loop-holds : (t : ℕ) → arm-lts.Need-loop-holds (
+  plain-reads.Asked,
+  plain-reads.Learnt,
+  conditional-below t,
+  conditional.Post,
+) (arm-at t) arm.Post arm-Inv-loop arm-μ-loop
+arm-loop-holds t c =
+    let s = c .before .before .before .before .before .before in
+    let q = c .before .before .plain in
+    arming-none (s .pre .1 .0 .0) (q .ensures) (q .kept .1 .0)
 
 arm-enum-told : (t : ℕ) → arm-lts.Need-enum-told (
   plain-reads.Asked,
@@ -74,7 +77,11 @@ arm-same-length : (t : ℕ) → arm-lts.Need-same-length (
   conditional-below t,
   conditional.Post,
 ) (arm-at t) arm.Post arm-Inv-loop arm-μ-loop
-arm-same-length t c = search needs
+arm-same-length t c =
+    let s = c .before .before .before .before .before .before .before .before in
+    let q = c .before .before .before .before .plain in
+    let a = c .before .loop .inv in
+    same-log (s .pre .1 .0 .0) (q .ensures) (q .kept .1 .0) a
 
 arm-returns : (t : ℕ) → arm-lts.Need-returns (
   plain-reads.Asked,
@@ -82,7 +89,11 @@ arm-returns : (t : ℕ) → arm-lts.Need-returns (
   conditional-below t,
   conditional.Post,
 ) (arm-at t) arm.Post arm-Inv-loop arm-μ-loop
-arm-returns t c = arm-ended (c .before .before .before .before .before .loop .inv) (c .before .before .before .plain .ensures) (c .match .keys2)
+arm-returns t c =
+    let s = c .before .before .before .before .before .before .before .before in
+    let q = c .before .before .before .before .plain in
+    let a = c .before .loop .inv in
+    arm-ended (s .pre .1 .0 .0) (q .ensures) (q .kept .1 .0) a (c .match .keys2)
 
 arm-conditional-requires : (t : ℕ) → arm-lts.Need-conditional-requires (
   plain-reads.Asked,
@@ -92,10 +103,10 @@ arm-conditional-requires : (t : ℕ) → arm-lts.Need-conditional-requires (
 ) (arm-at t) arm.Post arm-Inv-loop arm-μ-loop
 arm-conditional-requires t c κs =
     let s = c .before .before .before .before .before .before .before .before .before .before in
-    let a = c .before .before .before .before .before .before .before .loop .inv in
-    let q = c .before .before .before .before .before .plain in
+    let q = c .before .before .before .before .before .before .plain in
+    let a = c .before .before .before .loop .inv in
     let met = c .before .enum-told .given .1 in
-    (omega (arith, falls-in a (q .ensures) met, s .pre .0), ((ready-met a (q .ensures) (s .pre .1 .0 .0) (q .kept .1 .0), met), s .pre .1 .1))
+    (omega (arith, falls-in (s .pre .1 .0 .0) (q .ensures) (q .kept .1 .0) a met, s .pre .0), ((ready-in (s .pre .1 .0 .0) (q .ensures) (q .kept .1 .0) a, met), s .pre .1 .1))
 
 arm-enum-told-2 : (t : ℕ) → arm-lts.Need-enum-told-2 (
   plain-reads.Asked,
@@ -111,7 +122,11 @@ arm-same-length-2 : (t : ℕ) → arm-lts.Need-same-length-2 (
   conditional-below t,
   conditional.Post,
 ) (arm-at t) arm.Post arm-Inv-loop arm-μ-loop
-arm-same-length-2 t c = search needs
+arm-same-length-2 t c =
+    let s = c .before .before .before .before .before .before .before .before .before .before .before .before .before .before .before in
+    let q = c .before .before .before .before .before .before .before .before .before .before .before .plain in
+    let a = c .before .before .before .before .before .before .before .before .loop .inv in
+    c .before .before .before .before .conditional .kept .1 .0 ∙ same-log (s .pre .1 .0 .0) (q .ensures) (q .kept .1 .0) a
 
 arm-returns-2 : (t : ℕ) → arm-lts.Need-returns-2 (
   plain-reads.Asked,
@@ -119,7 +134,24 @@ arm-returns-2 : (t : ℕ) → arm-lts.Need-returns-2 (
   conditional-below t,
   conditional.Post,
 ) (arm-at t) arm.Post arm-Inv-loop arm-μ-loop
-arm-returns-2 t c = arm-refused (c .before .before .before .before .before .before .before .before .before .before .before .before .loop .inv) (c .before .before .before .before .before .before .before .before .before .before .plain .ensures) (c .before .before .before .before .conditional .ensures) _ (c .enum-told2 .given .1)
+arm-returns-2 t c =
+    let s = c .before .before .before .before .before .before .before .before .before .before .before .before .before .before .before in
+    let q = c .before .before .before .before .before .before .before .before .before .before .before .plain in
+    let a = c .before .before .before .before .before .before .before .before .loop .inv in
+    arm-refused (s .pre .1 .0 .0) (q .ensures) (q .kept .1 .0) a (c .before .before .before .before .conditional .ensures) _ (c .enum-told2 .given .1)
+
+arm-plain-requires-2 : (t : ℕ) → arm-lts.Need-plain-requires-2 (
+  plain-reads.Asked,
+  plain-reads.Learnt,
+  conditional-below t,
+  conditional.Post,
+) (arm-at t) arm.Post arm-Inv-loop arm-μ-loop
+arm-plain-requires-2 t c κs =
+    let s = c .before .before .before .before .before .before .before .before .before .before .before .before .before .before .before in
+    let q = c .before .before .before .before .before .before .before .before .before .before .before .plain in
+    let a = c .before .before .before .before .before .before .before .before .loop .inv in
+    let d = c .before .before .before .before .conditional in
+    (ready-next (s .pre .1 .0 .0) (q .ensures) (q .kept .1 .0) a (d .ensures) (d .kept .1 .0), closed-running _ (d .ensures .closed) (c .before .match2 .keys2))
 
 arm-loop-less : (t : ℕ) → arm-lts.Need-loop-less (
   plain-reads.Asked,
@@ -127,7 +159,13 @@ arm-loop-less : (t : ℕ) → arm-lts.Need-loop-less (
   conditional-below t,
   conditional.Post,
 ) (arm-at t) arm.Post arm-Inv-loop arm-μ-loop
-arm-loop-less t c = arm-nearer (c .before .before .before .before .before .before .before .before .before .before .before .loop .inv) (c .before .before .before .before .before .before .before .before .before .plain .ensures) (c .before .before .before .conditional .ensures) (c .before .before .before .before .before .enum-told .given .1)
+arm-loop-less t c =
+    let s = c .before .before .before .before .before .before .before .before .before .before .before .before .before .before .before .before .before .before in
+    let q = c .before .before .before .before .before .before .before .before .before .before .before .before .before .before .plain in
+    let a = c .before .before .before .before .before .before .before .before .before .before .before .loop .inv in
+    let d = c .before .before .before .before .before .before .before .conditional in
+    let n = c .before .before .plain2 in
+    arm-nearer (s .pre .1 .0 .0) (q .ensures) (q .kept .1 .0) a (d .ensures) (d .kept .1 .0) (c .before .before .before .before .before .before .before .before .before .enum-told .given .1) (n .ensures)
 
 arm-loop-again : (t : ℕ) → arm-lts.Need-loop-again (
   plain-reads.Asked,
@@ -136,9 +174,12 @@ arm-loop-again : (t : ℕ) → arm-lts.Need-loop-again (
   conditional.Post,
 ) (arm-at t) arm.Post arm-Inv-loop arm-μ-loop
 arm-loop-again t c =
-    let q = c .before .before .before .before .before .before .before .before .before .plain in
-    let d = c .before .before .before .conditional in
-    arm-again (c .before .before .before .before .before .before .before .before .before .before .before .loop .inv) (q .ensures) (d .ensures) (c .match2 .keys2) (q .kept .1 .0) (d .kept .1 .0)
+    let s = c .before .before .before .before .before .before .before .before .before .before .before .before .before .before .before .before .before .before in
+    let q = c .before .before .before .before .before .before .before .before .before .before .before .before .before .before .plain in
+    let a = c .before .before .before .before .before .before .before .before .before .before .before .loop .inv in
+    let d = c .before .before .before .before .before .before .before .conditional in
+    let n = c .before .before .plain2 in
+    arm-again (s .pre .1 .0 .0) (q .ensures) (q .kept .1 .0) a (d .ensures) (d .kept .1 .0) (c .before .before .before .before .before .before .before .before .before .enum-told .given .1) (n .ensures) (n .kept .1 .0)
 
 conditional-enter-requires : (t : ℕ) → conditional-lts.Need-enter-requires (
   enter-reads.Asked,
@@ -317,8 +358,8 @@ pub +arm+conditional-spec : {M : Type 1} → statement M
     arm.Post
     arm-Inv-loop
     arm-μ-loop
-    (arm-loop-holds t)
     (arm-plain-requires t)
+    (arm-loop-holds t)
     (arm-enum-told t)
     (arm-same-length t)
     (arm-returns t)
@@ -326,6 +367,7 @@ pub +arm+conditional-spec : {M : Type 1} → statement M
     (arm-enum-told-2 t)
     (arm-same-length-2 t)
     (arm-returns-2 t)
+    (arm-plain-requires-2 t)
     (arm-loop-less t)
     (arm-loop-again t))
     λ t. conditional-lts.spec (

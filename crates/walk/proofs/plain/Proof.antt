@@ -1,5 +1,5 @@
 use borrow.Author.Needs.{needs}
-use mathlib.Core.List.{List, [], _∷_}
+use mathlib.Core.Bool.{true}
 use mathlib.Core.Path.{_≡_, refl, sym, ap, _∙_}
 use Prim.Native.Nat.{ℕ, _-_}
 use native.Mathlib.Omega.{arith}
@@ -9,13 +9,16 @@ use Rattle.decode.proofs.Codes.{code-instruction, code-ends, code-malformed}
 use Rattle.stack.proofs.Values.{unknown-suffices, held-exact, code-wants, push-is-unknown, push-is-code, push-is-exact}
 use Rattle.walk.specs.declared.Stop.the-variants.{Running}
 use Rattle.walk.proofs.Rows.{row-written, high-of, not-live, is-live}
-use Rattle.walk.proofs.Loop.{walkOf, Walking, walking-none, runs-from, Met, was-refused, none-left, row-room, no-instruction, ready-running, nearer, class-left, met-copies, met-else, met-endif, met-from-alt, met-if, met-nip, met-nothing, met-notif, met-push, met-return, met-roll, met-rotates, met-skipped, met-steps, met-plain, met-to-alt, met-tuck, met-unmodelled}
+use Rattle.walk.proofs.Dead.{then-dead, room-there, room-on}
+use Rattle.walk.proofs.Loop.{walkOf, Walking, walking-none, runs-from, Met, was-refused, none-left, row-room, no-instruction, ready-running, nearer, class-left, met-copies, met-else, met-endif, met-from-alt, met-if, met-nip, met-nothing, met-notif, met-push, met-return, met-roll, met-rotates, met-steps, met-plain, met-to-alt, met-tuck, met-unmodelled}
 use Rattle.walk.proofs.plain.Statement.{statement}
 use Rattle.walk.proofs.plain.Tie as tie
 use Rattle.walk.proofs.plain.Reads as reads
 use Rattle.walk.proofs.plain.Lts as lts
 use Rattle.decode.proofs.decode_at.Reads as decode-at-reads
 use Rattle.opcodes.proofs.class_of.Reads as class-of-reads
+use Rattle.slots.proofs.code_of.Reads as code-of-reads
+use Rattle.slots.proofs.suffices.Reads as suffices-reads
 use Rattle.stack.proofs.Stacks.apply_effect.Reads as apply-effect-reads
 use Rattle.stack.proofs.Stacks.depth.Reads as depth-reads
 use Rattle.stack.proofs.Stacks.extend_from_within.Reads as extend-from-within-reads
@@ -30,58 +33,64 @@ use Rattle.stack.proofs.Stacks.rotate_left.Reads as rotate-left-reads
 use Rattle.stack.proofs.Stacks.size.Reads as size-reads
 use Rattle.stack.proofs.Stacks.tuck.Reads as tuck-reads
 use Rattle.stack.proofs.Stacks.zk.Reads as zk-reads
-use Rattle.slots.proofs.code_of.Reads as code-of-reads
-use Rattle.slots.proofs.suffices.Reads as suffices-reads
 use Rattle.walk.proofs.higher.Reads as higher-reads
 use Rattle.walk.proofs.log_row.Reads as log-row-reads
-use Rattle.walk.proofs.logged.Reads as logged-reads
+use Rattle.walk.proofs.skip.Reads as skip-reads
 use Rattle.walk.proofs.stopped.Reads as stopped-reads
 
 abbrev Inv-loop : tie.InvT-loop
-Inv-loop code log₀ t₀ live₀ at₀ last₀ rows₀ peak₀ log t live at last rows peak =
-    Walking code log₀ (walkOf t₀ live₀ at₀ last₀ rows₀ peak₀) log (walkOf t live at last rows peak)
+Inv-loop code log₀ t₀ at₀ last₀ rows₀ peak₀ log t at last rows peak =
+    Walking code log₀ (walkOf t₀ at₀ last₀ rows₀ peak₀) log (walkOf t at last rows peak)
 
 abbrev μ-loop : tie.MeasureT-loop
-μ-loop code log₀ t₀ live₀ at₀ last₀ rows₀ peak₀ log t live at last rows peak = length code - at
-
--- the classes that the second match names, the last first
-abbrev handled : List (List ℕ)
-handled = (31 ∷ []) ∷ (30 ∷ []) ∷ (29 ∷ []) ∷ (28 ∷ []) ∷ (27 ∷ []) ∷ (26 ∷ []) ∷ (25 ∷ []) ∷ (24 ∷ []) ∷ (23 ∷ []) ∷ (22 ∷ []) ∷ (21 ∷ []) ∷ (20 ∷ []) ∷ (19 ∷ []) ∷ (18 ∷ []) ∷ (17 ∷ []) ∷ (16 ∷ []) ∷ (15 ∷ []) ∷ (14 ∷ []) ∷ (13 ∷ []) ∷ (12 ∷ []) ∷ (11 ∷ []) ∷ (10 ∷ []) ∷ (9 ∷ []) ∷ (8 ∷ []) ∷ (1 ∷ []) ∷ (2 ∷ []) ∷ []
+μ-loop code log₀ t₀ at₀ last₀ rows₀ peak₀ log t at last rows peak = length code - at
 
 -- what is known once an instruction is met, its row is written and its class number is read
-met : (c : lts.After-class-of (stopped-reads.Asked, stopped-reads.Learnt, higher-reads.Asked, higher-reads.Learnt, decode-at-reads.Asked, decode-at-reads.Learnt, logged-reads.Asked, logged-reads.Learnt, log-row-reads.Asked, log-row-reads.Learnt, class-of-reads.Asked, class-of-reads.Learnt, push-code-reads.Asked, push-code-reads.Learnt, code-of-reads.Asked, code-of-reads.Learnt, suffices-reads.Asked, suffices-reads.Learnt, push-exact-reads.Asked, push-exact-reads.Learnt, move-to-alt-reads.Asked, move-to-alt-reads.Learnt, move-from-alt-reads.Asked, move-from-alt-reads.Learnt, depth-reads.Asked, depth-reads.Learnt, size-reads.Asked, size-reads.Learnt, nip-reads.Asked, nip-reads.Learnt, tuck-reads.Asked, tuck-reads.Learnt, pick-reads.Asked, pick-reads.Learnt, roll-reads.Asked, roll-reads.Learnt, zk-reads.Asked, zk-reads.Learnt, extend-from-within-reads.Asked, extend-from-within-reads.Learnt, rotate-left-reads.Asked, rotate-left-reads.Learnt, apply-effect-reads.Asked, apply-effect-reads.Learnt) reads.Pre reads.Post Inv-loop μ-loop)
-    → Met (c .before .before .before .before .before .before .before .before .before .before .before .before .before .before .before .before .before .before .args .code .now) (c .before .before .before .before .before .before .before .before .before .before .before .before .before .before .before .before .before .before .args .log .now) (record { stacks = c .before .before .before .before .before .before .before .before .before .before .before .before .before .before .before .before .before .before .args .start .stacks; live = c .before .before .before .before .before .before .before .before .before .before .before .before .before .before .before .before .before .before .args .start .live; at = c .before .before .before .before .before .before .before .before .before .before .before .before .before .before .before .before .before .before .args .start .at; last = c .before .before .before .before .before .before .before .before .before .before .before .before .before .before .before .before .before .before .args .start .last; rows = c .before .before .before .before .before .before .before .before .before .before .before .before .before .before .before .before .before .before .args .start .rows; peak = c .before .before .before .before .before .before .before .before .before .before .before .before .before .before .before .before .before .before .args .start .peak; stop = Running }) (c .before .before .before .before .before .before .before .before .before .before .before .before .before .before .loop .log) (walkOf (c .before .before .before .before .before .before .before .before .before .before .before .before .before .before .loop .t) (c .before .before .before .before .before .before .before .before .before .before .before .before .before .before .loop .live) (c .before .before .before .before .before .before .before .before .before .before .before .before .before .before .loop .at) (c .before .before .before .before .before .before .before .before .before .before .before .before .before .before .loop .last) (c .before .before .before .before .before .before .before .before .before .before .before .before .before .before .loop .rows) (c .before .before .before .before .before .before .before .before .before .before .before .before .before .before .loop .peak)) (c .before .before .before .log-row .last .0) (c .before .before .before .before .before .before .before .before .d .given .0 .0) (c .before .before .before .before .before .before .before .before .before .before .before .higher .result) (c .class-of .result)
+met : (c : lts.After-class-of (skip-reads.Asked, skip-reads.Learnt, stopped-reads.Asked, stopped-reads.Learnt, higher-reads.Asked, higher-reads.Learnt, decode-at-reads.Asked, decode-at-reads.Learnt, log-row-reads.Asked, log-row-reads.Learnt, class-of-reads.Asked, class-of-reads.Learnt, push-code-reads.Asked, push-code-reads.Learnt, code-of-reads.Asked, code-of-reads.Learnt, suffices-reads.Asked, suffices-reads.Learnt, push-exact-reads.Asked, push-exact-reads.Learnt, move-to-alt-reads.Asked, move-to-alt-reads.Learnt, move-from-alt-reads.Asked, move-from-alt-reads.Learnt, depth-reads.Asked, depth-reads.Learnt, size-reads.Asked, size-reads.Learnt, nip-reads.Asked, nip-reads.Learnt, tuck-reads.Asked, tuck-reads.Learnt, pick-reads.Asked, pick-reads.Learnt, roll-reads.Asked, roll-reads.Learnt, zk-reads.Asked, zk-reads.Learnt, extend-from-within-reads.Asked, extend-from-within-reads.Learnt, rotate-left-reads.Asked, rotate-left-reads.Learnt, apply-effect-reads.Asked, apply-effect-reads.Learnt) reads.Pre reads.Post Inv-loop μ-loop)
+    → Met (c .before .before .before .before .before .before .before .before .before .before .before .before .before .before .before .before .before .before .args .code .now) (c .before .before .before .before .before .before .before .before .before .before .before .before .before .before .before .before .before .before .args .log .now) (record { stacks = c .before .before .before .before .before .before .before .before .before .before .before .before .before .before .before .before .before .before .args .start .stacks; live = true; at = c .before .before .before .before .before .before .before .before .before .before .before .before .before .before .before .before .before .before .args .start .at; last = c .before .before .before .before .before .before .before .before .before .before .before .before .before .before .before .before .before .before .args .start .last; rows = c .before .before .before .before .before .before .before .before .before .before .before .before .before .before .before .before .before .before .args .start .rows; peak = c .before .before .before .before .before .before .before .before .before .before .before .before .before .before .before .before .before .before .args .start .peak; stop = Running }) (c .before .before .before .before .before .before .before .before .before .before .before .before .loop .log) (walkOf (c .before .before .before .before .before .before .before .before .before .before .before .before .loop .t) (c .before .before .before .before .before .before .before .before .before .before .before .before .loop .at) (c .before .before .before .before .before .before .before .before .before .before .before .before .loop .last) (c .before .before .before .before .before .before .before .before .before .before .before .before .loop .rows) (c .before .before .before .before .before .before .before .before .before .before .before .before .loop .peak)) (c .before .before .before .log-row .last .0) (c .before .before .before .before .before .before .d .given .0 .0) (c .before .before .before .before .before .before .before .before .before .higher .result) (c .class-of .result)
 met c =
     let l = c .before .before .before in
-    let d = c .before .before .before .before .before .before .before .before in
-    let a = c .before .before .before .before .before .before .before .before .before .before in
-    let h = c .before .before .before .before .before .before .before .before .before .before .before in
-    let e = c .before .before .before .before .before .before .before .before .before .before .before .before in
-    let q = c .before .before .before .before .before .before .before .before .before .before .before .before .before .before .loop in
+    let d = c .before .before .before .before .before .before in
+    let a = c .before .before .before .before .before .before .before .before in
+    let h = c .before .before .before .before .before .before .before .before .before in
+    let e = c .before .before .before .before .before .before .before .before .before .before in
+    let q = c .before .before .before .before .before .before .before .before .before .before .before .before .loop in
     record {
       walking = q .inv;
       run = rw (e .enum-told .given .1);
       stands = code-instruction _ _ (q .inv .bytes) _ (sym (a .decode-at .ensures .1) ∙ d .d .given .1);
       len = l .log-row .kept .0;
-      row = row-written (q .rows) (q .at) (l .before .before .logged .result) (l .before .logged2 .result) (q .live) (q .t .stacks) (q .log) (l .log-row .last .0) (l .log-row .ensures) (l .before .before .logged .ensures) (l .before .logged2 .ensures);
-      high = high-of (q .peak) (h .higher .result) (q .live) (q .t .stacks) (h .higher .ensures);
+      row = row-written (q .rows) (q .at) (q .t .stacks .mains) (q .t .stacks .alts) true (q .t .stacks) (q .log) (l .log-row .last .0) (l .log-row .ensures) refl refl;
+      high = high-of (q .peak) (h .higher .result) true (q .t .stacks) (h .higher .ensures);
       number = c .class-of .ensures;
     }
 
+skip-requires : tie.Need-skip-requires Inv-loop μ-loop
+skip-requires c κs = room-there (c .before .before .before .before .before .before .pre .0)
+
+stopped-requires : tie.Need-stopped-requires Inv-loop μ-loop
+stopped-requires c κs = tt
+
+same-length : tie.Need-same-length Inv-loop μ-loop
+same-length c = c .before .before .before .before .skip .kept .1 .0
+
+returns : tie.Need-returns Inv-loop μ-loop
+returns c = rw (c .stopped .ensures) (runs-from (c .before .before .before .before .before .before .before .before .before .before .before .args .start) (not-live _ (c .before .before .before .before .before .before .if1 .taken)) (c .before .before .before .before .before .before .before .before .before .before .before .pre .1) (c .before .before .before .before .skip .ensures (c .before .before .before .before .before .before .before .before .before .before .before .args .start .stacks) (c .before .before .before .before .before .before .before .before .before .before .before .args .start .peak) (c .before .before .before .before .before .before .before .before .before .before .before .pre .0 .fit)))
+
 loop-holds : tie.Need-loop-holds Inv-loop μ-loop
-loop-holds c = walking-none (slice-bytes (c .before .before .before .args .code .now) (c .before .before .shared-slice-known .given)) (ready-running (c .before .before .before .args .start) (c .before .before .before .pre .0))
+loop-holds c = walking-none (slice-bytes (c .before .before .before .before .before .args .code .now) (c .before .before .before .before .shared-slice-known .given)) (ready-running (c .before .before .before .before .before .args .start) (c .before .before .before .before .before .pre .0))
 
 enum-known-answer : tie.Need-enum-known-answer Inv-loop μ-loop
 enum-known-answer c = search needs
 
-same-length : tie.Need-same-length Inv-loop μ-loop
-same-length c = search needs
+stopped-requires-2 : tie.Need-stopped-requires-2 Inv-loop μ-loop
+stopped-requires-2 c κs = search needs
 
-stopped-requires : tie.Need-stopped-requires Inv-loop μ-loop
-stopped-requires c κs = search needs
+same-length-2 : tie.Need-same-length-2 Inv-loop μ-loop
+same-length-2 c = search needs
 
-returns : tie.Need-returns Inv-loop μ-loop
-returns c = rw (c .stopped .ensures) (runs-from (c .before .before .before .before .before .before .before .before .before .args .start) (c .before .before .before .before .before .before .before .before .before .pre .1) (was-refused _ _ _ _ _ _ _ (c .before .before .before .before .before .loop .inv) (c .before .before .before .answer .given .1)))
+returns-2 : tie.Need-returns-2 Inv-loop μ-loop
+returns-2 c = rw (c .stopped2 .ensures) (runs-from (c .before .before .before .before .before .before .before .before .before .before .before .args .start) (is-live _ (c .before .before .before .before .before .before .if1 .left)) (c .before .before .before .before .before .before .before .before .before .before .before .pre .1) (was-refused _ _ _ _ _ _ (c .before .before .before .before .before .loop .inv) (c .before .before .before .answer .given .1)))
 
 enum-told : tie.Need-enum-told Inv-loop μ-loop
 enum-told c = search needs
@@ -98,26 +107,26 @@ decode-at-requires c κs = search needs
 enum-known-d : tie.Need-enum-known-d Inv-loop μ-loop
 enum-known-d c = search needs
 
-same-length-2 : tie.Need-same-length-2 Inv-loop μ-loop
-same-length-2 c = search needs
+stopped-requires-3 : tie.Need-stopped-requires-3 Inv-loop μ-loop
+stopped-requires-3 c κs = search needs
 
-stopped-requires-2 : tie.Need-stopped-requires-2 Inv-loop μ-loop
-stopped-requires-2 c κs = search needs
+same-length-3 : tie.Need-same-length-3 Inv-loop μ-loop
+same-length-3 c = search needs
 
-returns-2 : tie.Need-returns-2 Inv-loop μ-loop
-returns-2 c = rw (c .stopped2 .ensures) (runs-from (c .before .before .before .before .before .before .before .before .before .before .before .args .start) (c .before .before .before .before .before .before .before .before .before .before .before .pre .1) (none-left (c .before .before .before .before .before .before .before .loop .inv) (rw (c .before .before .before .before .before .enum-told .given .1)) (high-of (c .before .before .before .before .before .before .before .loop .peak) (c .before .before .before .before .higher .result) (c .before .before .before .before .before .before .before .loop .live) (c .before .before .before .before .before .before .before .loop .t .stacks) (c .before .before .before .before .higher .ensures)) (no-instruction _ _ (c .before .before .before .decode-at .result) (c .before .before .before .decode-at .ensures .1) (c .before .before .match2 .keys2))))
+returns-3 : tie.Need-returns-3 Inv-loop μ-loop
+returns-3 c = rw (c .stopped3 .ensures) (runs-from (c .before .before .before .before .before .before .before .before .before .before .before .before .before .args .start) (is-live _ (c .before .before .before .before .before .before .before .before .if1 .left)) (c .before .before .before .before .before .before .before .before .before .before .before .before .before .pre .1) (none-left (c .before .before .before .before .before .before .before .loop .inv) (rw (c .before .before .before .before .before .enum-told .given .1)) (high-of (c .before .before .before .before .before .before .before .loop .peak) (c .before .before .before .before .higher .result) true (c .before .before .before .before .before .before .before .loop .t .stacks) (c .before .before .before .before .higher .ensures)) (no-instruction _ _ (c .before .before .before .decode-at .result) (c .before .before .before .decode-at .ensures .1) (c .before .before .match2 .keys2))))
 
 cast-log-row : tie.Need-cast-log-row Inv-loop μ-loop
 cast-log-row c = search needs
 
-logged-requires : tie.Need-logged-requires Inv-loop μ-loop
-logged-requires c κs = search needs
+cast-log-row-2 : tie.Need-cast-log-row-2 Inv-loop μ-loop
+cast-log-row-2 c = search needs
 
-logged-requires-2 : tie.Need-logged-requires-2 Inv-loop μ-loop
-logged-requires-2 c κs = search needs
+cast-log-row-3 : tie.Need-cast-log-row-3 Inv-loop μ-loop
+cast-log-row-3 c = search needs
 
 log-row-requires : tie.Need-log-row-requires Inv-loop μ-loop
-log-row-requires c κs = omega (arith, row-room (c .before .before .before .before .before .before .before .before .before .before .loop .inv) (code-instruction _ _ (c .before .before .before .before .before .before .before .before .before .before .loop .inv .bytes) _ (sym (c .before .before .before .before .before .before .decode-at .ensures .1) ∙ c .before .before .before .before .d .given .1)))
+log-row-requires c κs = omega (arith, row-room (c .before .before .before .before .before .before .before .before .loop .inv) (code-instruction _ _ (c .before .before .before .before .before .before .before .before .loop .inv .bytes) _ (sym (c .before .before .before .before .decode-at .ensures .1) ∙ c .before .before .d .given .1)))
 
 add-rows : tie.Need-add-rows Inv-loop μ-loop
 add-rows c = search needs
@@ -125,59 +134,59 @@ add-rows c = search needs
 class-of-requires : tie.Need-class-of-requires Inv-loop μ-loop
 class-of-requires c κs = search needs
 
-same-length-3 : tie.Need-same-length-3 Inv-loop μ-loop
-same-length-3 c = let m = met (c .before .before .before) in m .len ∙ m .walking .len
-
-stopped-requires-3 : tie.Need-stopped-requires-3 Inv-loop μ-loop
-stopped-requires-3 c κs = search needs
-
-returns-3 : tie.Need-returns-3 Inv-loop μ-loop
-returns-3 c = rw (c .stopped3 .ensures) (runs-from (c .before .before .before .before .before .before .before .before .before .before .before .before .before .before .before .before .before .before .before .before .before .args .start) (c .before .before .before .before .before .before .before .before .before .before .before .before .before .before .before .before .before .before .before .before .before .pre .1) (met-if (met (c .before .before .before)) (c .before .before .match3 .keys1)))
+stopped-requires-4 : tie.Need-stopped-requires-4 Inv-loop μ-loop
+stopped-requires-4 c κs = search needs
 
 same-length-4 : tie.Need-same-length-4 Inv-loop μ-loop
 same-length-4 c = let m = met (c .before .before .before) in m .len ∙ m .walking .len
 
-stopped-requires-4 : tie.Need-stopped-requires-4 Inv-loop μ-loop
-stopped-requires-4 c κs = search needs
-
 returns-4 : tie.Need-returns-4 Inv-loop μ-loop
-returns-4 c = rw (c .stopped4 .ensures) (runs-from (c .before .before .before .before .before .before .before .before .before .before .before .before .before .before .before .before .before .before .before .before .before .args .start) (c .before .before .before .before .before .before .before .before .before .before .before .before .before .before .before .before .before .before .before .before .before .pre .1) (met-notif (met (c .before .before .before)) (c .before .before .match3 .keys2)))
-
-same-length-5 : tie.Need-same-length-5 Inv-loop μ-loop
-same-length-5 c = let m = met (c .before .before .before) in m .len ∙ m .walking .len
+returns-4 c = rw (c .stopped4 .ensures) (runs-from (c .before .before .before .before .before .before .before .before .before .before .before .before .before .before .before .before .before .before .before .before .before .args .start) (is-live _ (c .before .before .before .before .before .before .before .before .before .before .before .before .before .before .before .before .if1 .left)) (c .before .before .before .before .before .before .before .before .before .before .before .before .before .before .before .before .before .before .before .before .before .pre .1) (met-if (met (c .before .before .before)) (c .before .before .match3 .keys1)))
 
 stopped-requires-5 : tie.Need-stopped-requires-5 Inv-loop μ-loop
 stopped-requires-5 c κs = search needs
 
-returns-5 : tie.Need-returns-5 Inv-loop μ-loop
-returns-5 c = rw (c .stopped5 .ensures) (runs-from (c .before .before .before .before .before .before .before .before .before .before .before .before .before .before .before .before .before .before .before .before .before .args .start) (c .before .before .before .before .before .before .before .before .before .before .before .before .before .before .before .before .before .before .before .before .before .pre .1) (met-else (met (c .before .before .before)) (c .before .before .match3 .keys3)))
+same-length-5 : tie.Need-same-length-5 Inv-loop μ-loop
+same-length-5 c = let m = met (c .before .before .before) in m .len ∙ m .walking .len
 
-same-length-6 : tie.Need-same-length-6 Inv-loop μ-loop
-same-length-6 c = let m = met (c .before .before .before) in m .len ∙ m .walking .len
+returns-5 : tie.Need-returns-5 Inv-loop μ-loop
+returns-5 c = rw (c .stopped5 .ensures) (runs-from (c .before .before .before .before .before .before .before .before .before .before .before .before .before .before .before .before .before .before .before .before .before .args .start) (is-live _ (c .before .before .before .before .before .before .before .before .before .before .before .before .before .before .before .before .if1 .left)) (c .before .before .before .before .before .before .before .before .before .before .before .before .before .before .before .before .before .before .before .before .before .pre .1) (met-notif (met (c .before .before .before)) (c .before .before .match3 .keys2)))
 
 stopped-requires-6 : tie.Need-stopped-requires-6 Inv-loop μ-loop
 stopped-requires-6 c κs = search needs
 
+same-length-6 : tie.Need-same-length-6 Inv-loop μ-loop
+same-length-6 c = let m = met (c .before .before .before) in m .len ∙ m .walking .len
+
 returns-6 : tie.Need-returns-6 Inv-loop μ-loop
-returns-6 c = rw (c .stopped6 .ensures) (runs-from (c .before .before .before .before .before .before .before .before .before .before .before .before .before .before .before .before .before .before .before .before .before .args .start) (c .before .before .before .before .before .before .before .before .before .before .before .before .before .before .before .before .before .before .before .before .before .pre .1) (met-endif (met (c .before .before .before)) (c .before .before .match3 .keys4)))
+returns-6 c = rw (c .stopped6 .ensures) (runs-from (c .before .before .before .before .before .before .before .before .before .before .before .before .before .before .before .before .before .before .before .before .before .args .start) (is-live _ (c .before .before .before .before .before .before .before .before .before .before .before .before .before .before .before .before .if1 .left)) (c .before .before .before .before .before .before .before .before .before .before .before .before .before .before .before .before .before .before .before .before .before .pre .1) (met-else (met (c .before .before .before)) (c .before .before .match3 .keys3)))
+
+stopped-requires-7 : tie.Need-stopped-requires-7 Inv-loop μ-loop
+stopped-requires-7 c κs = search needs
+
+same-length-7 : tie.Need-same-length-7 Inv-loop μ-loop
+same-length-7 c = let m = met (c .before .before .before) in m .len ∙ m .walking .len
+
+returns-7 : tie.Need-returns-7 Inv-loop μ-loop
+returns-7 c = rw (c .stopped7 .ensures) (runs-from (c .before .before .before .before .before .before .before .before .before .before .before .before .before .before .before .before .before .before .before .before .before .args .start) (is-live _ (c .before .before .before .before .before .before .before .before .before .before .before .before .before .before .before .before .if1 .left)) (c .before .before .before .before .before .before .before .before .before .before .before .before .before .before .before .before .before .before .before .before .before .pre .1) (met-endif (met (c .before .before .before)) (c .before .before .match3 .keys4)))
+
+skip-requires-2 : tie.Need-skip-requires-2 Inv-loop μ-loop
+skip-requires-2 c κs = room-on (met-return (met (c .before .before)) (c .before .match3 .keys5))
+
+stopped-requires-8 : tie.Need-stopped-requires-8 Inv-loop μ-loop
+stopped-requires-8 c κs = tt
+
+same-length-8 : tie.Need-same-length-8 Inv-loop μ-loop
+same-length-8 c = c .before .before .before .before .skip2 .kept .1 .0 ∙ (let m = met (c .before .before .before .before .before .before .before) in m .len ∙ m .walking .len)
+
+returns-8 : tie.Need-returns-8 Inv-loop μ-loop
+returns-8 c = rw (c .stopped8 .ensures) (runs-from (c .before .before .before .before .before .before .before .before .before .before .before .before .before .before .before .before .before .before .before .before .before .before .before .before .before .args .start) (is-live _ (c .before .before .before .before .before .before .before .before .before .before .before .before .before .before .before .before .before .before .before .before .if1 .left)) (c .before .before .before .before .before .before .before .before .before .before .before .before .before .before .before .before .before .before .before .before .before .before .before .before .before .pre .1) (let w = met-return (met (c .before .before .before .before .before .before .before)) (c .before .before .before .before .before .before .match3 .keys5) in then-dead w (c .before .before .before .before .skip2 .ensures _ _ (w .goes .fit))))
 
 loop-less : tie.Need-loop-less Inv-loop μ-loop
 loop-less c = nearer (met (c .before))
 
 loop-again : tie.Need-loop-again Inv-loop μ-loop
-loop-again c = met-return (met (c .before)) (c .match3 .keys5)
-
-loop-less-2 : tie.Need-loop-less-2 Inv-loop μ-loop
-loop-less-2 c = nearer (met (c .before .before))
-
-loop-again-2 : tie.Need-loop-again-2 Inv-loop μ-loop
-loop-again-2 c = met-skipped (met (c .before .before)) (c .before .match3 .rest) (not-live _ (c .if1 .taken))
-
-loop-less-3 : tie.Need-loop-less-3 Inv-loop μ-loop
-loop-less-3 c = nearer (met (c .before .before .before))
-
-loop-again-3 : tie.Need-loop-again-3 Inv-loop μ-loop
-loop-again-3 c = met-nothing (met (c .before .before .before)) (c .match4 .keys1) (is-live _ (c .before .if1 .left))
+loop-again c = met-nothing (met (c .before)) (c .match3 .keys6) refl
 
 enum-known-v : tie.Need-enum-known-v Inv-loop μ-loop
 enum-known-v c = search needs
@@ -188,11 +197,11 @@ enum-told-2 c = search needs
 push-code-requires : tie.Need-push-code-requires Inv-loop μ-loop
 push-code-requires c κs = (search needs, (unknown-suffices, search needs))
 
-loop-less-4 : tie.Need-loop-less-4 Inv-loop μ-loop
-loop-less-4 c = nearer (met (c .before .before .before .before .before .before .before))
+loop-less-2 : tie.Need-loop-less-2 Inv-loop μ-loop
+loop-less-2 c = nearer (met (c .before .before .before .before .before))
 
-loop-again-4 : tie.Need-loop-again-4 Inv-loop μ-loop
-loop-again-4 c = met-push (met (c .before .before .before .before .before .before .before)) (is-live _ (c .before .before .before .before .before .if1 .left)) (c .push-code .result) (c .before .before .before .before .match4 .keys2) (push-is-unknown _ _ _ (c .push-code .result) (c .before .before .enum-told2 .given .1) (c .push-code .ensures))
+loop-again-2 : tie.Need-loop-again-2 Inv-loop μ-loop
+loop-again-2 c = met-push (met (c .before .before .before .before .before)) refl (c .push-code .result) (c .before .before .before .before .match3 .keys7) (push-is-unknown _ _ _ (c .push-code .result) (c .before .before .enum-told2 .given .1) (c .push-code .ensures))
 
 code-of-requires : tie.Need-code-of-requires Inv-loop μ-loop
 code-of-requires c κs = search needs
@@ -201,244 +210,244 @@ suffices-requires : tie.Need-suffices-requires Inv-loop μ-loop
 suffices-requires c κs = search needs
 
 push-code-requires-2 : tie.Need-push-code-requires-2 Inv-loop μ-loop
-push-code-requires-2 c κs = (met (c .before .before .before .before .before .before .before .before .before .before) .walking .goes .fit, (sym (c .before .before .suffices .ensures) ∙ c .before .if2 .taken, omega arith))
+push-code-requires-2 c κs = (met (c .before .before .before .before .before .before .before .before) .walking .goes .fit, (sym (c .before .before .suffices .ensures) ∙ c .before .if2 .taken, omega arith))
 
-loop-less-5 : tie.Need-loop-less-5 Inv-loop μ-loop
-loop-less-5 c = nearer (met (c .before .before .before .before .before .before .before .before .before .before .before))
+loop-less-3 : tie.Need-loop-less-3 Inv-loop μ-loop
+loop-less-3 c = nearer (met (c .before .before .before .before .before .before .before .before .before))
 
-loop-again-5 : tie.Need-loop-again-5 Inv-loop μ-loop
-loop-again-5 c = met-push (met (c .before .before .before .before .before .before .before .before .before .before .before)) (is-live _ (c .before .before .before .before .before .before .before .before .before .if1 .left)) (c .push-code2 .result) (c .before .before .before .before .before .before .before .before .match4 .keys2) (push-is-code _ _ _ (c .push-code2 .result) _ _ (c .before .before .before .before .before .before .v .given .1) (met (c .before .before .before .before .before .before .before .before .before .before .before) .stands .held) _ (c .before .before .before .before .code-of .ensures) (sym (c .before .before .before .suffices .ensures) ∙ c .before .before .if2 .taken) (c .push-code2 .ensures))
+loop-again-3 : tie.Need-loop-again-3 Inv-loop μ-loop
+loop-again-3 c = met-push (met (c .before .before .before .before .before .before .before .before .before)) refl (c .push-code2 .result) (c .before .before .before .before .before .before .before .before .match3 .keys7) (push-is-code _ _ _ (c .push-code2 .result) _ _ (c .before .before .before .before .before .before .v .given .1) (met (c .before .before .before .before .before .before .before .before .before) .stands .held) _ (c .before .before .before .before .code-of .ensures) (sym (c .before .before .before .suffices .ensures) ∙ c .before .before .if2 .taken) (c .push-code2 .ensures))
 
 push-exact-requires : tie.Need-push-exact-requires Inv-loop μ-loop
-push-exact-requires c κs = (met (c .before .before .before .before .before .before .before .before .before .before) .walking .goes .fit, (held-exact _ _ _ (c .before .before .before .before .before .v .given .1) (met (c .before .before .before .before .before .before .before .before .before .before) .stands .held), (code-wants _ _ (c .before .before .before .code-of .ensures) (sym (c .before .before .suffices .ensures) ∙ c .before .if2 .left), omega arith)))
+push-exact-requires c κs = (met (c .before .before .before .before .before .before .before .before) .walking .goes .fit, (held-exact _ _ _ (c .before .before .before .before .before .v .given .1) (met (c .before .before .before .before .before .before .before .before) .stands .held), (code-wants _ _ (c .before .before .before .code-of .ensures) (sym (c .before .before .suffices .ensures) ∙ c .before .if2 .left), omega arith)))
 
-loop-less-6 : tie.Need-loop-less-6 Inv-loop μ-loop
-loop-less-6 c = nearer (met (c .before .before .before .before .before .before .before .before .before .before .before))
+loop-less-4 : tie.Need-loop-less-4 Inv-loop μ-loop
+loop-less-4 c = nearer (met (c .before .before .before .before .before .before .before .before .before))
 
-loop-again-6 : tie.Need-loop-again-6 Inv-loop μ-loop
-loop-again-6 c = met-push (met (c .before .before .before .before .before .before .before .before .before .before .before)) (is-live _ (c .before .before .before .before .before .before .before .before .before .if1 .left)) (c .push-exact .result) (c .before .before .before .before .before .before .before .before .match4 .keys2) (push-is-exact _ _ _ (c .push-exact .result) _ _ (c .before .before .before .before .before .before .v .given .1) (c .push-exact .ensures))
+loop-again-4 : tie.Need-loop-again-4 Inv-loop μ-loop
+loop-again-4 c = met-push (met (c .before .before .before .before .before .before .before .before .before)) refl (c .push-exact .result) (c .before .before .before .before .before .before .before .before .match3 .keys7) (push-is-exact _ _ _ (c .push-exact .result) _ _ (c .before .before .before .before .before .before .v .given .1) (c .push-exact .ensures))
 
 move-to-alt-requires : tie.Need-move-to-alt-requires Inv-loop μ-loop
 move-to-alt-requires c κs = search needs
 
-loop-less-7 : tie.Need-loop-less-7 Inv-loop μ-loop
-loop-less-7 c = nearer (met (c .before .before .before .before .before))
+loop-less-5 : tie.Need-loop-less-5 Inv-loop μ-loop
+loop-less-5 c = nearer (met (c .before .before .before))
 
-loop-again-7 : tie.Need-loop-again-7 Inv-loop μ-loop
-loop-again-7 c = met-to-alt (met (c .before .before .before .before .before)) (is-live _ (c .before .before .before .if1 .left)) (c .move-to-alt .result) (c .before .before .match4 .keys3) (c .move-to-alt .ensures)
+loop-again-5 : tie.Need-loop-again-5 Inv-loop μ-loop
+loop-again-5 c = met-to-alt (met (c .before .before .before)) refl (c .move-to-alt .result) (c .before .before .match3 .keys8) (c .move-to-alt .ensures)
 
 move-from-alt-requires : tie.Need-move-from-alt-requires Inv-loop μ-loop
 move-from-alt-requires c κs = search needs
 
-loop-less-8 : tie.Need-loop-less-8 Inv-loop μ-loop
-loop-less-8 c = nearer (met (c .before .before .before .before .before))
+loop-less-6 : tie.Need-loop-less-6 Inv-loop μ-loop
+loop-less-6 c = nearer (met (c .before .before .before))
 
-loop-again-8 : tie.Need-loop-again-8 Inv-loop μ-loop
-loop-again-8 c = met-from-alt (met (c .before .before .before .before .before)) (is-live _ (c .before .before .before .if1 .left)) (c .move-from-alt .result) (c .before .before .match4 .keys4) (c .move-from-alt .ensures)
+loop-again-6 : tie.Need-loop-again-6 Inv-loop μ-loop
+loop-again-6 c = met-from-alt (met (c .before .before .before)) refl (c .move-from-alt .result) (c .before .before .match3 .keys9) (c .move-from-alt .ensures)
 
 depth-requires : tie.Need-depth-requires Inv-loop μ-loop
 depth-requires c κs = search needs
 
-loop-less-9 : tie.Need-loop-less-9 Inv-loop μ-loop
-loop-less-9 c = nearer (met (c .before .before .before .before .before))
+loop-less-7 : tie.Need-loop-less-7 Inv-loop μ-loop
+loop-less-7 c = nearer (met (c .before .before .before))
 
-loop-again-9 : tie.Need-loop-again-9 Inv-loop μ-loop
-loop-again-9 c = met-steps (met (c .before .before .before .before .before)) (is-live _ (c .before .before .before .if1 .left)) (c .depth .result) 10 _ (c .before .before .match4 .keys5) refl (c .depth .ensures)
+loop-again-7 : tie.Need-loop-again-7 Inv-loop μ-loop
+loop-again-7 c = met-steps (met (c .before .before .before)) refl (c .depth .result) 10 _ (c .before .before .match3 .keys10) refl (c .depth .ensures)
 
 size-requires : tie.Need-size-requires Inv-loop μ-loop
 size-requires c κs = search needs
 
-loop-less-10 : tie.Need-loop-less-10 Inv-loop μ-loop
-loop-less-10 c = nearer (met (c .before .before .before .before .before))
+loop-less-8 : tie.Need-loop-less-8 Inv-loop μ-loop
+loop-less-8 c = nearer (met (c .before .before .before))
 
-loop-again-10 : tie.Need-loop-again-10 Inv-loop μ-loop
-loop-again-10 c = met-steps (met (c .before .before .before .before .before)) (is-live _ (c .before .before .before .if1 .left)) (c .size .result) 11 _ (c .before .before .match4 .keys6) refl (c .size .ensures)
+loop-again-8 : tie.Need-loop-again-8 Inv-loop μ-loop
+loop-again-8 c = met-steps (met (c .before .before .before)) refl (c .size .result) 11 _ (c .before .before .match3 .keys11) refl (c .size .ensures)
 
 nip-requires : tie.Need-nip-requires Inv-loop μ-loop
 nip-requires c κs = search needs
 
-loop-less-11 : tie.Need-loop-less-11 Inv-loop μ-loop
-loop-less-11 c = nearer (met (c .before .before .before .before .before))
+loop-less-9 : tie.Need-loop-less-9 Inv-loop μ-loop
+loop-less-9 c = nearer (met (c .before .before .before))
 
-loop-again-11 : tie.Need-loop-again-11 Inv-loop μ-loop
-loop-again-11 c = met-nip (met (c .before .before .before .before .before)) (is-live _ (c .before .before .before .if1 .left)) (c .nip .result) (c .before .before .match4 .keys7) (c .nip .ensures)
+loop-again-9 : tie.Need-loop-again-9 Inv-loop μ-loop
+loop-again-9 c = met-nip (met (c .before .before .before)) refl (c .nip .result) (c .before .before .match3 .keys12) (c .nip .ensures)
 
 tuck-requires : tie.Need-tuck-requires Inv-loop μ-loop
 tuck-requires c κs = search needs
 
-loop-less-12 : tie.Need-loop-less-12 Inv-loop μ-loop
-loop-less-12 c = nearer (met (c .before .before .before .before .before))
+loop-less-10 : tie.Need-loop-less-10 Inv-loop μ-loop
+loop-less-10 c = nearer (met (c .before .before .before))
 
-loop-again-12 : tie.Need-loop-again-12 Inv-loop μ-loop
-loop-again-12 c = met-tuck (met (c .before .before .before .before .before)) (is-live _ (c .before .before .before .if1 .left)) (c .tuck .result) (c .before .before .match4 .keys8) (c .tuck .ensures)
+loop-again-10 : tie.Need-loop-again-10 Inv-loop μ-loop
+loop-again-10 c = met-tuck (met (c .before .before .before)) refl (c .tuck .result) (c .before .before .match3 .keys13) (c .tuck .ensures)
 
 pick-requires : tie.Need-pick-requires Inv-loop μ-loop
 pick-requires c κs = search needs
 
-loop-less-13 : tie.Need-loop-less-13 Inv-loop μ-loop
-loop-less-13 c = nearer (met (c .before .before .before .before .before))
+loop-less-11 : tie.Need-loop-less-11 Inv-loop μ-loop
+loop-less-11 c = nearer (met (c .before .before .before))
 
-loop-again-13 : tie.Need-loop-again-13 Inv-loop μ-loop
-loop-again-13 c = met-steps (met (c .before .before .before .before .before)) (is-live _ (c .before .before .before .if1 .left)) (c .pick .result) 14 _ (c .before .before .match4 .keys9) refl (c .pick .ensures)
+loop-again-11 : tie.Need-loop-again-11 Inv-loop μ-loop
+loop-again-11 c = met-steps (met (c .before .before .before)) refl (c .pick .result) 14 _ (c .before .before .match3 .keys14) refl (c .pick .ensures)
 
 roll-requires : tie.Need-roll-requires Inv-loop μ-loop
 roll-requires c κs = search needs
 
-loop-less-14 : tie.Need-loop-less-14 Inv-loop μ-loop
-loop-less-14 c = nearer (met (c .before .before .before .before .before))
+loop-less-12 : tie.Need-loop-less-12 Inv-loop μ-loop
+loop-less-12 c = nearer (met (c .before .before .before))
 
-loop-again-14 : tie.Need-loop-again-14 Inv-loop μ-loop
-loop-again-14 c = met-roll (met (c .before .before .before .before .before)) (is-live _ (c .before .before .before .if1 .left)) (c .roll .result) (c .before .before .match4 .keys10) (c .roll .ensures)
+loop-again-12 : tie.Need-loop-again-12 Inv-loop μ-loop
+loop-again-12 c = met-roll (met (c .before .before .before)) refl (c .roll .result) (c .before .before .match3 .keys15) (c .roll .ensures)
 
 zk-requires : tie.Need-zk-requires Inv-loop μ-loop
 zk-requires c κs = search needs
 
-loop-less-15 : tie.Need-loop-less-15 Inv-loop μ-loop
-loop-less-15 c = nearer (met (c .before .before .before .before .before))
+loop-less-13 : tie.Need-loop-less-13 Inv-loop μ-loop
+loop-less-13 c = nearer (met (c .before .before .before))
 
-loop-again-15 : tie.Need-loop-again-15 Inv-loop μ-loop
-loop-again-15 c = met-steps (met (c .before .before .before .before .before)) (is-live _ (c .before .before .before .if1 .left)) (c .zk .result) 16 _ (c .before .before .match4 .keys11) refl (c .zk .ensures)
+loop-again-13 : tie.Need-loop-again-13 Inv-loop μ-loop
+loop-again-13 c = met-steps (met (c .before .before .before)) refl (c .zk .result) 16 _ (c .before .before .match3 .keys16) refl (c .zk .ensures)
 
 extend-from-within-requires : tie.Need-extend-from-within-requires Inv-loop μ-loop
 extend-from-within-requires c κs = search needs
 
-loop-less-16 : tie.Need-loop-less-16 Inv-loop μ-loop
-loop-less-16 c = nearer (met (c .before .before .before .before .before))
+loop-less-14 : tie.Need-loop-less-14 Inv-loop μ-loop
+loop-less-14 c = nearer (met (c .before .before .before))
 
-loop-again-16 : tie.Need-loop-again-16 Inv-loop μ-loop
-loop-again-16 c = met-copies (met (c .before .before .before .before .before)) (is-live _ (c .before .before .before .if1 .left)) (c .extend-from-within .result) 17 1 1 (c .before .before .match4 .keys12) refl (c .extend-from-within .ensures)
+loop-again-14 : tie.Need-loop-again-14 Inv-loop μ-loop
+loop-again-14 c = met-copies (met (c .before .before .before)) refl (c .extend-from-within .result) 17 1 1 (c .before .before .match3 .keys17) refl (c .extend-from-within .ensures)
 
 extend-from-within-requires-2 : tie.Need-extend-from-within-requires-2 Inv-loop μ-loop
 extend-from-within-requires-2 c κs = search needs
 
-loop-less-17 : tie.Need-loop-less-17 Inv-loop μ-loop
-loop-less-17 c = nearer (met (c .before .before .before .before .before))
+loop-less-15 : tie.Need-loop-less-15 Inv-loop μ-loop
+loop-less-15 c = nearer (met (c .before .before .before))
 
-loop-again-17 : tie.Need-loop-again-17 Inv-loop μ-loop
-loop-again-17 c = met-copies (met (c .before .before .before .before .before)) (is-live _ (c .before .before .before .if1 .left)) (c .extend-from-within2 .result) 18 2 2 (c .before .before .match4 .keys13) refl (c .extend-from-within2 .ensures)
+loop-again-15 : tie.Need-loop-again-15 Inv-loop μ-loop
+loop-again-15 c = met-copies (met (c .before .before .before)) refl (c .extend-from-within2 .result) 18 2 2 (c .before .before .match3 .keys18) refl (c .extend-from-within2 .ensures)
 
 extend-from-within-requires-3 : tie.Need-extend-from-within-requires-3 Inv-loop μ-loop
 extend-from-within-requires-3 c κs = search needs
 
-loop-less-18 : tie.Need-loop-less-18 Inv-loop μ-loop
-loop-less-18 c = nearer (met (c .before .before .before .before .before))
+loop-less-16 : tie.Need-loop-less-16 Inv-loop μ-loop
+loop-less-16 c = nearer (met (c .before .before .before))
 
-loop-again-18 : tie.Need-loop-again-18 Inv-loop μ-loop
-loop-again-18 c = met-copies (met (c .before .before .before .before .before)) (is-live _ (c .before .before .before .if1 .left)) (c .extend-from-within3 .result) 19 3 3 (c .before .before .match4 .keys14) refl (c .extend-from-within3 .ensures)
+loop-again-16 : tie.Need-loop-again-16 Inv-loop μ-loop
+loop-again-16 c = met-copies (met (c .before .before .before)) refl (c .extend-from-within3 .result) 19 3 3 (c .before .before .match3 .keys19) refl (c .extend-from-within3 .ensures)
 
 extend-from-within-requires-4 : tie.Need-extend-from-within-requires-4 Inv-loop μ-loop
 extend-from-within-requires-4 c κs = search needs
 
-loop-less-19 : tie.Need-loop-less-19 Inv-loop μ-loop
-loop-less-19 c = nearer (met (c .before .before .before .before .before))
+loop-less-17 : tie.Need-loop-less-17 Inv-loop μ-loop
+loop-less-17 c = nearer (met (c .before .before .before))
 
-loop-again-19 : tie.Need-loop-again-19 Inv-loop μ-loop
-loop-again-19 c = met-copies (met (c .before .before .before .before .before)) (is-live _ (c .before .before .before .if1 .left)) (c .extend-from-within4 .result) 20 2 1 (c .before .before .match4 .keys15) refl (c .extend-from-within4 .ensures)
+loop-again-17 : tie.Need-loop-again-17 Inv-loop μ-loop
+loop-again-17 c = met-copies (met (c .before .before .before)) refl (c .extend-from-within4 .result) 20 2 1 (c .before .before .match3 .keys20) refl (c .extend-from-within4 .ensures)
 
 extend-from-within-requires-5 : tie.Need-extend-from-within-requires-5 Inv-loop μ-loop
 extend-from-within-requires-5 c κs = search needs
 
-loop-less-20 : tie.Need-loop-less-20 Inv-loop μ-loop
-loop-less-20 c = nearer (met (c .before .before .before .before .before))
+loop-less-18 : tie.Need-loop-less-18 Inv-loop μ-loop
+loop-less-18 c = nearer (met (c .before .before .before))
 
-loop-again-20 : tie.Need-loop-again-20 Inv-loop μ-loop
-loop-again-20 c = met-copies (met (c .before .before .before .before .before)) (is-live _ (c .before .before .before .if1 .left)) (c .extend-from-within5 .result) 21 4 2 (c .before .before .match4 .keys16) refl (c .extend-from-within5 .ensures)
+loop-again-18 : tie.Need-loop-again-18 Inv-loop μ-loop
+loop-again-18 c = met-copies (met (c .before .before .before)) refl (c .extend-from-within5 .result) 21 4 2 (c .before .before .match3 .keys21) refl (c .extend-from-within5 .ensures)
 
 rotate-left-requires : tie.Need-rotate-left-requires Inv-loop μ-loop
 rotate-left-requires c κs = search needs
 
-loop-less-21 : tie.Need-loop-less-21 Inv-loop μ-loop
-loop-less-21 c = nearer (met (c .before .before .before .before .before))
+loop-less-19 : tie.Need-loop-less-19 Inv-loop μ-loop
+loop-less-19 c = nearer (met (c .before .before .before))
 
-loop-again-21 : tie.Need-loop-again-21 Inv-loop μ-loop
-loop-again-21 c = met-rotates (met (c .before .before .before .before .before)) (is-live _ (c .before .before .before .if1 .left)) (c .rotate-left .result) 22 3 1 (c .before .before .match4 .keys17) refl (c .rotate-left .ensures)
+loop-again-19 : tie.Need-loop-again-19 Inv-loop μ-loop
+loop-again-19 c = met-rotates (met (c .before .before .before)) refl (c .rotate-left .result) 22 3 1 (c .before .before .match3 .keys22) refl (c .rotate-left .ensures)
 
 rotate-left-requires-2 : tie.Need-rotate-left-requires-2 Inv-loop μ-loop
 rotate-left-requires-2 c κs = search needs
 
-loop-less-22 : tie.Need-loop-less-22 Inv-loop μ-loop
-loop-less-22 c = nearer (met (c .before .before .before .before .before))
+loop-less-20 : tie.Need-loop-less-20 Inv-loop μ-loop
+loop-less-20 c = nearer (met (c .before .before .before))
 
-loop-again-22 : tie.Need-loop-again-22 Inv-loop μ-loop
-loop-again-22 c = met-rotates (met (c .before .before .before .before .before)) (is-live _ (c .before .before .before .if1 .left)) (c .rotate-left2 .result) 23 6 2 (c .before .before .match4 .keys18) refl (c .rotate-left2 .ensures)
+loop-again-20 : tie.Need-loop-again-20 Inv-loop μ-loop
+loop-again-20 c = met-rotates (met (c .before .before .before)) refl (c .rotate-left2 .result) 23 6 2 (c .before .before .match3 .keys23) refl (c .rotate-left2 .ensures)
 
 rotate-left-requires-3 : tie.Need-rotate-left-requires-3 Inv-loop μ-loop
 rotate-left-requires-3 c κs = search needs
 
-loop-less-23 : tie.Need-loop-less-23 Inv-loop μ-loop
-loop-less-23 c = nearer (met (c .before .before .before .before .before))
+loop-less-21 : tie.Need-loop-less-21 Inv-loop μ-loop
+loop-less-21 c = nearer (met (c .before .before .before))
 
-loop-again-23 : tie.Need-loop-again-23 Inv-loop μ-loop
-loop-again-23 c = met-rotates (met (c .before .before .before .before .before)) (is-live _ (c .before .before .before .if1 .left)) (c .rotate-left3 .result) 24 2 1 (c .before .before .match4 .keys19) refl (c .rotate-left3 .ensures)
+loop-again-21 : tie.Need-loop-again-21 Inv-loop μ-loop
+loop-again-21 c = met-rotates (met (c .before .before .before)) refl (c .rotate-left3 .result) 24 2 1 (c .before .before .match3 .keys24) refl (c .rotate-left3 .ensures)
 
 rotate-left-requires-4 : tie.Need-rotate-left-requires-4 Inv-loop μ-loop
 rotate-left-requires-4 c κs = search needs
 
-loop-less-24 : tie.Need-loop-less-24 Inv-loop μ-loop
-loop-less-24 c = nearer (met (c .before .before .before .before .before))
+loop-less-22 : tie.Need-loop-less-22 Inv-loop μ-loop
+loop-less-22 c = nearer (met (c .before .before .before))
 
-loop-again-24 : tie.Need-loop-again-24 Inv-loop μ-loop
-loop-again-24 c = met-rotates (met (c .before .before .before .before .before)) (is-live _ (c .before .before .before .if1 .left)) (c .rotate-left4 .result) 25 4 2 (c .before .before .match4 .keys20) refl (c .rotate-left4 .ensures)
+loop-again-22 : tie.Need-loop-again-22 Inv-loop μ-loop
+loop-again-22 c = met-rotates (met (c .before .before .before)) refl (c .rotate-left4 .result) 25 4 2 (c .before .before .match3 .keys25) refl (c .rotate-left4 .ensures)
 
 apply-effect-requires : tie.Need-apply-effect-requires Inv-loop μ-loop
 apply-effect-requires c κs = search needs
 
-loop-less-25 : tie.Need-loop-less-25 Inv-loop μ-loop
-loop-less-25 c = nearer (met (c .before .before .before .before .before))
+loop-less-23 : tie.Need-loop-less-23 Inv-loop μ-loop
+loop-less-23 c = nearer (met (c .before .before .before))
 
-loop-again-25 : tie.Need-loop-again-25 Inv-loop μ-loop
-loop-again-25 c = met-plain (met (c .before .before .before .before .before)) 26 1 0 (c .before .before .match4 .keys21) refl (is-live _ (c .before .before .before .if1 .left)) (c .apply-effect .result) (c .apply-effect .ensures)
+loop-again-23 : tie.Need-loop-again-23 Inv-loop μ-loop
+loop-again-23 c = met-plain (met (c .before .before .before)) 26 1 0 (c .before .before .match3 .keys26) refl refl (c .apply-effect .result) (c .apply-effect .ensures)
 
 apply-effect-requires-2 : tie.Need-apply-effect-requires-2 Inv-loop μ-loop
 apply-effect-requires-2 c κs = search needs
 
-loop-less-26 : tie.Need-loop-less-26 Inv-loop μ-loop
-loop-less-26 c = nearer (met (c .before .before .before .before .before))
+loop-less-24 : tie.Need-loop-less-24 Inv-loop μ-loop
+loop-less-24 c = nearer (met (c .before .before .before))
 
-loop-again-26 : tie.Need-loop-again-26 Inv-loop μ-loop
-loop-again-26 c = met-plain (met (c .before .before .before .before .before)) 27 2 0 (c .before .before .match4 .keys22) refl (is-live _ (c .before .before .before .if1 .left)) (c .apply-effect2 .result) (c .apply-effect2 .ensures)
+loop-again-24 : tie.Need-loop-again-24 Inv-loop μ-loop
+loop-again-24 c = met-plain (met (c .before .before .before)) 27 2 0 (c .before .before .match3 .keys27) refl refl (c .apply-effect2 .result) (c .apply-effect2 .ensures)
 
 apply-effect-requires-3 : tie.Need-apply-effect-requires-3 Inv-loop μ-loop
 apply-effect-requires-3 c κs = search needs
 
-loop-less-27 : tie.Need-loop-less-27 Inv-loop μ-loop
-loop-less-27 c = nearer (met (c .before .before .before .before .before))
+loop-less-25 : tie.Need-loop-less-25 Inv-loop μ-loop
+loop-less-25 c = nearer (met (c .before .before .before))
 
-loop-again-27 : tie.Need-loop-again-27 Inv-loop μ-loop
-loop-again-27 c = met-plain (met (c .before .before .before .before .before)) 28 0 1 (c .before .before .match4 .keys23) refl (is-live _ (c .before .before .before .if1 .left)) (c .apply-effect3 .result) (c .apply-effect3 .ensures)
+loop-again-25 : tie.Need-loop-again-25 Inv-loop μ-loop
+loop-again-25 c = met-plain (met (c .before .before .before)) 28 0 1 (c .before .before .match3 .keys28) refl refl (c .apply-effect3 .result) (c .apply-effect3 .ensures)
 
 apply-effect-requires-4 : tie.Need-apply-effect-requires-4 Inv-loop μ-loop
 apply-effect-requires-4 c κs = search needs
 
-loop-less-28 : tie.Need-loop-less-28 Inv-loop μ-loop
-loop-less-28 c = nearer (met (c .before .before .before .before .before))
+loop-less-26 : tie.Need-loop-less-26 Inv-loop μ-loop
+loop-less-26 c = nearer (met (c .before .before .before))
 
-loop-again-28 : tie.Need-loop-again-28 Inv-loop μ-loop
-loop-again-28 c = met-plain (met (c .before .before .before .before .before)) 29 1 1 (c .before .before .match4 .keys24) refl (is-live _ (c .before .before .before .if1 .left)) (c .apply-effect4 .result) (c .apply-effect4 .ensures)
+loop-again-26 : tie.Need-loop-again-26 Inv-loop μ-loop
+loop-again-26 c = met-plain (met (c .before .before .before)) 29 1 1 (c .before .before .match3 .keys29) refl refl (c .apply-effect4 .result) (c .apply-effect4 .ensures)
 
 apply-effect-requires-5 : tie.Need-apply-effect-requires-5 Inv-loop μ-loop
 apply-effect-requires-5 c κs = search needs
 
-loop-less-29 : tie.Need-loop-less-29 Inv-loop μ-loop
-loop-less-29 c = nearer (met (c .before .before .before .before .before))
+loop-less-27 : tie.Need-loop-less-27 Inv-loop μ-loop
+loop-less-27 c = nearer (met (c .before .before .before))
 
-loop-again-29 : tie.Need-loop-again-29 Inv-loop μ-loop
-loop-again-29 c = met-plain (met (c .before .before .before .before .before)) 30 3 1 (c .before .before .match4 .keys25) refl (is-live _ (c .before .before .before .if1 .left)) (c .apply-effect5 .result) (c .apply-effect5 .ensures)
+loop-again-27 : tie.Need-loop-again-27 Inv-loop μ-loop
+loop-again-27 c = met-plain (met (c .before .before .before)) 30 3 1 (c .before .before .match3 .keys30) refl refl (c .apply-effect5 .result) (c .apply-effect5 .ensures)
 
 apply-effect-requires-6 : tie.Need-apply-effect-requires-6 Inv-loop μ-loop
 apply-effect-requires-6 c κs = search needs
 
-loop-less-30 : tie.Need-loop-less-30 Inv-loop μ-loop
-loop-less-30 c = nearer (met (c .before .before .before .before .before))
+loop-less-28 : tie.Need-loop-less-28 Inv-loop μ-loop
+loop-less-28 c = nearer (met (c .before .before .before))
 
-loop-again-30 : tie.Need-loop-again-30 Inv-loop μ-loop
-loop-again-30 c = met-plain (met (c .before .before .before .before .before)) 31 2 1 (c .before .before .match4 .keys26) refl (is-live _ (c .before .before .before .if1 .left)) (c .apply-effect6 .result) (c .apply-effect6 .ensures)
+loop-again-28 : tie.Need-loop-again-28 Inv-loop μ-loop
+loop-again-28 c = met-plain (met (c .before .before .before)) 31 2 1 (c .before .before .match3 .keys31) refl refl (c .apply-effect6 .result) (c .apply-effect6 .ensures)
 
-loop-less-31 : tie.Need-loop-less-31 Inv-loop μ-loop
-loop-less-31 c = nearer (met (c .before .before .before .before))
+loop-less-29 : tie.Need-loop-less-29 Inv-loop μ-loop
+loop-less-29 c = nearer (met (c .before .before))
 
-loop-again-31 : tie.Need-loop-again-31 Inv-loop μ-loop
-loop-again-31 c = met-unmodelled (met (c .before .before .before .before)) (is-live _ (c .before .before .if1 .left)) (class-left (met (c .before .before .before .before)) (c .before .before .before .match3 .rest) handled (c .before .match4 .rest) tt)
+loop-again-29 : tie.Need-loop-again-29 Inv-loop μ-loop
+loop-again-29 c = met-unmodelled (met (c .before .before)) refl (class-left (met (c .before .before)) (c .before .match3 .rest))
 
 pub plain-spec : {M : Type 1} → statement M
 plain-spec =
@@ -446,28 +455,29 @@ plain-spec =
     (tie.spec
     Inv-loop
     μ-loop
-    loop-holds
-    enum-known-answer
+    skip-requires
     stopped-requires
     same-length
     returns
+    loop-holds
+    enum-known-answer
+    stopped-requires-2
+    same-length-2
+    returns-2
     enum-told
     add-higher
     higher-requires
     decode-at-requires
     enum-known-d
-    stopped-requires-2
-    same-length-2
-    returns-2
-    cast-log-row
-    logged-requires
-    logged-requires-2
-    log-row-requires
-    add-rows
-    class-of-requires
     stopped-requires-3
     same-length-3
     returns-3
+    cast-log-row
+    cast-log-row-2
+    cast-log-row-3
+    log-row-requires
+    add-rows
+    class-of-requires
     stopped-requires-4
     same-length-4
     returns-4
@@ -477,96 +487,99 @@ plain-spec =
     stopped-requires-6
     same-length-6
     returns-6
+    stopped-requires-7
+    same-length-7
+    returns-7
+    skip-requires-2
+    stopped-requires-8
+    same-length-8
+    returns-8
     loop-less
     loop-again
-    loop-less-2
-    loop-again-2
-    loop-less-3
-    loop-again-3
     enum-known-v
     enum-told-2
     push-code-requires
-    loop-less-4
-    loop-again-4
+    loop-less-2
+    loop-again-2
     code-of-requires
     suffices-requires
     push-code-requires-2
+    loop-less-3
+    loop-again-3
+    push-exact-requires
+    loop-less-4
+    loop-again-4
+    move-to-alt-requires
     loop-less-5
     loop-again-5
-    push-exact-requires
+    move-from-alt-requires
     loop-less-6
     loop-again-6
-    move-to-alt-requires
+    depth-requires
     loop-less-7
     loop-again-7
-    move-from-alt-requires
+    size-requires
     loop-less-8
     loop-again-8
-    depth-requires
+    nip-requires
     loop-less-9
     loop-again-9
-    size-requires
+    tuck-requires
     loop-less-10
     loop-again-10
-    nip-requires
+    pick-requires
     loop-less-11
     loop-again-11
-    tuck-requires
+    roll-requires
     loop-less-12
     loop-again-12
-    pick-requires
+    zk-requires
     loop-less-13
     loop-again-13
-    roll-requires
+    extend-from-within-requires
     loop-less-14
     loop-again-14
-    zk-requires
+    extend-from-within-requires-2
     loop-less-15
     loop-again-15
-    extend-from-within-requires
+    extend-from-within-requires-3
     loop-less-16
     loop-again-16
-    extend-from-within-requires-2
+    extend-from-within-requires-4
     loop-less-17
     loop-again-17
-    extend-from-within-requires-3
+    extend-from-within-requires-5
     loop-less-18
     loop-again-18
-    extend-from-within-requires-4
+    rotate-left-requires
     loop-less-19
     loop-again-19
-    extend-from-within-requires-5
+    rotate-left-requires-2
     loop-less-20
     loop-again-20
-    rotate-left-requires
+    rotate-left-requires-3
     loop-less-21
     loop-again-21
-    rotate-left-requires-2
+    rotate-left-requires-4
     loop-less-22
     loop-again-22
-    rotate-left-requires-3
+    apply-effect-requires
     loop-less-23
     loop-again-23
-    rotate-left-requires-4
+    apply-effect-requires-2
     loop-less-24
     loop-again-24
-    apply-effect-requires
+    apply-effect-requires-3
     loop-less-25
     loop-again-25
-    apply-effect-requires-2
+    apply-effect-requires-4
     loop-less-26
     loop-again-26
-    apply-effect-requires-3
+    apply-effect-requires-5
     loop-less-27
     loop-again-27
-    apply-effect-requires-4
+    apply-effect-requires-6
     loop-less-28
     loop-again-28
-    apply-effect-requires-5
     loop-less-29
-    loop-again-29
-    apply-effect-requires-6
-    loop-less-30
-    loop-again-30
-    loop-less-31
-    loop-again-31)
+    loop-again-29)
