@@ -102,6 +102,7 @@ pub fn compare(out: &mut Output, words: &[OsString]) -> Result<Status, Stop> {
             Outcome::Different => different += 1,
             Outcome::Outside => outside += 1,
         }
+        progress.make_way();
         out.write(line.as_bytes())?;
         out.show()?;
     }

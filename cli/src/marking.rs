@@ -103,6 +103,7 @@ pub fn mark(out: &mut Output, form: Form, words: &[OsString]) -> Result<Status, 
                 continue;
             }
         };
+        progress.make_way();
         let number = one(out, &mut marker, &mut summary, &mut records, pile.several, source, &paper)?;
         status = status.max(Status::of(number));
         out.show()?;

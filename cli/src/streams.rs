@@ -95,17 +95,19 @@ pub fn say(what: &str) {
 /// From this many papers on progress is shown.
 const MANY: usize = 200;
 
-/// A line on standard error that counts the papers, where that is a terminal, there are many, and their lines go elsewhere.
+/// A line on standard error that counts the papers, where that is a terminal and there are many. Where their lines go to a
+/// terminal too, it is taken away before each of them.
 pub struct Progress {
     total: usize,
     shown: bool,
+    among: bool,
     next: Option<Instant>,
 }
 
 impl Progress {
     pub fn new(total: usize, out: &Output) -> Self {
-        let wanted = total > MANY && io::stderr().is_terminal() && !out.terminal();
-        Self { total, shown: false, next: wanted.then(Instant::now) }
+        let wanted = total > MANY && io::stderr().is_terminal();
+        Self { total, shown: false, among: out.terminal(), next: wanted.then(Instant::now) }
     }
 
     /// So many are done.
@@ -114,6 +116,13 @@ impl Progress {
             let _ = io::stderr().write_all(format!("\r{done} of {} papers", self.total).as_bytes());
             self.shown = true;
             self.next = Some(Instant::now() + Duration::from_millis(100));
+        }
+    }
+
+    /// The line of a paper is written next.
+    pub fn make_way(&mut self) {
+        if self.among {
+            self.clear();
         }
     }
 

@@ -25,7 +25,7 @@ and a summary stands at the end.
 
 In a name a backslash is shown as \\\\, a newline as \\n, a byte that is no UTF-8 as \\xNN. With --csv and --json the
 summary goes to standard error. A paper that cannot be read is said there and gets no verdict and no record. Over 200
-papers are counted there as they are marked, where it is a terminal and the output goes elsewhere.
+papers are counted there as they are marked, where it is a terminal.
 Status 0: all accepted. 1: some refused. 2: a paper could not be read, or a write failed; the others are marked.
 ",
     examples: &[
