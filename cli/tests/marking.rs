@@ -263,24 +263,30 @@ fn progress_is_for_a_terminal_and_many_papers() {
     }
     let ran = folder.run(&["mark", "pile"]);
     assert_eq!((ran.status, ran.err.as_str()), (Some(0), ""));
-    // standard error is a terminal, standard output a file
+    // standard error is a terminal, standard output a file or the terminal too
     let script = "import os, pty, sys\n\
                   pid, end = pty.fork()\n\
-                  if pid == 0:\n    os.dup2(os.open('out', os.O_WRONLY | os.O_CREAT), 1)\n    os.execv(sys.argv[1], sys.argv[1:])\n\
+                  if pid == 0:\n\
+                  \x20   if sys.argv[1]: os.dup2(os.open(sys.argv[1], os.O_WRONLY | os.O_CREAT), 1)\n\
+                  \x20   os.execv(sys.argv[2], sys.argv[2:])\n\
                   said = b''\n\
                   try:\n    while True:\n        part = os.read(end, 4096)\n        if not part: break\n        said += part\n\
                   except OSError: pass\n\
                   print(os.waitstatus_to_exitcode(os.waitpid(pid, 0)[1]), said)\n";
-    let shown = |papers: &str| {
+    let shown = |papers: &str, out: &str| {
         let mut python = Command::new("python3");
-        let ran = self::ran(python.args(["-c", script, LISTOCHUR, "mark", papers]).current_dir(&folder.0), b"");
+        let ran = self::ran(python.args(["-c", script, out, LISTOCHUR, "mark", papers]).current_dir(&folder.0), b"");
         assert_eq!((ran.status, ran.err.as_str()), (Some(0), ""));
         ran.out().to_owned()
     };
-    let many = shown("pile");
+    let many = shown("pile", "out");
     assert!(many.starts_with("0 b'\\r0 of 300 papers"), "{many}");
     assert!(many.ends_with("\\r\\x1b[K'\n"), "{many}");
     let out = fs::read_to_string(folder.0.join("out")).unwrap();
     assert!(out.ends_with("papers 300, accepted 300, refused 0, rows 1800, greatest peak 2\n"));
-    assert_eq!(shown("pile/0"), "0 b''\n");
+    assert_eq!(shown("pile/0", "out"), "0 b''\n");
+    // the count is taken away before the line of a paper
+    let among = shown("pile", "");
+    assert!(among.starts_with("0 b'\\r0 of 300 papers\\r\\x1b[Kpile/0: entry 0"), "{among}");
+    assert!(among.contains("\\r\\npile/99: accepted\\r\\n"), "{among}");
 }
