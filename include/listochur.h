@@ -28,9 +28,12 @@ extern "C" {
 #define LISTOCHUR_PAPER_PLACES 7
 #define LISTOCHUR_PART_PLACES 2
 #define LISTOCHUR_LINES_PLACES 1
+#define LISTOCHUR_LOG_LINES_PLACES 1
+#define LISTOCHUR_REASON_PLACES 1
 
-/* Room for the lines of any paper. */
+/* Room for the lines of any paper, and for the words of any verdict. */
 #define LISTOCHUR_LINES_BYTES 4096
+#define LISTOCHUR_REASON_BYTES 80
 
 /* A height in the log where the row is dead. */
 #define LISTOCHUR_DEAD 65535
@@ -92,6 +95,27 @@ size_t listochur_display(const uint8_t *body, size_t body_len, const uint8_t *in
  */
 uint32_t listochur_mark_lines(const uint8_t *paper, size_t paper_len, uint16_t *log, size_t log_len, uint8_t *text,
                               size_t text_len, uint64_t *out, size_t out_len);
+
+/*
+ * What `stacklog` prints of a paper: each fragment met with the rows of its log, what was refused, and then `accepted` or
+ * `refused N at K O A B`. Answers the verdict's number, 0 for accepted.
+ * `text`: the lines, each ended by a newline and with no NUL behind them, where it has room for all of them; else it stays as it
+ * was. The bytes behind them stay as they were.
+ * `out`: how many bytes the lines take, also where `text` has no room for them: a call with no text tells how much to lend.
+ * `log`: the rows of all fragments, one after another, whatever room `text` and `out` have.
+ */
+uint32_t listochur_log_lines(const uint8_t *paper, size_t paper_len, uint16_t *log, size_t log_len, uint8_t *text,
+                             size_t text_len, uint64_t *out, size_t out_len);
+
+/*
+ * A verdict's number and its two figures in words, as `main dry: needed 2, had 1`. Answers the number that it was passed; one
+ * past those of document 01 has no words.
+ * `text`: the words, with no newline and no NUL behind them, where it has room for all of them; else it stays as it was. The
+ * bytes behind them stay as they were.
+ * `out`: how many bytes the words take, also where `text` has no room for them; at most LISTOCHUR_REASON_BYTES.
+ */
+uint32_t listochur_reason(uint32_t number, uint64_t first, uint64_t second, uint8_t *text, size_t text_len, uint64_t *out,
+                          size_t out_len);
 
 /*
  * The bench tally gains one verdict, of this number, rows and peak. Answers 0, or 22 where a sum would pass 4,294,967,295, with

@@ -1,7 +1,8 @@
-/* Marks the sample paper of document 01, section 6, prints its lines, analyses a fragment that is refused, shows the items of an
- * end, and keeps a tally. */
+/* Marks the sample paper of document 01, section 6, prints its lines and its log, analyses a fragment that is refused and says
+ * why in words, shows the items of an end, and keeps a tally. */
 #include <inttypes.h>
 #include <stdio.h>
+#include <stdlib.h>
 
 #include "listochur.h"
 
@@ -34,10 +35,21 @@ int main(void) {
     listochur_mark_lines(paper, sizeof paper, log, 24000, text, sizeof text, &size, LISTOCHUR_LINES_PLACES);
     fwrite(text, 1, size, stdout);
 
+    /* how much to lend, and then the log */
+    listochur_log_lines(paper, sizeof paper, log, 24000, NULL, 0, &size, LISTOCHUR_LOG_LINES_PLACES);
+    uint8_t *rows = malloc(size);
+    if (rows == NULL) return 1;
+    listochur_log_lines(paper, sizeof paper, log, 24000, rows, size, &size, LISTOCHUR_LOG_LINES_PLACES);
+    fwrite(rows, 1, size, stdout);
+    free(rows);
+
     const uint8_t fragment[] = {0x51, 0x79};
     uint64_t v[LISTOCHUR_VERDICT_PLACES];
     listochur_analyze(fragment, sizeof fragment, 1, 0, log, 24000, v, LISTOCHUR_VERDICT_PLACES);
     printf("%" PRIu64 " at %" PRIu64 ", %" PRIu64 ", %" PRIu64 "\n", v[0], v[1], v[2], v[3]);
+    uint8_t words[LISTOCHUR_REASON_BYTES];
+    listochur_reason((uint32_t)v[0], v[2], v[3], words, sizeof words, &size, LISTOCHUR_REASON_PLACES);
+    printf("%.*s\n", (int)size, (const char *)words);
 
     /* 1; 05 06, to alt; a plain effect that pushes */
     const uint8_t pushes[] = {0x51, 0x02, 0x05, 0x06, 0x6b, 0xb2};

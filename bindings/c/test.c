@@ -179,6 +179,76 @@ static void mark_lines(void) {
     EXPECT(listochur_mark_lines(NULL, 0, NULL, 0, NULL, 0, NULL, 0) == 19);
 }
 
+static void log_lines(void) {
+    uint64_t out[10];
+    uint16_t log[6];
+    uint8_t text[512];
+    const uint8_t paper[] = {1, 0, 0, 0, 14, 0, 0, 0, 2, 0, 14, 0, 1, 0, 0x75};
+    const char *lines = "entry 0: length 1, from main 2 alt 0\n"
+                        "offset main  alt total |of 8            | bytes\n"
+                        "     0    2    0     2 |####............| 75\n"
+                        "accepted: peak 2, end main 1 alt 0\n"
+                        "\n"
+                        "accepted\n";
+    const size_t size = strlen(lines);
+    lend(out);
+    memset(text, 9, sizeof text);
+    memset(log, 0xff, sizeof log);
+    EXPECT(listochur_log_lines(paper, sizeof paper, log, 6, text, sizeof text, out, 10) == 0);
+    EXPECT(holds(out, (const uint64_t[]){size}, 1));
+    EXPECT(memcmp(text, lines, size) == 0 && text[size] == 9 && text[sizeof text - 1] == 9);
+    EXPECT(memcmp(log, (const uint16_t[]){0, 2, 0, 65535, 65535, 65535}, sizeof log) == 0);
+    /* just room enough, and one byte too few: the number, the size and the log are the same */
+    memset(text, 9, sizeof text);
+    EXPECT(listochur_log_lines(paper, sizeof paper, log, 6, text, size, NULL, 0) == 0);
+    EXPECT(memcmp(text, lines, size) == 0 && text[size] == 9);
+    lend(out);
+    memset(text, 9, sizeof text);
+    memset(log, 0xff, sizeof log);
+    EXPECT(listochur_log_lines(paper, sizeof paper, log, 6, text, size - 1, out, 1) == 0);
+    EXPECT(holds(out, (const uint64_t[]){size}, 1));
+    EXPECT(text[0] == 9 && text[size - 2] == 9);
+    EXPECT(memcmp(log, (const uint16_t[]){0, 2, 0, 65535, 65535, 65535}, sizeof log) == 0);
+    /* refused */
+    const char *refused = "entry 0: length 1, from main 2 alt 0\n"
+                          "refused 4, short log: needed 3, lent 0\n"
+                          "\n"
+                          "refused 4 at 0 0 3 0\n";
+    EXPECT(listochur_log_lines(paper, sizeof paper, NULL, 0, text, sizeof text, out, 1) == 4);
+    EXPECT(out[0] == strlen(refused) && memcmp(text, refused, strlen(refused)) == 0);
+    EXPECT(listochur_log_lines(NULL, 0, NULL, 0, NULL, 0, out, 1) == 19);
+    EXPECT(listochur_log_lines(NULL, 0, NULL, 0, NULL, 0, NULL, 0) == 19);
+}
+
+static void reason(void) {
+    uint64_t out[10];
+    uint8_t text[LISTOCHUR_REASON_BYTES];
+    const char *words = "main dry: needed 2, had 1";
+    const size_t size = strlen(words);
+    lend(out);
+    memset(text, 9, sizeof text);
+    EXPECT(listochur_reason(7, 2, 1, text, sizeof text, out, 10) == 7);
+    EXPECT(holds(out, (const uint64_t[]){size}, 1));
+    EXPECT(memcmp(text, words, size) == 0 && text[size] == 9 && text[sizeof text - 1] == 9);
+    /* just room enough, and one byte too few: the number and the size are the same */
+    memset(text, 9, sizeof text);
+    EXPECT(listochur_reason(7, 2, 1, text, size, NULL, 0) == 7);
+    EXPECT(memcmp(text, words, size) == 0 && text[size] == 9);
+    lend(out);
+    memset(text, 9, sizeof text);
+    EXPECT(listochur_reason(7, 2, 1, text, size - 1, out, 1) == 7);
+    EXPECT(holds(out, (const uint64_t[]){size}, 1));
+    EXPECT(text[0] == 9 && text[size - 2] == 9);
+    /* no words: the lent bytes stay */
+    lend(out);
+    EXPECT(listochur_reason(23, 2, 1, text, sizeof text, out, 10) == 23);
+    EXPECT(holds(out, (const uint64_t[]){0}, 1) && text[0] == 9);
+    EXPECT(listochur_reason(UINT32_MAX, 0, 0, NULL, 0, out, 1) == UINT32_MAX && out[0] == 0);
+    EXPECT(listochur_reason(0, 0, 0, NULL, 0, out, 1) == 0 && out[0] == 8);
+    EXPECT(listochur_reason(6, UINT64_MAX, UINT64_MAX, NULL, 0, out, 1) == 6 && out[0] <= LISTOCHUR_REASON_BYTES);
+    EXPECT(listochur_reason(6, 0, 0, NULL, 0, NULL, 0) == 6);
+}
+
 static void gain(void) {
     uint32_t tally[5] = {0, 0, 0, 0, 7};
     EXPECT(listochur_gain(tally, 0, 6, 2) == 0);
@@ -204,6 +274,8 @@ int main(void) {
     mark_paper();
     display();
     mark_lines();
+    log_lines();
+    reason();
     gain();
     return failures != 0;
 }

@@ -1,5 +1,5 @@
-//! Marks the sample paper of document 01, section 6, prints its lines, analyses a fragment that is refused, shows the items of an
-//! end, and keeps a tally.
+//! Marks the sample paper of document 01, section 6, prints its lines and its log, analyses a fragment that is refused and says
+//! why in words, shows the items of an end, and keeps a tally.
 use listochur::Item;
 use std::io::{self, Write};
 
@@ -27,8 +27,16 @@ fn main() -> io::Result<()> {
     let lines = listochur::mark_lines(&paper, &mut log, &mut text);
     io::stdout().write_all(&text[..lines.size])?;
 
+    // How much to lend, and then the log.
+    let mut rows = vec![0; listochur::log_lines(&paper, &mut log, &mut []).size];
+    listochur::log_lines(&paper, &mut log, &mut rows);
+    io::stdout().write_all(&rows)?;
+
     let v = listochur::analyze(&[0x51, 0x79], 1, 0, &mut log);
     println!("{} at {}, {}, {}", v.number, v.offset, v.first, v.second);
+    let mut words = [0; listochur::REASON_BYTES];
+    let size = listochur::reason(v.number, v.first, v.second, &mut words);
+    println!("{}", String::from_utf8_lossy(&words[..size]));
 
     // 1; 05 06, to alt; a plain effect that pushes
     let (_, end) = listochur::analyze_items(&[0x51, 0x02, 0x05, 0x06, 0x6b, 0xb2], 0, 0, &mut log);

@@ -1,13 +1,14 @@
-//! A proved stack marker for Kaspa script: analyse a fragment, check limits, mark a paper, display, print, keep a tally.
+//! A proved stack marker for Kaspa script: analyse a fragment, check limits, mark a paper, display, print, say why in words, keep
+//! a tally.
 //!
 //! The functions hand their slices and numbers to the proved ones of the crate `export` and read the numbers that come
 //! back. They test nothing. A fragment that is too long, heights over the limit, a short log, a bad header or a mark that is
 //! neither 0 nor 1 reach the callee as they are: it takes every input and has refused them, with a number of document 01,
 //! section 7, before anything here could. Nothing panics and nothing is allocated.
 //!
-//! What is proved is that the answer and the log are those of document 01, for every input. This crate and the compilers are
-//! not: here are a call for each function, the numbers that it leaves, and the part that the display's two numbers cut out. A
-//! call uses up to 512 KiB of stack.
+//! What is proved is that the answer and the log are those of document 01, for every input, and the texts those of the
+//! definitions. This crate and the compilers are not: here are a call for each function, the numbers that it leaves, and the
+//! part that the display's two numbers cut out. A call uses up to 512 KiB of stack.
 //!
 //! ```
 //! let mut log = [0u16; 6];
@@ -71,6 +72,25 @@ mod callee {
             out: *mut u64,
             out_len: usize,
         ) -> u32;
+        pub fn listochur_log_lines(
+            paper: *const u8,
+            paper_len: usize,
+            log: *mut u16,
+            log_len: usize,
+            text: *mut u8,
+            text_len: usize,
+            out: *mut u64,
+            out_len: usize,
+        ) -> u32;
+        pub fn listochur_reason(
+            number: u32,
+            first: u64,
+            second: u64,
+            text: *mut u8,
+            text_len: usize,
+            out: *mut u64,
+            out_len: usize,
+        ) -> u32;
         // Four counters, with no length.
         pub fn listochur_gain(tally: *mut u32, number: u32, rows: u64, peak: u32) -> u32;
     }
@@ -81,6 +101,9 @@ pub const DEAD: u16 = 65_535;
 
 /// Room for the lines of any paper.
 pub const LINES_BYTES: usize = 4_096;
+
+/// Room for the words of any verdict.
+pub const REASON_BYTES: usize = 80;
 
 /// The verdict on a fragment.
 #[derive(Clone, Copy, Debug, PartialEq, Eq)]
@@ -142,12 +165,12 @@ pub struct PaperVerdict {
     pub peak: u32,
 }
 
-/// What [`mark_lines`] answers.
+/// What [`mark_lines`] and [`log_lines`] answer.
 #[derive(Clone, Copy, Debug, PartialEq, Eq)]
 pub struct Lines {
     /// 0 for accepted, else why the paper is refused.
     pub number: u32,
-    /// How many bytes the lines take, at most [`LINES_BYTES`].
+    /// How many bytes the lines take; those of [`mark_lines`] at most [`LINES_BYTES`].
     pub size: usize,
 }
 
@@ -361,6 +384,51 @@ pub fn mark_lines(paper: &[u8], log: &mut [u16], text: &mut [u8]) -> Lines {
     };
     let [size] = out;
     Lines { number, size: size as usize }
+}
+
+/// What `stacklog` prints of a paper: each fragment met with the rows of its log, what was refused, and then `accepted` or
+/// `refused N at K O A B`, each line ended by a newline. The lines are written to the start of `text` where it has room for all
+/// of them, else none is; the rest of it stays as lent. A call with no text tells how much to lend. The rows of all fragments are
+/// written to `log`, as by [`mark_paper`], whatever room `text` has.
+///
+/// Tests nothing: a paper that is refused has its lines too.
+pub fn log_lines(paper: &[u8], log: &mut [u16], text: &mut [u8]) -> Lines {
+    let mut out = [0; 1];
+    // SAFETY: each slice is passed whole, with its own length, and the borrows keep `log`, `text` and `out` apart from the rest.
+    let number = unsafe {
+        callee::listochur_log_lines(
+            paper.as_ptr(),
+            paper.len(),
+            log.as_mut_ptr(),
+            log.len(),
+            text.as_mut_ptr(),
+            text.len(),
+            out.as_mut_ptr(),
+            out.len(),
+        )
+    };
+    let [size] = out;
+    Lines { number, size: size as usize }
+}
+
+/// A verdict's number and its two figures in words. They are written to the start of `text` where it has room for all of them,
+/// else none is; the rest of it stays as lent. Answers how many bytes they take, at most [`REASON_BYTES`].
+///
+/// Tests nothing: for a number past those of document 01 the callee writes no words.
+///
+/// ```
+/// let mut text = [0; listochur::REASON_BYTES];
+/// let size = listochur::reason(7, 2, 1, &mut text);
+/// assert_eq!(&text[..size], b"main dry: needed 2, had 1");
+/// ```
+pub fn reason(number: u32, first: u64, second: u64, text: &mut [u8]) -> usize {
+    let mut out = [0; 1];
+    // SAFETY: each slice is passed whole, with its own length, and the borrows keep `text` and `out` apart.
+    unsafe {
+        callee::listochur_reason(number, first, second, text.as_mut_ptr(), text.len(), out.as_mut_ptr(), out.len());
+    }
+    let [size] = out;
+    size as usize
 }
 
 /// The tally gains one verdict, of this number, rows and peak. Answers 0, or 22 where a sum would pass 4,294,967,295, with the

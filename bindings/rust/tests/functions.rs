@@ -1,7 +1,7 @@
 //! The functions from Rust: what document 01 says of them, bad input included.
 use listochur::{
-    DEAD, Heights, Item, LINES_BYTES, Limits, Lines, PaperVerdict, Tally, Value, Verdict, analyze, analyze_items, check_limits,
-    display, gain, mark_lines, mark_paper,
+    DEAD, Heights, Item, LINES_BYTES, Limits, Lines, PaperVerdict, REASON_BYTES, Tally, Value, Verdict, analyze, analyze_items,
+    check_limits, display, gain, log_lines, mark_lines, mark_paper, reason,
 };
 
 /// What stands in a log that no row has been written to.
@@ -227,6 +227,102 @@ fn lines_of_refused_papers() {
 }
 
 #[test]
+fn log_of_a_paper() {
+    let paper = paper(1, 0, &[0x75], &[0x6c, 0x6d]);
+    let expected = b"\
+entry 0: length 1, from main 1 alt 0
+offset main  alt total |of 8            | bytes
+     0    1    0     1 |##..............| 75
+accepted: peak 1, end main 0 alt 0
+
+state: length 2, from main 0 alt 1
+offset main  alt total |of 8            | bytes
+     0    0    1     1 |##..............| 6c
+     1    1    0     1 |##..............| 6d
+     ^ refused 7, main dry: needed 2, had 1
+
+refused 7 at 1 1 2 1
+";
+    let answer = Lines { number: 7, size: expected.len() };
+    // More room than is needed, just enough, too little.
+    for room in [1_000, expected.len(), expected.len() - 1, 0] {
+        let mut log = [LENT; 12];
+        let mut text = [b'#'; 1_000];
+        assert_eq!(log_lines(&paper, &mut log, &mut text[..room]), answer, "{room}");
+        let written = if room < expected.len() { 0 } else { expected.len() };
+        assert_eq!(String::from_utf8_lossy(&text[..written]), String::from_utf8_lossy(&expected[..written]), "{room}");
+        assert!(text[written..].iter().all(|&b| b == b'#'), "{room}");
+        assert_eq!(log, [0, 1, 0, 0, 0, 1, 1, 1, 0, LENT, LENT, LENT], "{room}");
+    }
+}
+
+#[test]
+fn logs_end_with_the_last_of_the_lines() {
+    let papers: [&[u8]; 5] =
+        [&[0; 8_001], &[], &paper(65_535, 65_535, &[], &[]), &paper(0, 0, &[0x61, 0x61], &[]), &paper(0, 2, &[0x75], &[])];
+    for paper in papers {
+        let mut logs = [[LENT; 3]; 2];
+        let mut lines = [0; LINES_BYTES];
+        let mut text = [0; 1_000];
+        let marked = mark_lines(paper, &mut logs[0], &mut lines);
+        let logged = log_lines(paper, &mut logs[1], &mut text);
+        assert_eq!(logged.number, marked.number);
+        assert_eq!(logs[0], logs[1]);
+        let last = lines[..marked.size].split_inclusive(|&b| b == b'\n').next_back().unwrap();
+        assert!(text[..logged.size].ends_with(last), "{}", String::from_utf8_lossy(&text[..logged.size]));
+    }
+}
+
+#[test]
+fn reasons() {
+    let words = [
+        "accepted",
+        "long fragment: length 18, limit 5",
+        "start: sum 18, limit 5",
+        "malformed",
+        "short log: needed 18, lent 5",
+        "nesting: open 18, limit 5",
+        "stacks full: total wanted 18, limit 5",
+        "main dry: needed 18, had 5",
+        "alt dry",
+        "index",
+        "tag",
+        "unmodelled: opcode 12",
+        "arms differ",
+        "stray ELSE",
+        "second ELSE",
+        "stray ENDIF",
+        "open IF",
+        "opcode count: count 18, limit 5",
+        "script size: length 18, limit 5",
+        "header",
+        "dispatch: sum 18, limit 5",
+        "long paper: length 18, limit 5",
+        "tally full",
+    ];
+    for (number, expected) in (0..).zip(words) {
+        // More room than is needed, just enough, too little.
+        for room in [REASON_BYTES, expected.len(), expected.len() - 1, 0] {
+            let mut text = [b'#'; REASON_BYTES];
+            assert_eq!(reason(number, 18, 5, &mut text[..room]), expected.len(), "{number}");
+            let written = if room < expected.len() { 0 } else { expected.len() };
+            assert_eq!(text[..written], expected.as_bytes()[..written], "{number}");
+            assert!(text[written..].iter().all(|&b| b == b'#'), "{number}");
+        }
+        assert!(reason(number, u64::MAX, u64::MAX, &mut []) <= REASON_BYTES, "{number}");
+    }
+}
+
+#[test]
+fn a_number_past_the_table_has_no_words() {
+    for number in [23, 24, 255, 256, u32::MAX] {
+        let mut text = [b'#'; REASON_BYTES];
+        assert_eq!(reason(number, 18, 5, &mut text), 0, "{number}");
+        assert_eq!(text, [b'#'; REASON_BYTES], "{number}");
+    }
+}
+
+#[test]
 fn tallies() {
     let mut tally = Tally::default();
     assert_eq!(gain(&mut tally, 0, 6, 2), 0);
@@ -266,6 +362,9 @@ fn half_a_megabyte_of_stack_is_enough() {
         assert_eq!(mark_paper(&paper, &mut log).number, 0);
         let mut text = [0; LINES_BYTES];
         assert_eq!(mark_lines(&paper, &mut log, &mut text).number, 0);
+        let mut text = vec![0; log_lines(&paper, &mut log, &mut []).size];
+        assert_eq!(log_lines(&paper, &mut log, &mut text).number, 0);
+        assert!(text.ends_with(b"accepted\n"));
     };
     // 512 KiB for the callee, 32 for the thread itself
     std::thread::Builder::new().stack_size((512 + 32) * 1024).spawn(run).unwrap().join().unwrap();

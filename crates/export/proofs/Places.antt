@@ -1,12 +1,14 @@
 -- Stores into lent places.
+use mathlib.Core.Bool.{Bool, true, false}
 use mathlib.Core.List.{List, [], _∷_, _++_}
 use mathlib.Core.Path.{_≡_, refl, ap, _∙_}
 use Prim.Native.Nat.{ℕ, suc, _+_, _≤_, _<_}
 use native.Mathlib.Omega.{arith}
-use borrow.Author.Tests.{lt-ltb, le-ltb}
+use borrow.Author.Tests.{lt-ltb, le-ltb, leb-true, leb-false}
+use lib.Dec.{leb}
 use lib.ListN.{length, take, drop, set}
 use lib.Seq.{take-at}
-use Rattle.definition.specs.Basics.{Bytes}
+use Rattle.definition.specs.Basics.{Bytes, pick}
 use Rattle.text.specs.View.{Written}
 use Rattle.lines.specs.View.{linesIn}
 use Rattle.lines.specs.declared.Lines.{Lines}
@@ -41,6 +43,25 @@ unfolding written
 text-written t out new next h w =
     let e : 0 + length t ≡ length t = omega arith in
     rw (le-ltb (length out) (length t) h) (w .holds ∙ ap (λ k. t ++ drop k out) e)
+
+-- a text written where there is room for it, by the other test
+pub where-room : (t out new : Bytes) → new ≡ pick (leb (length t) (length out)) (t ++ drop (length t) out) out → new ≡ written t out
+unfolding written
+where-room t out new e = e ∙ by (leb (length t) (length out)) refl
+  where
+    by : (b : Bool) → leb (length t) (length out) ≡ b → pick (leb (length t) (length out)) (t ++ drop (length t) out) out ≡ written t out
+    by true h = rw (h, le-ltb (length out) (length t) (leb-true (length t) (length out) h))
+    by false h = rw (h, lt-ltb (length out) (length t) (leb-false (length t) (length out) h))
+
+-- a text written at the start of an array: its size, and the part that holds it
+module _ (zeros t new : Bytes) (n : ℕ) (w : Written zeros 0 t new n) where
+  pub first-size : n ≡ length t
+  first-size = omega (arith, w .ends)
+
+  pub first-text : take n new ≡ t
+  first-text =
+      let e : length t ≡ n = omega (arith, w .ends) in
+      ap (λ (l : Bytes). take n l) (w .holds) ∙ take-at t (drop (0 + length t) zeros) n e
 
 -- the text that the lines hold, its size, and the number beside it
 module _ (l : Lines) (number : ℕ) (t : Bytes) (e : l ≡ linesIn number t) where

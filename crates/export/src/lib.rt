@@ -10,7 +10,9 @@ ghost use Rattle.definition.specs.Stacks.{builtIn};
 ghost use Rattle.definition.specs.Walk.{analysis};
 ghost use Rattle.definition.specs.Walk as Walk;
 ghost use Rattle.limits.specs.View.{answerOf};
+ghost use Rattle.log_text.specs.LogText.{logText};
 ghost use Rattle.paper.specs.View.{paperOf};
+ghost use Rattle.reasons.specs.Reasons.{reason};
 ghost use Rattle.tally.specs.View.{tallyOf, Gives};
 ghost use Rattle.export.specs.View.{flag, written, verdictNumbers, endNumbers, answerNumbers, paperNumbers, displayStart, partNumbers, tallyFrom, tallyNumbers};
 ghost use Rattle.export.specs.Parts.{summaryNumbers, structNumbers};
@@ -381,6 +383,64 @@ pub extern "C" fn listochur_mark_lines(
     let number = l.number;
     write_text(&bytes[..size], text);
     write_size(size, out);
+    number
+}
+
+// What `stacklog` prints of a paper, in `text` where it has room: the verdict's number, the size of the text in `out`, and the
+// rows of all fragments in `log`.
+#[no_mangle]
+pub extern "C" fn listochur_log_lines(
+    paper: &[u8],
+    log: &mut [u16],
+    text: &mut [u8],
+    out: &mut [u64],
+) -> u32
+    ensures number { λ r.
+        ⌜
+        r
+        ≡ markPaper builtIn (now (paper .entry)) (now (log .entry)) .paper .verdict .answer .number
+        ⌝ }
+    ensures logged { λ r.
+        ⌜ now (log .exit) ≡ markPaper builtIn (now (paper .entry)) (now (log .entry)) .log ⌝ }
+    ensures printed { λ r.
+        ⌜
+        now (text .exit)
+        ≡ written (logText (now (paper .entry)) (now (log .entry))) (now (text .entry))
+        ⌝ }
+    ensures written { λ r.
+        ⌜
+        now (out .exit)
+        ≡ written
+        (length (logText (now (paper .entry)) (now (log .entry))) ∷ [])
+        (now (out .entry))
+        ⌝ }
+{
+    let l = log_text::write_log(paper, log, text);
+    write_size(l.size, out);
+    l.number
+}
+
+// A verdict's number and figures in words, in `text` where it has room: the number, and the size of the words in `out`. A number
+// past document 01's has no words.
+#[no_mangle]
+pub extern "C" fn listochur_reason(
+    number: u32,
+    first: u64,
+    second: u64,
+    text: &mut [u8],
+    out: &mut [u64],
+) -> u32
+    ensures number { λ r. ⌜ r ≡ number ⌝ }
+    ensures printed { λ r.
+        ⌜ now (text .exit) ≡ written (reason number first second) (now (text .entry)) ⌝ }
+    ensures written { λ r.
+        ⌜ now (out .exit) ≡ written (length (reason number first second) ∷ []) (now (out .entry)) ⌝ }
+    ensures short { λ r. ⌜ length (reason number first second) ≤ 80 ⌝ }
+{
+    let mut words = [0u8; 80];
+    let n = reasons::write_reason(&mut words, 0, number, first, second);
+    write_text(&words[..n], text);
+    write_size(n, out);
     number
 }
 

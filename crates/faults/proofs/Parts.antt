@@ -1,15 +1,15 @@
 -- Laws of the parts, one after another, and of the whole header.
 use mathlib.Core.Bool.{Bool, true, false}
-use mathlib.Core.List.{List, [], _∷_}
+use mathlib.Core.List.{[], _∷_}
 use mathlib.Core.Option.{Option, none, some}
-use mathlib.Core.Path.{_≡_, refl, sym, ap, _∙_}
-use Prim.Native.Nat.{ℕ, zero, suc, _+_, _-_, _*_, _≤_, _<_}
+use mathlib.Core.Path.{_≡_, sym, ap, _∙_}
+use Prim.Native.Nat.{ℕ, suc, _+_, _-_, _*_, _≤_, _<_}
 use native.Mathlib.Omega.{arith}
 use borrow.Author.Tests.{lt-ltb, le-ltb, eq-eqb, ne-eqb}
 use lib.Dec.{ltb}
 use lib.ListN.{length}
 use Rattle.definition.specs.Basics.{Bytes, pick}
-use Rattle.definition.specs.Papers.{Part, field, partAt, share, entryCount, initialiser, bodies, entries}
+use Rattle.definition.specs.Papers.{field, partAt, share, entryCount, initialiser, bodies, entries}
 use Rattle.header.specs.View.{partsAt}
 use Rattle.header.proofs.Headers.{parts-are}
 use Rattle.faults.specs.Faults.{Fault, shortPaper, badCount, cutHeader, inHeader, pastPaper, sharing, orElse, sharedWith, placed, partFault, fault}

@@ -1,6 +1,5 @@
 -- Laws of the words of a fault.
 use mathlib.Core.List.{[]}
-use mathlib.Core.Option.{none}
 use mathlib.Core.Path.{_≡_, sym, ap}
 use Prim.Native.Nat.{ℕ, zero, suc, _+_, _-_}
 use native.Mathlib.Omega.{arith}

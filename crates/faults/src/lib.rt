@@ -1,5 +1,4 @@
 // What is wrong with the header of a paper, found and put into words: what stands behind verdict number 19.
-ghost use mathlib.Core.List.{_++_};
 ghost use mathlib.Core.Option.{none, some};
 ghost use mathlib.Core.Path.{_≡_};
 ghost use Prim.Native.Nat.{ℕ, _+_, _*_, _≤_, _<_};

@@ -1,6 +1,4 @@
 // Reading standard input. No contract can speak of what is read: a read that fails is told apart from the end of the input.
-ghost use Prim.Native.Nat.{_≤_};
-ghost use lib.ListN.{length};
 ghost use Rattle.io.specs.Counts.{Counts};
 
 // Whether a read failed, and how many bytes were read where none did.

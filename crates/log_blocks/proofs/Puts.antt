@@ -1,13 +1,13 @@
 -- Laws of texts put into lent bytes: one behind another, and a line from where it was written.
 use mathlib.Core.Bool.{Bool, true, false}
-use mathlib.Core.List.{List, [], _++_}
+use mathlib.Core.List.{[], _++_}
 use mathlib.Core.Path.{_≡_, refl, sym, ap, subst, _∙_}
-use Prim.Native.Nat.{ℕ, _+_, _≤_, _<_}
+use Prim.Native.Nat.{ℕ, _+_, _<_}
 use native.Mathlib.Omega.{arith}
 use lib.ListN.{length, take, drop, length-append}
 use lib.Seq.{take-at, paste-zero}
 use Rattle.definition.specs.Basics.{Bytes}
-use Rattle.text.specs.View.{placed, Written}
+use Rattle.text.specs.View.{Written}
 use Rattle.text.proofs.Texts.{then-written}
 use Rattle.log_blocks.specs.View.{Put}
 

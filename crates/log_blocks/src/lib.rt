@@ -1,10 +1,9 @@
-// What `stacklog` prints of a fragment, put into lent bytes: counted, and written where it is to be written. A text is put from
-// an index on; the answer is the index after it.
-ghost use mathlib.Core.Path.{_≡_};
+// What `stacklog` prints of a fragment, put into lent bytes: counted, and written where `go` says so and there is room. A text
+// is put from an index on; the answer is the index after it. A line has at most 256 bytes, and indices stay at most
+// 1,099,511,627,776, so that no sum wraps.
 ghost use Prim.Native.Nat.{_+_, _*_, _≤_, _<_};
 ghost use lib.ListN.{length};
-ghost use Rattle.header.specs.View.{fragmentAt};
-ghost use Rattle.log_rows.specs.Rows.{mainAt, altAt, totalOf, greatest, scaleOf, heading, row, rowsFrom, rows};
+ghost use Rattle.log_rows.specs.Rows.{mainAt, altAt, totalOf, greatest, heading, row, rowsFrom, rows};
 ghost use Rattle.log_lines.specs.Log.{start, verdictLine};
 ghost use Rattle.log_blocks.specs.Blocks.{block};
 ghost use Rattle.log_blocks.specs.View.{Put};

@@ -1,16 +1,15 @@
 -- Laws of the arms of a conditional: the row where the other arm ends, and its heights.
 use mathlib.Core.Bool.{Bool, true, false, _&&_, _||_}
-use mathlib.Core.List.{List, _++_, append-assoc}
+use mathlib.Core.List.{List, _++_}
 use mathlib.Core.Path.{_≡_, refl, sym, ap, _∙_}
-use Prim.Native.Nat.{ℕ, zero, suc, _+_, _-_, _≤_, _<_}
+use Prim.Native.Nat.{ℕ, suc, _+_, _-_, _≤_, _<_}
 use native.Mathlib.Omega.{arith}
 use borrow.Author.Tests.{eq-eqb, ne-eqb}
 use lib.Dec.{eqb}
-use lib.ListN.{length}
 use Rattle.definition.specs.Basics.{Bytes, pick}
 use Rattle.definition.specs.Lines.{labelled}
 use Rattle.text.specs.View.{Written}
-use Rattle.text.proofs.Texts.{written-as, then-written}
+use Rattle.text.proofs.Texts.{written-as}
 use Rattle.log_rows.specs.Rows.{mainAt, altAt, opcodeAt, isIf, isElse, isEndif}
 use Rattle.log_lines.specs.Log.{opener, otherMain, arms}
 

@@ -1,9 +1,8 @@
 -- Laws of the lines around the rows of a fragment: the places where a text is chosen.
 use mathlib.Core.Bool.{Bool, true, false}
 use mathlib.Core.List.{[], _++_, append-nil, append-assoc}
-use mathlib.Core.Path.{_≡_, refl, sym, ap, _∙_}
+use mathlib.Core.Path.{_≡_, sym, ap, _∙_}
 use Prim.Native.Nat.{ℕ, _+_, _≤_}
-use native.Mathlib.Omega.{arith}
 use lib.ListN.{length}
 use Rattle.definition.specs.Basics.{Bytes}
 use Rattle.definition.specs.Lines.{text, labelled}

@@ -1,13 +1,12 @@
 // The lines that `stacklog` prints around the rows, each written into lent bytes, and the function that does it says which
 // line it is. A text is written from an index on; the answer is the index after it. Each line is of at most 256 bytes, and is
 // written from the start on.
-ghost use mathlib.Core.List.{[], _++_};
+ghost use mathlib.Core.List.{[]};
 ghost use mathlib.Core.Path.{_≡_};
-ghost use Prim.Native.Nat.{_+_, _-_, _*_, _≤_, _<_};
+ghost use Prim.Native.Nat.{_+_, _-_, _*_, _≤_};
 ghost use lib.ListN.{length};
 ghost use Rattle.definition.specs.Lines.{text};
 ghost use Rattle.text.specs.View.{Written};
-ghost use Rattle.log_rows.specs.Rows.{mainAt, altAt, isIf};
 ghost use Rattle.log_lines.specs.Log.{startLine, start, ending, acceptedLine, refusal, refusalLine, headerLine, dispatchLine, malformedLine};
 ghost use Rattle.log_lines.specs.Log.{opener, otherMain, arms, verdictLine};
 

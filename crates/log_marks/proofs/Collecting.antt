@@ -1,10 +1,9 @@
 -- Laws of what is told of the fragments, one after another.
-use mathlib.Core.Bool.{Bool, true, false}
 use mathlib.Core.List.{List, [], _∷_, _++_, append-assoc, append-nil}
 use mathlib.Core.Path.{_≡_, refl, sym, ap, subst, _∙_}
-use Prim.Native.Nat.{ℕ, zero, suc, _+_, _-_, _*_, _≤_, _<_, max}
+use Prim.Native.Nat.{ℕ, suc, _+_, _-_, _*_, _≤_, _<_, max}
 use native.Mathlib.Omega.{arith}
-use lib.ListN.{length, take, drop, set, replicate, length-set, length-replicate, drop-of-length-le}
+use lib.ListN.{length, take, drop, set, replicate, length-set, drop-of-length-le}
 use lib.Seq.{take-suc-set}
 use Rattle.definition.specs.Basics.{Bytes}
 use Rattle.definition.specs.Papers.{fragments, PaperMarked, markFrom}
@@ -20,9 +19,8 @@ use Rattle.paper.specs.View.{fragmentAnalysis}
 use Rattle.paper.specs.Parts.{Marks}
 use Rattle.paper.proofs.Markings.{Marking, marking-none, marking-more, onto, told}
 use Rattle.log_lines.specs.declared.Told.{Told}
-use Rattle.log_lines.specs.Log.{toldOf, endMain, endAlt}
+use Rattle.log_lines.specs.Log.{toldOf}
 use Rattle.log_lines.specs.Log as L
-use Rattle.log_marks.specs.declared.Marked.{Marked}
 use Rattle.log_marks.specs.Marks.{allTold, rowsOf, refusedTold}
 use Rattle.log_marks.specs.View.{numbersOf, Holds}
 use Rattle.log_marks.proofs.Few.{analysis-few}

@@ -12,7 +12,6 @@ use Rattle.definition.specs.Basics.{Bytes}
 use Rattle.definition.specs.Decoding.{Instruction, decode, instructions, malformedAt}
 use Rattle.definition.specs.Stacks.{Rules, Stacks}
 use Rattle.definition.specs.Walk.{Item, begin, unknowns, tested, analysisOf, analysis}
-use Rattle.decode.specs.View.{codeAt}
 use Rattle.decode.proofs.Codes.{code-start, code-length}
 use Rattle.paper.proofs.Fragments.{rows-walk}
 

@@ -1,8 +1,8 @@
 -- Laws of a whole marked paper.
 use mathlib.Core.Bool.{Bool, true, false, not}
-use mathlib.Core.List.{List, []}
+use mathlib.Core.List.{List}
 use mathlib.Core.Path.{_≡_, refl, sym, ap, subst, _∙_}
-use Prim.Native.Nat.{ℕ, _+_, _*_, _≤_, _<_}
+use Prim.Native.Nat.{ℕ, _≤_, _<_}
 use native.Mathlib.Omega.{arith}
 use borrow.Author.Tests.{lt-ltb, le-ltb, not-true, not-false}
 use lib.ListN.{length, take}

@@ -23,7 +23,8 @@ numbersOf v = record {
   alt = v .alt;
 }
 
--- the struct holds what is told of a marked paper, and the log is its log; there are few rows, and the log has them all
+-- The struct holds what is told of a marked paper, and the log is its log. There are at most 33 fragments of at most 10,000 rows,
+-- and the log has all the rows.
 pub record Holds (m : PaperMarked) (r : Marked) (log : List ℕ) : Type 0 where
   pub logged : log ≡ m .log
   pub accepted : take (r .count) (r .told) ≡ allTold (m .verdicts)

@@ -1,18 +1,18 @@
 -- Laws of the rows: what a bar stands for, how far an instruction stands to the right, the line of a row.
+use mathlib.Core.Bool.{Bool, true, false}
 use mathlib.Core.List.{List, _++_}
-use mathlib.Core.Logic.{_↔_}
-use mathlib.Core.Path.{_≡_, refl, sym, ap, _∙_}
-use Prim.Native.Nat.{ℕ, zero, suc, _+_, _-_, _*_, _/_, _≤_, _<_, min, max}
+use mathlib.Core.Path.{_≡_, sym, ap, _∙_}
+use Prim.Native.Nat.{ℕ, suc, _+_, _-_, _*_, _/_, _≤_, _<_, min, max}
 use native.Mathlib.Nat.{div-lt-iff-lt-mul}
 use native.Mathlib.Omega.{arith}
 use borrow.Author.Tests.{eq-eqb, ne-eqb}
 use lib.ListN.{length, getD, replicate, length-append}
-use Rattle.definition.specs.Basics.{Bytes}
+use Rattle.definition.specs.Basics.{Bytes, pick}
 use Rattle.definition.specs.Lines.{text, decimal, labelled}
 use Rattle.definition.specs.Papers.{display}
 use Rattle.text.specs.View.{Written}
 use Rattle.text.proofs.Texts.{written-as, then-written, decimal-length}
-use Rattle.log_rows.specs.Rows.{opcodeAt, offsetAt, mainAt, altAt, totalOf, greatest, scaleOf, filled, depthAfter, indent, heading, rowLine, row}
+use Rattle.log_rows.specs.Rows.{opcodeAt, offsetAt, mainAt, altAt, totalOf, greatest, scaleOf, filled, isIf, isEndif, depthAfter, indent, heading, rowLine, row}
 
 -- a bar has 16 places
 
@@ -61,27 +61,26 @@ module _ (peak : ℕ) (log : List ℕ) (from count : ℕ) where
 -- conditionals
 
 module _ (opcode depth : ℕ) where
-  pub depth-if : opcode ≡ 0x63 → depth + 1 ≡ depthAfter opcode depth
-  unfolding depthAfter
-  depth-if e = rw (eq-eqb opcode 0x63 e)
-
   pub right-else : (less : ℕ) → opcode ≡ 0x67 → less ≡ depth - 1 → min 24 less ≡ indent opcode depth
   unfolding indent
   right-else less e l = rw (eq-eqb opcode 0x67 e, l)
 
-  module _ (no : opcode ≡ 0x63 → ⊥) where
-    pub depth-notif : opcode ≡ 0x64 → depth + 1 ≡ depthAfter opcode depth
+  module _ (t : Bool) (q : t ≡ isIf opcode) where
+    pub depth-if : t ≡ true → depth + 1 ≡ depthAfter opcode depth
     unfolding depthAfter
-    depth-notif e = rw (ne-eqb opcode 0x63 no, eq-eqb opcode 0x64 e)
+    depth-if e = ap (λ b. pick b (depth + 1) (pick (isEndif opcode) (depth - 1) depth)) (sym e ∙ q)
 
-    module _ (no′ : opcode ≡ 0x64 → ⊥) where
-      pub depth-endif : opcode ≡ 0x68 → depth - 1 ≡ depthAfter opcode depth
-      unfolding depthAfter
-      depth-endif e = rw (ne-eqb opcode 0x63 no, ne-eqb opcode 0x64 no′, eq-eqb opcode 0x68 e)
+    pub depth-endif : t ≡ false → opcode ≡ 0x68 → depth - 1 ≡ depthAfter opcode depth
+    unfolding depthAfter
+    depth-endif e h =
+        ap (λ b. pick b (depth - 1) depth) (sym (eq-eqb opcode 0x68 h))
+        ∙ ap (λ b. pick b (depth + 1) (pick (isEndif opcode) (depth - 1) depth)) (sym e ∙ q)
 
-      pub depth-same : (opcode ≡ 0x68 → ⊥) → depth ≡ depthAfter opcode depth
-      unfolding depthAfter
-      depth-same e = rw (ne-eqb opcode 0x63 no, ne-eqb opcode 0x64 no′, ne-eqb opcode 0x68 e)
+    pub depth-same : t ≡ false → (opcode ≡ 0x68 → ⊥) → depth ≡ depthAfter opcode depth
+    unfolding depthAfter
+    depth-same e h =
+        ap (λ b. pick b (depth - 1) depth) (sym (ne-eqb opcode 0x68 h))
+        ∙ ap (λ b. pick b (depth + 1) (pick (isEndif opcode) (depth - 1) depth)) (sym e ∙ q)
 
   module _ (no : opcode ≡ 0x67 → ⊥) where
     pub right-endif : (less : ℕ) → opcode ≡ 0x68 → less ≡ depth - 1 → min 24 less ≡ indent opcode depth

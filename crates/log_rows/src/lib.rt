@@ -6,7 +6,7 @@ ghost use Prim.Native.Nat.{_+_, _-_, _*_, _≤_, _<_, min, max};
 ghost use lib.ListN.{length, take, getD, replicate};
 ghost use Rattle.definition.specs.Lines.{decimal};
 ghost use Rattle.text.specs.View.{Written};
-ghost use Rattle.log_rows.specs.Rows.{mainAt, altAt, opcodeAt, totalOf, greatest, scaleOf, column, filled, bar, hex, instruction};
+ghost use Rattle.log_rows.specs.Rows.{mainAt, altAt, opcodeAt, totalOf, scaleOf, column, filled, bar, hex, instruction};
 ghost use Rattle.log_rows.specs.Rows.{deadHeights, liveHeights, heights, isIf, depthAfter, indent, heading, rowLine, row};
 
 // A byte so many times.
@@ -193,16 +193,23 @@ fn write_row_line(
     text::write_word(out, d, b"\n")
 }
 
+// Whether an opcode is IF or NOTIF.
+pub fn is_if(opcode: u8) -> bool
+    ensures { λ r. ⌜ r ≡ isIf opcode ⌝ }
+{
+    if opcode == 0x63 {
+        return true;
+    }
+    opcode == 0x64
+}
+
 // How many conditionals are open behind an instruction.
 pub fn depth_after(opcode: u8, depth: usize) -> usize
     requires { ⌜ depth < 4294967296 ⌝ }
     ensures same { λ r. ⌜ r ≡ depthAfter opcode depth ⌝ }
     ensures near { λ r. ⌜ r ≤ depth + 1 ⌝ }
 {
-    if opcode == 0x63 {
-        return depth + 1;
-    }
-    if opcode == 0x64 {
+    if is_if(opcode) {
         return depth + 1;
     }
     if opcode == 0x68 {
@@ -263,26 +270,18 @@ pub fn opcode_at(fragment: &[u8], log: &[u16], j: usize) -> u8
 // The heights of row j of the log.
 pub fn main_at(log: &[u16], j: usize) -> u32
     requires { ⌜ 3 * j + 3 ≤ length (now log) ⌝ }
-    ensures { λ r. ⌜ r ≡ mainAt (now (log .entry)) j ⌝ }
+    ensures same { λ r. ⌜ r ≡ mainAt (now (log .entry)) j ⌝ }
+    ensures low { λ r. ⌜ r ≤ 65535 ⌝ }
 {
     wide(log[3 * j + 1])
 }
 
 pub fn alt_at(log: &[u16], j: usize) -> u32
     requires { ⌜ 3 * j + 3 ≤ length (now log) ⌝ }
-    ensures { λ r. ⌜ r ≡ altAt (now (log .entry)) j ⌝ }
+    ensures same { λ r. ⌜ r ≡ altAt (now (log .entry)) j ⌝ }
+    ensures low { λ r. ⌜ r ≤ 65535 ⌝ }
 {
     wide(log[3 * j + 2])
-}
-
-// Whether an opcode is IF or NOTIF.
-pub fn is_if(opcode: u8) -> bool
-    ensures { λ r. ⌜ r ≡ isIf opcode ⌝ }
-{
-    if opcode == 0x63 {
-        return true;
-    }
-    opcode == 0x64
 }
 
 // The line of row j of the log.
@@ -308,8 +307,8 @@ pub fn write_row(
     ensures short { λ r. ⌜ r ≤ 81 ⌝ }
 {
     let offset = wide(log[3 * j]);
-    let main = wide(log[3 * j + 1]);
-    let alt = wide(log[3 * j + 2]);
+    let main = main_at(log, j);
+    let alt = alt_at(log, j);
     let right = indent(byte_at(fragment, offset as usize), depth);
     let bytes = display::display(fragment, fragment, offset as usize, 0);
     write_row_line(out, scale, offset, main, alt, right, bytes)
@@ -356,8 +355,8 @@ pub fn scale_of(peak: u32, log: &[u16], from: usize, count: usize) -> u32
     let mut j = 0;
     while j < count {
         let row = from + j;
-        let main = wide(log[3 * row + 1]);
-        let alt = wide(log[3 * row + 2]);
+        let main = main_at(log, row);
+        let alt = alt_at(log, row);
         scale = larger(scale, total(main, alt));
         j += 1;
     }

@@ -1,4 +1,4 @@
--- What `stacklog` prints, by example: the paper of LogText, and a header of seven bytes.
+-- What `stacklog` prints, by example: the paper of LogText, a paper of three fragments, and a header of seven bytes.
 use mathlib.Core.List.{[], _∷_, _++_}
 use mathlib.Core.Path.{_≡_, refl}
 use lib.ListN.{replicate}
@@ -12,7 +12,7 @@ use Rattle.definition.specs.Lines.{text, decimal, refusedLine, lastLine}
 use Rattle.faults.specs.Faults.{fault, faultWords}
 use Rattle.reasons.specs.Reasons.{reason}
 use Rattle.log_rows.specs.Rows.{totalOf, column, bar, liveHeights, instruction, depthAfter, indent, heading, rowLine, row, rows}
-use Rattle.log_lines.specs.Log.{startLine, start, acceptedLine, refusal, refusalLine, headerLine, dispatchLine, malformedLine, opener, otherMain, arms, toldOf, verdictLine}
+use Rattle.log_lines.specs.Log.{startLine, start, acceptedLine, refusal, refusalLine, headerLine, malformedLine, opener, otherMain, arms, toldOf, verdictLine}
 use Rattle.log_blocks.specs.Blocks.{block}
 use Rattle.log_marks.specs.Marks.{refusedTold}
 use Rattle.log_text.specs.LogText.{refused, logText}
@@ -36,6 +36,38 @@ pub armsDifferLogged : logText armsDiffer (replicate 18 0)
     ++ text "refused 12 at 0 4 0 0\n"
 unfolding armsDiffer logText refused block refusedTold toldOf verdictLine startLine start acceptedLine refusal refusalLine malformedLine opener otherMain arms rows row rowLine heading indent depthAfter instruction liveHeights bar column totalOf reason display lastLine refusedLine decimal goodHeader fragments markFrom dispatch markPaper analysis analysisOf walk logRow joinStacks step plainStep pushItem dropItems copyItems rotateItems tuckTop nipSecond moveToAlt moveFromAlt classOf classNumber decode front serialize deserialize
 armsDifferLogged = refl
+
+-- a dead arm, an entry that has no rows, and the initialiser: entries of 1 parameter and none, 1 state field
+unfoldable pub threeFragments : Bytes
+threeFragments =
+    0x02 ∷ 0x00 ∷ 0x01 ∷ 0x00 ∷ 0x1b ∷ 0x00 ∷ 0x01 ∷ 0x00 ∷
+    0x01 ∷ 0x00 ∷ 0x14 ∷ 0x00 ∷ 0x07 ∷ 0x00 ∷
+    0x00 ∷ 0x00 ∷ 0x1b ∷ 0x00 ∷ 0x00 ∷ 0x00 ∷
+    0x63 ∷ 0x51 ∷ 0x67 ∷ 0x6a ∷ 0x52 ∷ 0x68 ∷ 0x75 ∷ 0x6c ∷ []
+
+pub threeFragmentsLogged : logText threeFragments (replicate 24 0)
+    ≡ text "entry 0: length 7, from main 2 alt 0\n"
+    ++ text "offset main  alt total |of 8            | bytes\n"
+    ++ text "     0    2    0     2 |####............| 63\n"
+    ++ text "     1    1    0     1 |##..............|  51\n"
+    ++ text "     2    2    0     2 |####............| 67\n"
+    ++ text "     3    1    0     1 |##..............|  6a\n"
+    ++ text "     4 dead dead       |                |  52\n"
+    ++ text "     5 dead dead       |                | 68\n"
+    ++ text "     6    2    0     2 |####............| 75\n"
+    ++ text "accepted: peak 2, end main 1 alt 0\n"
+    ++ text "\n"
+    ++ text "entry 1: length 0, from main 1 alt 0\n"
+    ++ text "accepted: peak 1, end main 1 alt 0\n"
+    ++ text "\n"
+    ++ text "state: length 1, from main 1 alt 1\n"
+    ++ text "offset main  alt total |of 8            | bytes\n"
+    ++ text "     0    1    1     2 |####............| 6c\n"
+    ++ text "accepted: peak 2, end main 2 alt 0\n"
+    ++ text "\n"
+    ++ text "accepted\n"
+unfolding threeFragments logText refused block refusedTold toldOf verdictLine startLine start acceptedLine refusal refusalLine malformedLine opener otherMain arms rows row rowLine heading indent depthAfter instruction liveHeights bar column totalOf reason display lastLine refusedLine decimal goodHeader fragments markFrom dispatch markPaper analysis analysisOf walk logRow joinStacks step plainStep pushItem dropItems copyItems rotateItems tuckTop nipSecond moveToAlt moveFromAlt classOf classNumber decode front serialize deserialize
+threeFragmentsLogged = refl
 
 -- a header that is cut
 pub sevenBytesLogged : logText (replicate 7 0) [] ≡ text "refused 19, header: 7 bytes, fewer than 8\n\nrefused 19 at 0 0 0 0\n"

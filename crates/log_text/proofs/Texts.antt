@@ -1,13 +1,13 @@
 -- Laws of the whole text: what was refused, and all of a marked paper.
 use mathlib.Core.Bool.{Bool, true, false}
 use mathlib.Core.List.{List, [], _++_, append-nil, append-assoc}
-use mathlib.Core.Path.{_≡_, refl, sym, ap, subst, _∙_}
+use mathlib.Core.Path.{_≡_, refl, sym, ap, _∙_}
 use Prim.Native.Nat.{ℕ, _+_, _*_, _≤_, _<_}
 use native.Mathlib.Omega.{arith}
 use borrow.Author.Tests.{eq-eqb, ne-eqb, eqb-true, eqb-false, le-leb, lt-leb}
 use lib.Dec.{eqb}
 use lib.ListN.{length, take, drop}
-use Rattle.definition.specs.Basics.{Bytes, pick}
+use Rattle.definition.specs.Basics.{Bytes}
 use Rattle.definition.specs.Lines.{text, lastLine, refusedLine}
 use Rattle.definition.specs.Papers.{PaperMarked, markPaper}
 use Rattle.definition.specs.Papers as P
@@ -23,7 +23,6 @@ use Rattle.log_marks.specs.Marks.{allTold, rowsOf, refusedTold}
 use Rattle.log_marks.specs.View.{Holds}
 use Rattle.log_text.specs.LogText.{blocks, refused, logOf, logText}
 use Rattle.log_text.specs.View.{lastBy, logBy, Logs}
-use Rattle.log_text.specs.declared.LogText.{LogText}
 
 -- What was refused
 

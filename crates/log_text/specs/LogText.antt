@@ -31,7 +31,7 @@ blocks paper log k from [] = []
 blocks paper log k from (t ∷ ts) = block paper log k from t ++ text "\n" ++ blocks paper log (k + 1) (from + t .rows) ts
 
 -- What was refused, with what is told of it: the header (19), an entry by the dispatch check (20), a paper that is too long (21),
--- or else a fragment.
+-- or else the fragment of this number, whose first row is row `from`.
 unfoldable pub refused : Bytes → List ℕ → ℕ → ℕ → Told → Bytes
 refused paper log entry from t =
     pick (eqb (t .number) 19) (headerLine paper)
@@ -39,7 +39,7 @@ refused paper log entry from t =
     (pick (eqb (t .number) 21) (refusalLine [] 21 (t .first) (t .second) [])
     (block paper log entry from t)))
 
--- a marked paper: the fragments accepted, what was refused, if something was, and an empty line, and the last line
+-- a marked paper: the fragments accepted; where something was refused, that and an empty line; the last line
 abbrev pub logOf : Bytes → PaperMarked → Bytes
 logOf paper m =
     blocks paper (m .log) 0 0 (allTold (m .verdicts))

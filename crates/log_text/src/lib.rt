@@ -1,7 +1,7 @@
 // All that `stacklog` prints of a paper, written into lent bytes.
-ghost use mathlib.Core.List.{List, []};
+ghost use mathlib.Core.List.{[]};
 ghost use mathlib.Core.Path.{_≡_};
-ghost use Prim.Native.Nat.{ℕ, _+_, _*_, _≤_, _<_};
+ghost use Prim.Native.Nat.{_+_, _*_, _≤_, _<_};
 ghost use lib.ListN.{length, take};
 ghost use Rattle.log_lines.specs.Log.{refusalLine, headerLine, dispatchLine};
 ghost use Rattle.log_blocks.specs.View.{Put};

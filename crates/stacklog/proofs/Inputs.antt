@@ -1,12 +1,12 @@
 -- An input cut at 8,001 bytes, and one that is not.
 use mathlib.Core.List.{List, _++_}
-use mathlib.Core.Path.{_≡_, ap, sym, subst, _∙_}
+use mathlib.Core.Path.{_≡_, sym, subst}
 use Prim.Native.Nat.{ℕ, _≤_}
 use lib.Dec.{leb}
 use lib.ListN.{length, take, drop, replicate}
 use lib.Seq.{take-all}
 use Rattle.definition.specs.Basics.{Bytes, pick}
-use Rattle.log_text.specs.LogText.{logText, stacklog}
+use Rattle.log_text.specs.LogText.{stacklog}
 use Rattle.log_text.specs.View.{Logs}
 use Rattle.log_text.specs.declared.LogText.{LogText}
 

@@ -2,7 +2,6 @@ use Rattle.input.proofs.Sizes.{counts}
 use mathlib.Core.Path.{_≡_}
 use Prim.Native.Nat.{_-_, _≤_}
 use lib.ListN.{length}
-use native.Mathlib.Omega.{arith}
 use borrow.Author.Needs.{needs}
 use Rattle.input.proofs.read_input.Statement.{statement}
 use Rattle.input.proofs.read_input.Tie as tie

@@ -1,9 +1,8 @@
 use native.Mathlib.Omega.{arith}
 use Rattle.log_blocks.proofs.Puts.{put-as, then-put}
-use mathlib.Core.Path.{ap, _∙_}
+use mathlib.Core.Path.{ap}
 use mathlib.Core.List.{_++_}
 use Rattle.definition.specs.Basics.{Bytes}
-use Rattle.header.specs.View.{fragmentAt}
 use Rattle.log_rows.specs.Rows.{rows}
 use Rattle.log_lines.specs.Log.{start, verdictLine}
 use Rattle.log_blocks.specs.Blocks.{block}

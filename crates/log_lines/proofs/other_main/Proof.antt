@@ -20,7 +20,7 @@ returns c =
     let o = t .before in
     let m = o .before in
     let s = m .before .before .before in
-    main-none (s .args .fragment .now) (s .args .log .now) (s .args .row) (o .opcode-at .result) (m .main-at .result) (o .opcode-at .ensures) (m .main-at .ensures) (t .is-if .result) (t .is-if .ensures) (i .if1 .taken) (j .if2 .taken)
+    main-none (s .args .fragment .now) (s .args .log .now) (s .args .row) (o .opcode-at .result) (m .main-at .result) (o .opcode-at .ensures) (m .main-at .ensures .0) (t .is-if .result) (t .is-if .ensures) (i .if1 .taken) (j .if2 .taken)
 
 sub-result : tie.Need-sub-result
 sub-result c = search needs
@@ -32,7 +32,7 @@ returns-2 c =
     let o = t .before in
     let m = o .before in
     let s = m .before .before .before in
-    main-less (s .args .fragment .now) (s .args .log .now) (s .args .row) (o .opcode-at .result) (m .main-at .result) (o .opcode-at .ensures) (m .main-at .ensures) (t .is-if .result) (t .is-if .ensures) (i .if1 .taken)
+    main-less (s .args .fragment .now) (s .args .log .now) (s .args .row) (o .opcode-at .result) (m .main-at .result) (o .opcode-at .ensures) (m .main-at .ensures .0) (t .is-if .result) (t .is-if .ensures) (i .if1 .taken)
 
 returns-3 : tie.Need-returns-3
 returns-3 c =
@@ -41,7 +41,7 @@ returns-3 c =
     let o = t .before in
     let m = o .before in
     let s = m .before .before .before in
-    main-same (s .args .fragment .now) (s .args .log .now) (s .args .row) (o .opcode-at .result) (m .main-at .result) (o .opcode-at .ensures) (m .main-at .ensures) (t .is-if .result) (t .is-if .ensures) (i .if1 .left)
+    main-same (s .args .fragment .now) (s .args .log .now) (s .args .row) (o .opcode-at .result) (m .main-at .result) (o .opcode-at .ensures) (m .main-at .ensures .0) (t .is-if .result) (t .is-if .ensures) (i .if1 .left)
 
 pub other-main-spec : {M : Type 1} → statement M
 other-main-spec =

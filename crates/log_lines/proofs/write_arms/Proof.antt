@@ -82,8 +82,8 @@ returns c =
     let o = w .before .before .before in
     let s = o .before .before .before .before in
     let room : s .args .at ≤ length (s .args .out .now) = omega (arith, s .pre) in (
-      arms-written (s .args .fragment .now) (s .args .log .now) (s .args .from) (s .args .count) (o .opener .ensures .0) (w .main-at .ensures)
-          (z .alt-at .ensures) (x .other-main .ensures) (y .alt-at2 .ensures)
+      arms-written (s .args .fragment .now) (s .args .log .now) (s .args .from) (s .args .count) (o .opener .ensures .0) (w .main-at .ensures .0)
+          (z .alt-at .ensures .0) (x .other-main .ensures) (y .alt-at2 .ensures .0)
           (then-written room (then-written room (then-written room (a .write-labelled .ensures .0) (b .write-labelled2 .ensures .0))
           (d .write-labelled3 .ensures .0)) (e .write-labelled4 .ensures .0)),
       omega (

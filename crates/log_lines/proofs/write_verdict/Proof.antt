@@ -1,4 +1,3 @@
-use native.Mathlib.Omega.{arith}
 use Rattle.log_lines.proofs.Verdicts.{verdict-accepted, verdict-malformed, verdict-before, verdict-arms, verdict-walk}
 use borrow.Author.Needs.{needs}
 use Rattle.log_lines.proofs.write_verdict.Statement.{statement}

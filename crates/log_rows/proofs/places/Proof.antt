@@ -1,4 +1,3 @@
-use native.Mathlib.Omega.{arith}
 use Rattle.log_rows.proofs.Rows.{filled-16}
 use mathlib.Core.Path.{refl}
 use borrow.Author.Needs.{needs}

@@ -24,35 +24,11 @@ loop-holds c =
 add-row : tie.Need-add-row Inv-loop μ-loop
 add-row c = search needs
 
-mul-wide : tie.Need-mul-wide Inv-loop μ-loop
-mul-wide c = search needs
+main-at-requires : tie.Need-main-at-requires Inv-loop μ-loop
+main-at-requires c κs = search needs
 
-add-wide : tie.Need-add-wide Inv-loop μ-loop
-add-wide c = search needs
-
-mul-wide-2 : tie.Need-mul-wide-2 Inv-loop μ-loop
-mul-wide-2 c = search needs
-
-shared-slice-read-wide : tie.Need-shared-slice-read-wide Inv-loop μ-loop
-shared-slice-read-wide c = search needs
-
-wide-requires : tie.Need-wide-requires Inv-loop μ-loop
-wide-requires c κs = search needs
-
-mul-wide-3 : tie.Need-mul-wide-3 Inv-loop μ-loop
-mul-wide-3 c = search needs
-
-add-wide-2 : tie.Need-add-wide-2 Inv-loop μ-loop
-add-wide-2 c = search needs
-
-mul-wide-4 : tie.Need-mul-wide-4 Inv-loop μ-loop
-mul-wide-4 c = search needs
-
-shared-slice-read-wide-2 : tie.Need-shared-slice-read-wide-2 Inv-loop μ-loop
-shared-slice-read-wide-2 c = search needs
-
-wide-requires-2 : tie.Need-wide-requires-2 Inv-loop μ-loop
-wide-requires-2 c κs = search needs
+alt-at-requires : tie.Need-alt-at-requires Inv-loop μ-loop
+alt-at-requires c κs = search needs
 
 total-requires : tie.Need-total-requires Inv-loop μ-loop
 total-requires c κs = search needs
@@ -71,11 +47,11 @@ loop-again c =
     let g = c in
     let t = g .before in
     let a = t .before in
-    let m = a .before .before in
-    let l = m .before .before .before in
+    let m = a .before in
+    let l = m .before .before in
     let s = l .before .before .before in (
       scaling-more (s .args .peak) (s .args .log .now) (s .args .from) (s .args .count) (l .loop .scale) (l .loop .j) _ _ _ _ _
-          (l .loop .inv .0) (omega arith) refl (m .wide .ensures .0) (a .wide2 .ensures .0) (t .total .ensures) (g .larger2 .ensures),
+          (l .loop .inv .0) (omega arith) refl (m .main-at .ensures .0) (a .alt-at .ensures .0) (t .total .ensures) (g .larger2 .ensures),
       omega arith,
     )
 
@@ -95,16 +71,8 @@ scale-of-spec =
     larger-requires
     loop-holds
     add-row
-    mul-wide
-    add-wide
-    mul-wide-2
-    shared-slice-read-wide
-    wide-requires
-    mul-wide-3
-    add-wide-2
-    mul-wide-4
-    shared-slice-read-wide-2
-    wide-requires-2
+    main-at-requires
+    alt-at-requires
     total-requires
     larger-requires-2
     add-j

@@ -1,4 +1,3 @@
-use native.Mathlib.Omega.{arith}
 use Rattle.log_rows.proofs.Rows.{row-written, total-within}
 use borrow.Author.Needs.{needs}
 use Rattle.log_rows.proofs.write_row.Statement.{statement}
@@ -16,35 +15,11 @@ shared-slice-read-wide c = search needs
 wide-requires : tie.Need-wide-requires
 wide-requires c κs = search needs
 
-mul-wide-3 : tie.Need-mul-wide-3
-mul-wide-3 c = search needs
+main-at-requires : tie.Need-main-at-requires
+main-at-requires c κs = search needs
 
-add-wide : tie.Need-add-wide
-add-wide c = search needs
-
-mul-wide-4 : tie.Need-mul-wide-4
-mul-wide-4 c = search needs
-
-shared-slice-read-wide-2 : tie.Need-shared-slice-read-wide-2
-shared-slice-read-wide-2 c = search needs
-
-wide-requires-2 : tie.Need-wide-requires-2
-wide-requires-2 c κs = search needs
-
-mul-wide-5 : tie.Need-mul-wide-5
-mul-wide-5 c = search needs
-
-add-wide-2 : tie.Need-add-wide-2
-add-wide-2 c = search needs
-
-mul-wide-6 : tie.Need-mul-wide-6
-mul-wide-6 c = search needs
-
-shared-slice-read-wide-3 : tie.Need-shared-slice-read-wide-3
-shared-slice-read-wide-3 c = search needs
-
-wide-requires-3 : tie.Need-wide-requires-3
-wide-requires-3 c κs = search needs
+alt-at-requires : tie.Need-alt-at-requires
+alt-at-requires c κs = search needs
 
 cast-byte-at : tie.Need-cast-byte-at
 cast-byte-at c = search needs
@@ -65,12 +40,12 @@ write-row-line-requires : tie.Need-write-row-line-requires
 write-row-line-requires c κs =
     let r = c .before .before in
     let a = r .before .before in
-    let m = a .before .before in
-    let o = m .before .before in
+    let m = a .before in
+    let o = m .before in
     let s = o .before .before .before .before .before in (
-      (s .pre .0 .0, (m .wide2 .ensures .1, a .wide3 .ensures .1)),
+      (s .pre .0 .0, (m .main-at .ensures .1, a .alt-at .ensures .1)),
       (
-        (s .pre .1 .0, total-within (s .args .log .now) (s .args .scale) (s .args .j) (m .wide2 .ensures .0) (a .wide3 .ensures .0) (s .pre .1 .1)),
+        (s .pre .1 .0, total-within (s .args .log .now) (s .args .scale) (s .args .j) (m .main-at .ensures .0) (a .alt-at .ensures .0) (s .pre .1 .1)),
         (o .wide .ensures .1, r .indent .ensures .1),
       ),
     )
@@ -85,11 +60,11 @@ returns c =
     let r = d .before in
     let b = r .before in
     let a = b .before in
-    let m = a .before .before in
-    let o = m .before .before in
+    let m = a .before in
+    let o = m .before in
     let s = o .before .before .before .before .before in (
       row-written (s .args .fragment .now) (s .args .log .now) (s .args .scale) (s .args .depth) (s .args .j) (o .wide .ensures .0)
-          (m .wide2 .ensures .0) (a .wide3 .ensures .0) (b .byte-at .ensures) (r .indent .ensures .0) (d .display .ensures)
+          (m .main-at .ensures .0) (a .alt-at .ensures .0) (b .byte-at .ensures) (r .indent .ensures .0) (d .display .ensures)
           (w .write-row-line .ensures .0),
       w .write-row-line .ensures .1,
     )
@@ -102,16 +77,8 @@ write-row-spec =
     mul-wide-2
     shared-slice-read-wide
     wide-requires
-    mul-wide-3
-    add-wide
-    mul-wide-4
-    shared-slice-read-wide-2
-    wide-requires-2
-    mul-wide-5
-    add-wide-2
-    mul-wide-6
-    shared-slice-read-wide-3
-    wide-requires-3
+    main-at-requires
+    alt-at-requires
     cast-byte-at
     byte-at-requires
     indent-requires

@@ -1,6 +1,4 @@
 use native.Mathlib.Omega.{arith}
-use Prim.Native.Nat.{_≤_}
-use lib.ListN.{length}
 use Rattle.text.proofs.Texts.{then-written}
 use Rattle.log_rows.proofs.Rows.{digits-6}
 use Rattle.log_rows.specs.Rows.{rowLine}

@@ -1,5 +1,4 @@
 use borrow.Author.Needs.{needs}
-use native.Mathlib.Omega.{arith}
 use Rattle.text.proofs.Texts.{byte-written}
 use Rattle.text.proofs.write_byte.Statement.{statement}
 use Rattle.text.proofs.write_byte.Tie as tie

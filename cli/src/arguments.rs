@@ -1,0 +1,339 @@
+//! The words of the command line.
+use std::ffi::{OsStr, OsString};
+use std::os::unix::ffi::OsStrExt;
+
+use crate::Stop;
+use crate::bytes::Bytes;
+use crate::names::shown;
+use crate::papers::Source;
+use crate::usage::{self, COMPARE, EXPLAIN, FRAGMENT, LIMITS, LOG, MARK, PAPER, Usage};
+
+#[derive(Debug, PartialEq, Eq)]
+pub enum Command {
+    Help(Option<&'static Usage>),
+    Version,
+    Mark { form: Form, papers: Vec<OsString> },
+    Log { paper: OsString },
+    Fragment { main: u32, alt: u32, bytes: Bytes },
+    Paper { fields: u16, init: Bytes, entries: Vec<Entry> },
+    Limits { bytes: Bytes },
+    Explain { number: u32 },
+    Compare { papers: Vec<OsString> },
+}
+
+/// What `mark` writes.
+#[derive(Clone, Copy, Debug, PartialEq, Eq)]
+pub enum Form {
+    Lines,
+    Csv,
+    Json,
+}
+
+/// An entry of a paper to write.
+#[derive(Debug, PartialEq, Eq)]
+pub struct Entry {
+    pub parameters: u16,
+    pub body: Bytes,
+}
+
+pub fn parse(words: &[OsString]) -> Result<Command, Stop> {
+    let Some((first, rest)) = words.split_first() else {
+        return Err(Stop::Words("no command is named".into(), None));
+    };
+    if let Some(usage) = usage::named(first) {
+        return sub_command(usage, rest);
+    }
+    match (first.as_bytes(), rest) {
+        (b"help" | b"--help" | b"-h", []) => Ok(Command::Help(None)),
+        (b"help" | b"--help" | b"-h", [name]) => match usage::named(name) {
+            Some(usage) => Ok(Command::Help(Some(usage))),
+            None => Err(Stop::Words(format!("there is no command {}", quoted(name)), None)),
+        },
+        (b"--version" | b"-V", []) => Ok(Command::Version),
+        (b"help" | b"--help" | b"-h" | b"--version" | b"-V", _) => {
+            Err(Stop::Words(format!("too many words after {}", quoted(first)), None))
+        }
+        _ => Err(Stop::Words(format!("there is no command {}", quoted(first)), None)),
+    }
+}
+
+fn quoted(word: &OsStr) -> String {
+    format!("'{}'", shown(word.as_bytes()))
+}
+
+/// The words of a sub-command: its options, each with its value or none, and the rest in order.
+struct Words<'a> {
+    usage: &'static Usage,
+    options: Vec<(&'static str, Option<&'a OsStr>)>,
+    rest: Vec<&'a OsStr>,
+}
+
+/// An option, and whether a value follows it.
+type Known = (&'static str, bool);
+
+/// Sorts the words. What begins with `-` is an option, but for `-` itself and for what stands after `--`. `None` if help is
+/// asked for.
+fn sort<'a>(usage: &'static Usage, words: &'a [OsString], known: &[Known]) -> Result<Option<Words<'a>>, Stop> {
+    let mut sorted = Words { usage, options: Vec::new(), rest: Vec::new() };
+    let mut words = words.iter().map(OsString::as_os_str);
+    while let Some(word) = words.next() {
+        match word.as_bytes() {
+            b"--" => sorted.rest.extend(words.by_ref()),
+            b"--help" | b"-h" => return Ok(None),
+            [b'-', _, ..] => {
+                let Some(&(name, valued)) = known.iter().find(|(name, _)| word == *name) else {
+                    return Err(sorted.wrong(format!("there is no option {}", quoted(word))));
+                };
+                if sorted.options.iter().any(|(other, _)| *other == name) {
+                    return Err(sorted.wrong(format!("{name} is given twice")));
+                }
+                let value = if valued { words.next() } else { None };
+                if valued && value.is_none() {
+                    return Err(sorted.wrong(format!("{name} lacks its value")));
+                }
+                sorted.options.push((name, value));
+            }
+            _ => sorted.rest.push(word),
+        }
+    }
+    Ok(Some(sorted))
+}
+
+impl Words<'_> {
+    fn wrong(&self, what: impl Into<String>) -> Stop {
+        Stop::Words(format!("{}: {}", self.usage.name, what.into()), Some(self.usage))
+    }
+
+    fn has(&self, name: &str) -> bool {
+        self.options.iter().any(|(other, _)| *other == name)
+    }
+
+    fn value(&self, name: &str) -> Option<&OsStr> {
+        self.options.iter().find(|(other, _)| *other == name)?.1
+    }
+
+    /// Just so many words.
+    fn exactly<const N: usize>(&self) -> Result<[&OsStr; N], Stop> {
+        match (<[&OsStr; N]>::try_from(self.rest.as_slice()), self.rest.get(N)) {
+            (Ok(words), _) => Ok(words),
+            (_, Some(word)) => Err(self.wrong(format!("{} is one word too many", quoted(word)))),
+            (_, None) => Err(self.wrong("too few words")),
+        }
+    }
+
+    /// One paper or more; standard input cannot be read twice.
+    fn papers(&self) -> Result<Vec<OsString>, Stop> {
+        if self.rest.is_empty() {
+            return Err(self.wrong("no paper is named"));
+        }
+        if self.rest.iter().filter(|word| **word == "-").count() > 1 {
+            return Err(self.wrong("- is named twice, and standard input can be read once"));
+        }
+        Ok(self.rest.iter().map(OsString::from).collect())
+    }
+
+    /// A decimal number of this width, digits alone.
+    fn number<T: std::str::FromStr>(&self, what: &str, word: &OsStr, most: u64) -> Result<T, Stop> {
+        let digits = word.to_str().filter(|text| !text.is_empty() && text.bytes().all(|byte| byte.is_ascii_digit()));
+        let Some(digits) = digits else {
+            return Err(self.wrong(format!("{what} is a decimal number, and {} is none", quoted(word))));
+        };
+        digits.parse().map_err(|_| self.wrong(format!("{what} is at most {most}, and {digits} is more")))
+    }
+
+    fn bytes(&self, word: &OsStr) -> Result<Bytes, Stop> {
+        Bytes::parse(word).map_err(|wrong| self.wrong(format!("{}: {wrong}", quoted(word))))
+    }
+}
+
+fn sub_command(usage: &'static Usage, words: &[OsString]) -> Result<Command, Stop> {
+    let known: &[Known] = match usage.name {
+        "mark" => &[("--csv", false), ("--json", false)],
+        "paper" => &[("--fields", true), ("--init", true)],
+        _ => &[],
+    };
+    let Some(words) = sort(usage, words, known)? else {
+        return Ok(Command::Help(Some(usage)));
+    };
+    if usage == &MARK {
+        let form = match (words.has("--csv"), words.has("--json")) {
+            (true, true) => return Err(words.wrong("--csv and --json are one or the other")),
+            (true, false) => Form::Csv,
+            (false, true) => Form::Json,
+            (false, false) => Form::Lines,
+        };
+        return Ok(Command::Mark { form, papers: words.papers()? });
+    }
+    if usage == &LOG {
+        let [paper] = words.exactly()?;
+        return Ok(Command::Log { paper: paper.into() });
+    }
+    if usage == &FRAGMENT {
+        let [main, alt, bytes] = words.exactly()?;
+        let main = words.number("MAIN", main, u32::MAX.into())?;
+        let alt = words.number("ALT", alt, u32::MAX.into())?;
+        return Ok(Command::Fragment { main, alt, bytes: words.bytes(bytes)? });
+    }
+    if usage == &PAPER {
+        return paper(&words);
+    }
+    if usage == &LIMITS {
+        let [bytes] = words.exactly()?;
+        return Ok(Command::Limits { bytes: words.bytes(bytes)? });
+    }
+    if usage == &EXPLAIN {
+        let [number] = words.exactly()?;
+        return Ok(Command::Explain { number: words.number("N", number, u32::MAX.into())? });
+    }
+    debug_assert_eq!(usage, &COMPARE);
+    Ok(Command::Compare { papers: words.papers()? })
+}
+
+fn paper(words: &Words) -> Result<Command, Stop> {
+    let Some(fields) = words.value("--fields") else {
+        return Err(words.wrong("--fields is missing"));
+    };
+    let fields = words.number("F", fields, u16::MAX.into())?;
+    let init = words.value("--init").map_or(Ok(Bytes::Given(Vec::new())), |word| words.bytes(word))?;
+    let mut entries = Vec::new();
+    for word in &words.rest {
+        let Some(colon) = word.as_bytes().iter().position(|byte| *byte == b':') else {
+            return Err(words.wrong(format!("{} is no PARAMETERS:BYTES", quoted(word))));
+        };
+        let (parameters, body) = word.as_bytes().split_at(colon);
+        entries.push(Entry {
+            parameters: words.number("PARAMETERS", OsStr::from_bytes(parameters), u16::MAX.into())?,
+            body: words.bytes(OsStr::from_bytes(&body[1..]))?,
+        });
+    }
+    if entries.is_empty() {
+        return Err(words.wrong("no entry is named"));
+    }
+    let inputs = entries.iter().map(|entry| &entry.body).chain([&init]).filter(|bytes| **bytes == Bytes::Of(Source::Input));
+    if inputs.count() > 1 {
+        return Err(words.wrong("@- is named twice, and standard input can be read once"));
+    }
+    Ok(Command::Paper { fields, init, entries })
+}
+
+#[cfg(test)]
+mod tests {
+    use super::{Bytes, Command, Entry, Form, Source, parse};
+    use crate::Stop;
+    use crate::usage::{ALL, MARK};
+    use std::ffi::OsString;
+
+    fn words(line: &[&str]) -> Vec<OsString> {
+        line.iter().map(OsString::from).collect()
+    }
+
+    fn parsed(line: &[&str]) -> Command {
+        parse(&words(line)).unwrap_or_else(|stop| panic!("{line:?}: {stop:?}"))
+    }
+
+    /// What is said of bad words, and the sub-command that is named.
+    fn wrong(line: &[&str]) -> (String, Option<&'static str>) {
+        match parse(&words(line)) {
+            Err(Stop::Words(what, usage)) => (what, usage.map(|usage| usage.name)),
+            other => panic!("{line:?}: {other:?}"),
+        }
+    }
+
+    #[test]
+    fn marking() {
+        let mark = |form, papers: &[&str]| Command::Mark { form, papers: words(papers) };
+        assert_eq!(parsed(&["mark", "a"]), mark(Form::Lines, &["a"]));
+        assert_eq!(parsed(&["mark", "a b", "-", "c\n"]), mark(Form::Lines, &["a b", "-", "c\n"]));
+        assert_eq!(parsed(&["mark", "--csv", "a"]), mark(Form::Csv, &["a"]));
+        assert_eq!(parsed(&["mark", "a", "--json"]), mark(Form::Json, &["a"]));
+        assert_eq!(parsed(&["mark", "--csv", "--", "--json", "-"]), mark(Form::Csv, &["--json", "-"]));
+        assert_eq!(parsed(&["mark", ""]), mark(Form::Lines, &[""]));
+    }
+
+    #[test]
+    fn the_others() {
+        assert_eq!(parsed(&["log", "-"]), Command::Log { paper: "-".into() });
+        let bytes = Bytes::Given(vec![0x51]);
+        assert_eq!(parsed(&["fragment", "1", "0", "51"]), Command::Fragment { main: 1, alt: 0, bytes: bytes.clone() });
+        let none = Bytes::Given(Vec::new());
+        assert_eq!(
+            parsed(&["fragment", "4294967295", "0", "-"]),
+            Command::Fragment { main: u32::MAX, alt: 0, bytes: none.clone() }
+        );
+        assert_eq!(parsed(&["limits", "@-"]), Command::Limits { bytes: Bytes::Of(Source::Input) });
+        assert_eq!(parsed(&["explain", "22"]), Command::Explain { number: 22 });
+        assert_eq!(parsed(&["compare", "a"]), Command::Compare { papers: words(&["a"]) });
+        assert_eq!(
+            parsed(&["paper", "3:51", "--init", "-", "--fields", "65535", "0:@a:b"]),
+            Command::Paper {
+                fields: 65_535,
+                init: none,
+                entries: vec![
+                    Entry { parameters: 3, body: bytes },
+                    Entry { parameters: 0, body: Bytes::Of(Source::File("a:b".into())) }
+                ]
+            }
+        );
+    }
+
+    #[test]
+    fn help_and_version() {
+        for line in [&["--help"][..], &["-h"], &["help"]] {
+            assert_eq!(parsed(line), Command::Help(None));
+        }
+        for usage in ALL {
+            let help = Command::Help(Some(usage));
+            for line in [["help", usage.name], ["--help", usage.name], [usage.name, "--help"], [usage.name, "-h"]] {
+                assert_eq!(parsed(&line), help, "{line:?}");
+            }
+        }
+        assert_eq!(parsed(&["mark", "a", "--help"]), Command::Help(Some(&MARK)));
+        assert_eq!(parsed(&["--version"]), Command::Version);
+    }
+
+    #[test]
+    fn bad_words_name_their_sub_command() {
+        for line in [&[][..], &["marks"], &["-x"], &["help", "x"], &["help", "mark", "log"], &["--version", "x"], &[""]] {
+            assert_eq!(wrong(line).1, None, "{line:?}");
+        }
+        for line in [
+            &["mark"][..],
+            &["mark", "--csv"],
+            &["mark", "--"],
+            &["mark", "--cvs", "a"],
+            &["mark", "-v", "a"],
+            &["mark", "--csv", "--csv", "a"],
+            &["mark", "--csv", "--json", "a"],
+            &["mark", "-", "-"],
+            &["log"],
+            &["log", "a", "b"],
+            &["log", "--csv", "a"],
+            &["fragment"],
+            &["fragment", "0", "51"],
+            &["fragment", "0", "0", "51", "52"],
+            &["fragment", "x", "0", "51"],
+            &["fragment", "+1", "0", "51"],
+            &["fragment", "4294967296", "0", "51"],
+            &["fragment", "0", "-1", "51"],
+            &["fragment", "0", "0", "5"],
+            &["fragment", "0", "0", ""],
+            &["limits"],
+            &["limits", "51", "51"],
+            &["paper", "0:51"],
+            &["paper", "--fields"],
+            &["paper", "--fields", "0"],
+            &["paper", "--fields", "65536", "0:51"],
+            &["paper", "--fields", "0", "65536:51"],
+            &["paper", "--fields", "0", ":51"],
+            &["paper", "--fields", "0", "51"],
+            &["paper", "--fields", "0", "0:"],
+            &["paper", "--fields", "0", "--init", "@-", "0:@-"],
+            &["explain"],
+            &["explain", "x"],
+            &["explain", "1", "2"],
+            &["compare"],
+        ] {
+            assert_eq!(wrong(line).1, Some(line[0]), "{line:?}");
+        }
+    }
+}

@@ -1,0 +1,183 @@
+//! What is said of the command and of each sub-command.
+use std::ffi::OsStr;
+
+/// A sub-command: its name, its usage line, what it does, and examples.
+#[derive(Debug, PartialEq, Eq)]
+pub struct Usage {
+    pub name: &'static str,
+    pub line: &'static str,
+    pub about: &'static str,
+    pub examples: &'static [&'static str],
+}
+
+pub static MARK: Usage = Usage {
+    name: "mark",
+    line: "listochur mark [--csv | --json] PAPER..",
+    about: "\
+Marks papers. Of one paper the lines are those of document 01: a line for each fragment that is accepted, then
+`accepted` or `refused N at K O A B`. Of several, or of a folder, each line begins with the paper's name and `: `,
+and a summary stands at the end.
+
+  PAPER     a file, - for standard input, or a folder: every file in it, in the order of their names
+  --csv     a record for each paper in its stead, comma-separated, under a line of column names
+  --json    the same as a JSON array, a paper to a line
+  --        what follows are papers, whatever they begin with
+
+In a name a backslash is shown as \\\\, a newline as \\n, a byte that is no UTF-8 as \\xNN. With --csv and --json the
+summary goes to standard error. A paper that cannot be read is said there and gets no verdict and no record. Over 200
+papers are counted there as they are marked, where it is a terminal.
+Status 0: all accepted. 1: some refused. 2: a paper could not be read, or a write failed; the others are marked.
+",
+    examples: &[
+        "listochur mark sample.paper",
+        "listochur mark room1 room2 late.paper",
+        "listochur mark --csv room1 >register.csv",
+        "head -c 100 draft.paper | listochur mark -",
+    ],
+};
+
+pub static LOG: Usage = Usage {
+    name: "log",
+    line: "listochur log PAPER",
+    about: "\
+Prints the log of one paper as a person reads it: a line for each instruction with the heights before it, and the
+verdict in words. PAPER is a file, or - for standard input.
+Status 0: accepted. 1: refused. 2: the paper could not be read, or a write failed.
+",
+    examples: &["listochur log sample.paper"],
+};
+
+pub static FRAGMENT: Usage = Usage {
+    name: "fragment",
+    line: "listochur fragment MAIN ALT BYTES",
+    about: "\
+Analyses a fragment from so many unknown items on main and alt: the verdict, the items that it ends with, from the
+bottom up, and a line of the log for each instruction met.
+
+  BYTES     hexadecimal digits, - for none, @FILE for the bytes of a file, @- for those of standard input
+
+Status 0: accepted. 1: refused. 2: bad words, a file that could not be read, or a write that failed.
+",
+    examples: &["listochur fragment 2 0 635167526875", "listochur fragment 1 0 '51 79'", "listochur fragment 0 0 @body.bin"],
+};
+
+pub static PAPER: Usage = Usage {
+    name: "paper",
+    line: "listochur paper --fields F [--init BYTES] PARAMETERS:BYTES ..",
+    about: "\
+Writes a paper to standard output: F state fields, an initialiser or none, and an entry for each PARAMETERS:BYTES
+with its parameters and its body. Behind the header stands the initialiser, then the bodies in their order.
+
+  BYTES     hexadecimal digits, - for none, @FILE for the bytes of a file, @- for those of standard input
+
+What the marker says of the paper is not asked here. What does not fit the header's fields of 16 bits is not written.
+Status 0: written. 2: bad words, a number over 65535, a file that could not be read, or a write that failed.
+",
+    examples: &[
+        "listochur paper --fields 1 1:635167526875 >sample.paper",
+        "listochur paper --fields 2 --init 6c75 0:51 3:@body.bin | listochur mark -",
+    ],
+};
+
+pub static LIMITS: Usage = Usage {
+    name: "limits",
+    line: "listochur limits BYTES",
+    about: "\
+The limit check, which is no part of marking a paper: malformed bytes, more than 201 opcodes above 60, more than
+10,000 bytes.
+
+  BYTES     hexadecimal digits, - for none, @FILE for the bytes of a file, @- for those of standard input
+
+Status 0: within the limits. 1: refused. 2: bad words, a file that could not be read, or a write that failed.
+",
+    examples: &["listochur limits 5193", "listochur limits @redeem.bin"],
+};
+
+pub static EXPLAIN: Usage = Usage {
+    name: "explain",
+    line: "listochur explain N",
+    about: "\
+A verdict number in words: when it is given, what its figures are, and an example that gets it.
+Status 0, or 2: N is no verdict number, or a write failed.
+",
+    examples: &["listochur explain 7"],
+};
+
+pub static COMPARE: Usage = Usage {
+    name: "compare",
+    line: "listochur compare PAPER..",
+    about: "\
+Marks papers, asks the Rust about each, and lays the two verdicts side by side: a line for each paper, and a count at
+the end. The Rust is the program `driver` of the folder compare/: what the variable LISTOCHUR_DRIVER names, else
+listochur-driver beside this command, else that of the folder built/ that this command comes from. A paper outside the
+limits that the Rust shares is said to be outside, and is no difference. Of 19 and 21, which the Rust does not have,
+the driver has a plain reading of document 01.
+
+  PAPER     a file, - for standard input, or a folder: every file in it, in the order of their names
+
+Status 0: no difference. 1: some differ. 2: no driver, a paper could not be read, or a write failed.
+",
+    examples: &["listochur compare room1"],
+};
+
+/// All sub-commands.
+pub static ALL: [&Usage; 7] = [&MARK, &LOG, &FRAGMENT, &PAPER, &LIMITS, &EXPLAIN, &COMPARE];
+
+/// Said after a usage line.
+pub const HINT: &str = "listochur help shows more.";
+
+/// Said where no sub-command is named.
+pub const SHORT: &str = "\
+usage: listochur mark | log | fragment | paper | limits | explain | compare ..
+listochur help shows more.";
+
+/// The sub-command of this name.
+pub fn named(name: &OsStr) -> Option<&'static Usage> {
+    ALL.into_iter().find(|usage| name == usage.name)
+}
+
+/// Examples, each on a line.
+fn examples<'a>(lines: impl IntoIterator<Item = &'a &'static str>) -> String {
+    lines.into_iter().map(|line| format!("  {line}\n")).collect()
+}
+
+/// The help of one sub-command.
+pub fn whole(usage: &Usage) -> String {
+    format!("usage: {}\n\n{}\nFor example:\n\n{}", usage.line, usage.about, examples(usage.examples))
+}
+
+/// The help of the command.
+pub fn all() -> String {
+    let mut text = "listochur: a proved stack marker for Kaspa script, for piles of papers\n\n".to_owned();
+    for (usage, about) in ALL.into_iter().zip([
+        "the verdict on each paper, or a register",
+        "the log of a paper",
+        "the verdict on a fragment, its end, its log",
+        "writes a paper",
+        "the limit check",
+        "a verdict number in words",
+        "our verdicts beside the Rust's",
+    ]) {
+        text += &format!("  {}\n      {about}\n", usage.line);
+    }
+    text += "
+  listochur help [NAME]
+  listochur --version
+
+PAPER is a file, - for standard input, or, for mark and compare, a folder: every file in it, in the order of their
+names. BYTES are hexadecimal digits, - for none, @FILE for the bytes of a file, @- for those of standard input.
+
+Exit status: 0 all accepted, or equal; 1 some refused, or different; 2 bad usage, something that cannot be read, a write
+that failed. 2 goes before 1, and the other papers are marked all the same.
+
+For example:
+
+";
+    text + &examples(ALL.iter().filter_map(|usage| usage.examples.first()))
+}
+
+/// The version, and the toolchain that the proved functions were proved with where the build has said it.
+pub fn version() -> String {
+    let proved = option_env!("LISTOCHUR_PROVED_WITH").map(|kit| format!("proved with {kit}\n"));
+    format!("listochur {}\n{}", env!("CARGO_PKG_VERSION"), proved.unwrap_or_default())
+}
