@@ -1,6 +1,7 @@
 // The class of each opcode: document 01, section 2.
 ghost use mathlib.Core.Path.{_≡_};
 ghost use Rattle.definition.specs.Classes.{classNumber};
+ghost use Rattle.opcodes.specs.View.{ClassRows};
 
 // The class numbers: unmodelled, push, nothing, then the classes of one opcode each.
 pub const UNMODELLED: u8 = 0;
@@ -383,4 +384,12 @@ pub fn class_at(opcode: u8) -> u8
     ensures { λ r. ⌜ r ≡ classNumber opcode ⌝ }
 {
     CLASSES[opcode as usize]
+}
+
+// The class of an opcode, out of lent rows.
+pub fn class_in(rows: &[u8], opcode: u8) -> u8
+    requires { ⌜ ClassRows (now rows) ⌝ }
+    ensures { λ r. ⌜ r ≡ classNumber opcode ⌝ }
+{
+    rows[opcode as usize]
 }

@@ -11,6 +11,7 @@ ghost use Rattle.definition.specs.Refusals.{answer, refusedAt};
 ghost use Rattle.definition.specs.Replay.{Demand3};
 ghost use Rattle.definition.specs.Walk.{dead, unknowns, begin, walk, answered, analysis, refusedVerdict};
 ghost use Rattle.stack.specs.View.{refusalOf};
+ghost use Rattle.opcodes.specs.View.{ClassRows};
 ghost use Rattle.walk.specs.Runs.{armOf, arm, stopOf, Ready};
 ghost use Rattle.stack_analysis.specs.View.{verdictOf, packedVerdict, summarized};
 ghost use Rattle.stack_analysis.specs.Entry.{Starts, Stops, withEnd};
@@ -182,31 +183,31 @@ fn finish(w: Walk, other: Stacks, alive: bool) -> Walk
 
 // Walks an arm from start, with depth conditionals open around it, to the end, or to the ELSE or ENDIF of the innermost:
 // "An arm may hold conditionals".
-fn arm(code: &[u8], log: &mut [u16], start: Walk, depth: u32) -> Walk
+fn arm(code: &[u8], log: &mut [u16], classes: &[u8], start: Walk, depth: u32) -> Walk
     requires { ⌜ (Ready (now code) (now log) start) × (start .stop ≡ Stop.Running) ⌝ }
-    requires { ⌜ depth ≤ 24 ⌝ }
+    requires { ⌜ (ClassRows (now classes)) × (depth ≤ 24) ⌝ }
     ensures { λ r.
         ⌜ Walks builtIn (now (code .entry)) depth start (now (log .entry)) r (now (log .exit)) ⌝ }
 {
-    let mut w = walk::plain(code, log, start);
+    let mut w = walk::plain(code, log, classes, start);
     loop {
         let met = w.stop;
         let Stop::Conditional = met else {
             return w;
         };
-        let v = conditional(code, log, w, depth);
+        let v = conditional(code, log, classes, w, depth);
         let closed = v.stop;
         if let Stop::Refused(_) = closed {
             return v;
         }
-        w = walk::plain(code, log, v);
+        w = walk::plain(code, log, classes, v);
     }
 }
 
 // Walks the conditional at whose IF or NOTIF w stands, up to and with its ENDIF: "each conditional holds one or two arms".
-fn conditional(code: &[u8], log: &mut [u16], w: Walk, depth: u32) -> Walk
+fn conditional(code: &[u8], log: &mut [u16], classes: &[u8], w: Walk, depth: u32) -> Walk
     requires { ⌜ (Ready (now code) (now log) w) × (w .stop ≡ Stop.Conditional) ⌝ }
-    requires { ⌜ depth ≤ 24 ⌝ }
+    requires { ⌜ (ClassRows (now classes)) × (depth ≤ 24) ⌝ }
     ensures { λ r. ⌜ Closes builtIn (now (code .entry)) depth w (now (log .entry)) r (now (log .exit)) ⌝ }
 {
     let mut v = enter(w, depth);
@@ -216,7 +217,7 @@ fn conditional(code: &[u8], log: &mut [u16], w: Walk, depth: u32) -> Walk
     }
     let start = v.stacks;
     let live = v.live;
-    let first = arm(code, log, v, depth + 1);
+    let first = arm(code, log, classes, v, depth + 1);
     let stop = first.stop;
     if let Stop::Else = stop {
         let s = first.stacks;
@@ -225,7 +226,7 @@ fn conditional(code: &[u8], log: &mut [u16], w: Walk, depth: u32) -> Walk
         v.last = first.last;
         v.rows = first.rows;
         v.peak = first.peak;
-        v = arm(code, log, v, depth + 1);
+        v = arm(code, log, classes, v, depth + 1);
         return finish(v, s, first.live);
     }
     finish(first, start, live)
@@ -417,7 +418,8 @@ fn walk_all(fragment: &[u8], main: u32, alt: u32, log: &mut [u16]) -> Walk
         peak: main + alt,
         stop: Stop::Running,
     };
-    arm(fragment, log, start, 0)
+    let classes = opcodes::CLASSES;
+    arm(fragment, log, &classes, start, 0)
 }
 
 // The verdict of a summary and the end stacks.

@@ -4,6 +4,7 @@ ghost use Prim.Native.Nat.{ℕ, _+_, _*_, _≤_, _<_, max};
 ghost use lib.ListN.{length, set};
 ghost use Rattle.definition.specs.Stacks.{builtIn};
 ghost use Rattle.stack.specs.View.{Fit};
+ghost use Rattle.opcodes.specs.View.{ClassRows};
 ghost use Rattle.walk.specs.Runs.{deadWalk, Room, Ready, Runs};
 use decode::Decoded;
 use decode::Value;
@@ -109,8 +110,16 @@ struct Skipped {
 }
 
 // In a dead arm, the instructions up to the next IF, NOTIF, ELSE or ENDIF, whose row is written too, or to the end.
-fn skip(code: &[u8], log: &mut [u16], from: usize, met: usize, written: usize) -> Skipped
+fn skip(
+    code: &[u8],
+    log: &mut [u16],
+    classes: &[u8],
+    from: usize,
+    met: usize,
+    written: usize,
+) -> Skipped
     requires { ⌜ Room (now code) (now log) from written ⌝ }
+    requires { ⌜ ClassRows (now classes) ⌝ }
     ensures { λ r.
         ⌜
         ((s : Stacks) (peak : ℕ)
@@ -141,7 +150,7 @@ fn skip(code: &[u8], log: &mut [u16], from: usize, met: usize, written: usize) -
         rows += 1;
         last = at;
         at = i.next;
-        let class = opcodes::class_at(i.opcode);
+        let class = opcodes::class_in(classes, i.opcode);
         let stop = match class {
             opcodes::IF => Stop::Conditional,
             opcodes::NOTIF => Stop::Conditional,
@@ -160,9 +169,9 @@ fn skip(code: &[u8], log: &mut [u16], from: usize, met: usize, written: usize) -
 
 // The instructions up to the next IF, NOTIF, ELSE or ENDIF, whose row is written too, or to the end. It calls no walker,
 // so that the methods of the stacks are compiled into its loop.
-pub fn plain(code: &[u8], log: &mut [u16], start: Walk) -> Walk
-    requires { ⌜ Ready (now code) (now log) start ⌝ }
-    requires { ⌜ start .stop ≡ Stop.Running ⌝ }
+pub fn plain(code: &[u8], log: &mut [u16], classes: &[u8], start: Walk) -> Walk
+    requires { ⌜ (Ready (now code) (now log) start) × (start .stop ≡ Stop.Running) ⌝ }
+    requires { ⌜ ClassRows (now classes) ⌝ }
     ensures { λ r. ⌜ Runs builtIn (now (code .entry)) start (now (log .entry)) r (now (log .exit)) ⌝ }
 {
     let s0 = start.stacks;
@@ -171,7 +180,7 @@ pub fn plain(code: &[u8], log: &mut [u16], start: Walk) -> Walk
         answer: Answer::Done,
     };
     if !start.live {
-        let k = skip(code, log, start.at, start.last, start.rows);
+        let k = skip(code, log, classes, start.at, start.last, start.rows);
         let s = t.stacks;
         let stop = k.stop;
         return stopped(s, false, k.at, k.last, k.rows, start.peak, stop);
@@ -199,7 +208,7 @@ pub fn plain(code: &[u8], log: &mut [u16], start: Walk) -> Walk
         last = at;
         at = i.next;
         let opcode = i.opcode;
-        let class = opcodes::class_of(opcode);
+        let class = opcodes::class_in(classes, opcode);
         match class {
             opcodes::IF => {
                 let s3 = t.stacks;
@@ -218,7 +227,7 @@ pub fn plain(code: &[u8], log: &mut [u16], start: Walk) -> Walk
                 return stopped(s6, true, at, last, rows, peak, Stop::Endif);
             }
             opcodes::RETURN => {
-                let k = skip(code, log, at, last, rows);
+                let k = skip(code, log, classes, at, last, rows);
                 let s7 = t.stacks;
                 let stop = k.stop;
                 return stopped(s7, false, k.at, k.last, k.rows, peak, stop);
