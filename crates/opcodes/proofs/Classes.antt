@@ -1,14 +1,16 @@
 -- What is proved of the class numbers, for a `match` on one.
+use Rattle.opcodes.specs.View.{ClassRows}
+use lib.ListN.{length, getD}
 use mathlib.Core.Bool.{Bool, true, false, _&&_}
 use mathlib.Core.List.{List, [], _∷_}
 use mathlib.Core.Path.{_≡_, sym, ap, _∙_}
 use Prim.Native.Nat.{ℕ, _-_, _≤_, _<_}
 use native.Mathlib.Omega.{arith}
-use lib.Dec.{T, leb, ltb, ltb→lt}
+use lib.Dec.{T, leb, ltb, ltb→lt, eqb}
 use mir.Facts.{and-yes}
 use Rattle.definition.specs.Basics.{pick}
 use Rattle.definition.specs.Classes.{classAt, Range, range, ranges, numberIn, classNumber, classOf, ordinary, unmodelled}
-use Rattle.opcodes.proofs.Every.{every}
+use Rattle.opcodes.proofs.Every.{every, tabled}
 use Rattle.opcodes.proofs.Match.{Rest, gives, below, ranged}
 
 -- the class numbers of the ranges, and unmodelled's, are below n
@@ -56,3 +58,7 @@ push-low opcode h = sym (below classNumber [] opcode 1 0x50 tt (omega arith) tt)
 pub push-high : (opcode : ℕ) → 0x51 ≤ opcode → opcode ≤ 0x60 → classNumber opcode ≡ 1
 unfolding classNumber
 push-high opcode g h = sym (ranged classNumber [] opcode 1 0x51 0x61 tt g (omega arith) tt)
+
+-- a table that passes the test at all of its 256 entries
+pub class-rows : (rows : List ℕ) → length rows ≡ 256 → T (every (λ n. eqb (getD rows n 0) (classNumber n)) (length rows) 0) → ClassRows rows
+class-rows rows e t = record { size = e; row = λ code h. tabled classNumber rows code t (omega (arith, e, h)) }
