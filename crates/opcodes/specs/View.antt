@@ -3,9 +3,14 @@ use mathlib.Core.List.{List}
 use mathlib.Core.Path.{_≡_}
 use Prim.Native.Nat.{ℕ, _<_}
 use lib.ListN.{length, getD}
-use Rattle.definition.specs.Classes.{classNumber}
+use Rattle.definition.specs.Classes.{classAt}
+use Rattle.definition.specs.Stacks.{Rules}
 
--- "a table of 256 class numbers agrees with those ranges at every entry"
-pub record ClassRows (rows : List ℕ) : Type 0 where
+-- 256 rows, each a class number
+pub record GoodRows (rows : List ℕ) : Type 0 where
   pub size : length rows ≡ 256
-  pub row : (code : ℕ) → code < 256 → getD rows code 0 ≡ classNumber code
+  pub below : (code : ℕ) → getD rows code 0 < 32
+
+-- the rules by these rows and this limit
+abbrev pub rulesBy : List ℕ → ℕ → Rules
+rulesBy rows limit = record { classFor = λ code. classAt (getD rows code 0); limit = limit }

@@ -1,7 +1,8 @@
 // The class of each opcode: document 01, section 2.
 ghost use mathlib.Core.Path.{_≡_};
+ghost use lib.ListN.{getD};
 ghost use Rattle.definition.specs.Classes.{classNumber};
-ghost use Rattle.opcodes.specs.View.{ClassRows};
+ghost use Rattle.opcodes.specs.View.{GoodRows};
 
 // The class numbers: unmodelled, push, nothing, then the classes of one opcode each.
 pub const UNMODELLED: u8 = 0;
@@ -388,8 +389,8 @@ pub fn class_at(opcode: u8) -> u8
 
 // The class of an opcode, out of lent rows.
 pub fn class_in(rows: &[u8], opcode: u8) -> u8
-    requires { ⌜ ClassRows (now rows) ⌝ }
-    ensures { λ r. ⌜ r ≡ classNumber opcode ⌝ }
+    requires { ⌜ GoodRows (now rows) ⌝ }
+    ensures { λ r. ⌜ r ≡ getD (now (rows .entry)) opcode 0 ⌝ }
 {
     rows[opcode as usize]
 }

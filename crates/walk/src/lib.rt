@@ -2,9 +2,8 @@
 ghost use mathlib.Core.Path.{_≡_};
 ghost use Prim.Native.Nat.{ℕ, _+_, _*_, _≤_, _<_, max};
 ghost use lib.ListN.{length, set};
-ghost use Rattle.definition.specs.Stacks.{builtIn};
 ghost use Rattle.stack.specs.View.{Fit};
-ghost use Rattle.opcodes.specs.View.{ClassRows};
+ghost use Rattle.opcodes.specs.View.{GoodRows, rulesBy};
 ghost use Rattle.walk.specs.Runs.{deadWalk, Room, Ready, Runs};
 use decode::Decoded;
 use decode::Value;
@@ -12,9 +11,6 @@ use stack::Answer;
 use stack::Refusal;
 use stack::Stacks;
 use stack::Stepped;
-
-// The most items that the stacks hold together.
-const LIMIT: u32 = 244;
 
 // What the log has for a height in a dead arm.
 const DEAD: u16 = 65535;
@@ -119,13 +115,13 @@ fn skip(
     written: usize,
 ) -> Skipped
     requires { ⌜ Room (now code) (now log) from written ⌝ }
-    requires { ⌜ ClassRows (now classes) ⌝ }
+    requires { ⌜ GoodRows (now classes) ⌝ }
     ensures { λ r.
         ⌜
-        ((s : Stacks) (peak : ℕ)
+        ((limit : ℕ) (s : Stacks) (peak : ℕ)
         → Fit s
         → Runs
-        builtIn
+        (rulesBy (now (classes .entry)) limit)
         (now (code .entry))
         (deadWalk s from met written peak Stop.Running)
         (now (log .entry))
@@ -169,10 +165,10 @@ fn skip(
 
 // The instructions up to the next IF, NOTIF, ELSE or ENDIF, whose row is written too, or to the end. It calls no walker,
 // so that the methods of the stacks are compiled into its loop.
-pub fn plain(code: &[u8], log: &mut [u16], classes: &[u8], start: Walk) -> Walk
+pub fn plain(code: &[u8], log: &mut [u16], classes: &[u8], limit: u32, start: Walk) -> Walk
     requires { ⌜ (Ready (now code) (now log) start) × (start .stop ≡ Stop.Running) ⌝ }
-    requires { ⌜ ClassRows (now classes) ⌝ }
-    ensures { λ r. ⌜ Runs builtIn (now (code .entry)) start (now (log .entry)) r (now (log .exit)) ⌝ }
+    requires { ⌜ (GoodRows (now classes)) × (limit ≤ 244) ⌝ }
+    ensures { λ r. ⌜ Runs (rulesBy (now (classes .entry)) limit) (now (code .entry)) start (now (log .entry)) r (now (log .exit)) ⌝ }
 {
     let s0 = start.stacks;
     let mut t = Stepped {
@@ -237,17 +233,17 @@ pub fn plain(code: &[u8], log: &mut [u16], classes: &[u8], start: Walk) -> Walk
                 let v = i.literal;
                 let Value::Exact { len, bytes } = v else {
                     let s = t.stacks;
-                    t = s.push_code(9, LIMIT);
+                    t = s.push_code(9, limit);
                     continue;
                 };
                 let code = slots::code_of(len, bytes);
                 if slots::suffices(code) {
                     let s = t.stacks;
-                    t = s.push_code(code, LIMIT);
+                    t = s.push_code(code, limit);
                     continue;
                 }
                 let s = t.stacks;
-                t = s.push_exact(len, bytes, LIMIT);
+                t = s.push_exact(len, bytes, limit);
                 continue;
             }
             opcodes::TO_ALT => {
@@ -262,12 +258,12 @@ pub fn plain(code: &[u8], log: &mut [u16], classes: &[u8], start: Walk) -> Walk
             }
             opcodes::DEPTH => {
                 let s = t.stacks;
-                t = s.depth(LIMIT);
+                t = s.depth(limit);
                 continue;
             }
             opcodes::SIZE => {
                 let s = t.stacks;
-                t = s.size(LIMIT);
+                t = s.size(limit);
                 continue;
             }
             opcodes::NIP => {
@@ -277,12 +273,12 @@ pub fn plain(code: &[u8], log: &mut [u16], classes: &[u8], start: Walk) -> Walk
             }
             opcodes::TUCK => {
                 let s = t.stacks;
-                t = s.tuck(LIMIT);
+                t = s.tuck(limit);
                 continue;
             }
             opcodes::PICK => {
                 let s = t.stacks;
-                t = s.pick(LIMIT);
+                t = s.pick(limit);
                 continue;
             }
             opcodes::ROLL => {
@@ -292,32 +288,32 @@ pub fn plain(code: &[u8], log: &mut [u16], classes: &[u8], start: Walk) -> Walk
             }
             opcodes::ZK => {
                 let s = t.stacks;
-                t = s.zk(LIMIT);
+                t = s.zk(limit);
                 continue;
             }
             opcodes::DUP => {
                 let s = t.stacks;
-                t = s.extend_from_within(1, 1, LIMIT);
+                t = s.extend_from_within(1, 1, limit);
                 continue;
             }
             opcodes::TWO_DUP => {
                 let s = t.stacks;
-                t = s.extend_from_within(2, 2, LIMIT);
+                t = s.extend_from_within(2, 2, limit);
                 continue;
             }
             opcodes::THREE_DUP => {
                 let s = t.stacks;
-                t = s.extend_from_within(3, 3, LIMIT);
+                t = s.extend_from_within(3, 3, limit);
                 continue;
             }
             opcodes::OVER => {
                 let s = t.stacks;
-                t = s.extend_from_within(2, 1, LIMIT);
+                t = s.extend_from_within(2, 1, limit);
                 continue;
             }
             opcodes::TWO_OVER => {
                 let s = t.stacks;
-                t = s.extend_from_within(4, 2, LIMIT);
+                t = s.extend_from_within(4, 2, limit);
                 continue;
             }
             opcodes::ROT => {
@@ -342,32 +338,32 @@ pub fn plain(code: &[u8], log: &mut [u16], classes: &[u8], start: Walk) -> Walk
             }
             opcodes::EFFECT_1_0 => {
                 let s = t.stacks;
-                t = s.apply_effect(1, 0, LIMIT);
+                t = s.apply_effect(1, 0, limit);
                 continue;
             }
             opcodes::EFFECT_2_0 => {
                 let s = t.stacks;
-                t = s.apply_effect(2, 0, LIMIT);
+                t = s.apply_effect(2, 0, limit);
                 continue;
             }
             opcodes::EFFECT_0_1 => {
                 let s = t.stacks;
-                t = s.apply_effect(0, 1, LIMIT);
+                t = s.apply_effect(0, 1, limit);
                 continue;
             }
             opcodes::EFFECT_1_1 => {
                 let s = t.stacks;
-                t = s.apply_effect(1, 1, LIMIT);
+                t = s.apply_effect(1, 1, limit);
                 continue;
             }
             opcodes::EFFECT_3_1 => {
                 let s = t.stacks;
-                t = s.apply_effect(3, 1, LIMIT);
+                t = s.apply_effect(3, 1, limit);
                 continue;
             }
             opcodes::EFFECT_2_1 => {
                 let s = t.stacks;
-                t = s.apply_effect(2, 1, LIMIT);
+                t = s.apply_effect(2, 1, limit);
                 continue;
             }
             _ => {

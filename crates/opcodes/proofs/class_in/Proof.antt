@@ -6,7 +6,7 @@ shared-slice-read-result : tie.Need-shared-slice-read-result
 shared-slice-read-result c = search needs
 
 returns : tie.Need-returns
-returns c = c .before .pre .row (c .before .args .opcode) (search needs)
+returns c = search needs
 
 pub class-in-spec : {M : Type 1} → statement M
 class-in-spec = tie.close (tie.spec shared-slice-read-result returns)

@@ -4,6 +4,8 @@ use mathlib.Core.Path.{_≡_, refl, sym, ap, _∙_}
 use Prim.Native.Nat.{ℕ, _-_}
 use native.Mathlib.Omega.{arith}
 use lib.ListN.{length}
+use Rattle.definition.specs.Classes.{classAt}
+use Rattle.opcodes.specs.View.{rulesBy}
 use Rattle.decode.proofs.Bytes.{slice-bytes}
 use Rattle.decode.proofs.Codes.{code-instruction, code-ends, code-malformed}
 use Rattle.stack.proofs.Values.{unknown-suffices, held-exact, code-wants, push-is-unknown, push-is-code, push-is-exact}
@@ -39,15 +41,15 @@ use Rattle.walk.proofs.skip.Reads as skip-reads
 use Rattle.walk.proofs.stopped.Reads as stopped-reads
 
 abbrev Inv-loop : tie.InvT-loop
-Inv-loop code log₀ classes t₀ at₀ last₀ rows₀ peak₀ log t at last rows peak =
-    Walking code log₀ (walkOf t₀ at₀ last₀ rows₀ peak₀) log (walkOf t at last rows peak)
+Inv-loop code log₀ classes limit t₀ at₀ last₀ rows₀ peak₀ log t at last rows peak =
+    Walking (rulesBy classes limit) code log₀ (walkOf t₀ at₀ last₀ rows₀ peak₀) log (walkOf t at last rows peak)
 
 abbrev μ-loop : tie.MeasureT-loop
-μ-loop code log₀ classes t₀ at₀ last₀ rows₀ peak₀ log t at last rows peak = length code - at
+μ-loop code log₀ classes limit t₀ at₀ last₀ rows₀ peak₀ log t at last rows peak = length code - at
 
 -- what is known once an instruction is met, its row is written and its class number is read
 met : (c : lts.After-class-in (skip-reads.Asked, skip-reads.Learnt, stopped-reads.Asked, stopped-reads.Learnt, higher-reads.Asked, higher-reads.Learnt, decode-at-reads.Asked, decode-at-reads.Learnt, log-row-reads.Asked, log-row-reads.Learnt, class-in-reads.Asked, class-in-reads.Learnt, push-code-reads.Asked, push-code-reads.Learnt, code-of-reads.Asked, code-of-reads.Learnt, suffices-reads.Asked, suffices-reads.Learnt, push-exact-reads.Asked, push-exact-reads.Learnt, move-to-alt-reads.Asked, move-to-alt-reads.Learnt, move-from-alt-reads.Asked, move-from-alt-reads.Learnt, depth-reads.Asked, depth-reads.Learnt, size-reads.Asked, size-reads.Learnt, nip-reads.Asked, nip-reads.Learnt, tuck-reads.Asked, tuck-reads.Learnt, pick-reads.Asked, pick-reads.Learnt, roll-reads.Asked, roll-reads.Learnt, zk-reads.Asked, zk-reads.Learnt, extend-from-within-reads.Asked, extend-from-within-reads.Learnt, rotate-left-reads.Asked, rotate-left-reads.Learnt, apply-effect-reads.Asked, apply-effect-reads.Learnt) reads.Pre reads.Post Inv-loop μ-loop)
-    → Met (c .before .before .before .before .before .before .before .before .before .before .before .before .before .before .before .before .before .before .before .args .code .now) (c .before .before .before .before .before .before .before .before .before .before .before .before .before .before .before .before .before .before .before .args .log .now) (record { stacks = c .before .before .before .before .before .before .before .before .before .before .before .before .before .before .before .before .before .before .before .args .start .stacks; live = true; at = c .before .before .before .before .before .before .before .before .before .before .before .before .before .before .before .before .before .before .before .args .start .at; last = c .before .before .before .before .before .before .before .before .before .before .before .before .before .before .before .before .before .before .before .args .start .last; rows = c .before .before .before .before .before .before .before .before .before .before .before .before .before .before .before .before .before .before .before .args .start .rows; peak = c .before .before .before .before .before .before .before .before .before .before .before .before .before .before .before .before .before .before .before .args .start .peak; stop = Running }) (c .before .before .before .before .before .before .before .before .before .before .before .before .loop .log) (walkOf (c .before .before .before .before .before .before .before .before .before .before .before .before .loop .t) (c .before .before .before .before .before .before .before .before .before .before .before .before .loop .at) (c .before .before .before .before .before .before .before .before .before .before .before .before .loop .last) (c .before .before .before .before .before .before .before .before .before .before .before .before .loop .rows) (c .before .before .before .before .before .before .before .before .before .before .before .before .loop .peak)) (c .before .before .before .log-row .last .0) (c .before .before .before .before .before .before .d .given .0 .0) (c .before .before .before .before .before .before .before .before .before .higher .result) (c .class-in .result)
+    → Met (rulesBy (c .before .before .before .before .before .before .before .before .before .before .before .before .before .before .before .before .before .before .before .args .classes .now) (c .before .before .before .before .before .before .before .before .before .before .before .before .before .before .before .before .before .before .before .args .limit)) (c .before .before .before .before .before .before .before .before .before .before .before .before .before .before .before .before .before .before .before .args .code .now) (c .before .before .before .before .before .before .before .before .before .before .before .before .before .before .before .before .before .before .before .args .log .now) (record { stacks = c .before .before .before .before .before .before .before .before .before .before .before .before .before .before .before .before .before .before .before .args .start .stacks; live = true; at = c .before .before .before .before .before .before .before .before .before .before .before .before .before .before .before .before .before .before .before .args .start .at; last = c .before .before .before .before .before .before .before .before .before .before .before .before .before .before .before .before .before .before .before .args .start .last; rows = c .before .before .before .before .before .before .before .before .before .before .before .before .before .before .before .before .before .before .before .args .start .rows; peak = c .before .before .before .before .before .before .before .before .before .before .before .before .before .before .before .before .before .before .before .args .start .peak; stop = Running }) (c .before .before .before .before .before .before .before .before .before .before .before .before .loop .log) (walkOf (c .before .before .before .before .before .before .before .before .before .before .before .before .loop .t) (c .before .before .before .before .before .before .before .before .before .before .before .before .loop .at) (c .before .before .before .before .before .before .before .before .before .before .before .before .loop .last) (c .before .before .before .before .before .before .before .before .before .before .before .before .loop .rows) (c .before .before .before .before .before .before .before .before .before .before .before .before .loop .peak)) (c .before .before .before .log-row .last .0) (c .before .before .before .before .before .before .d .given .0 .0) (c .before .before .before .before .before .before .before .before .before .higher .result) (c .class-in .result)
 met c =
     let l = c .before .before .before in
     let d = c .before .before .before .before .before .before in
@@ -62,11 +64,12 @@ met c =
       len = l .log-row .kept .0;
       row = row-written (q .rows) (q .at) (q .t .stacks .mains) (q .t .stacks .alts) true (q .t .stacks) (q .log) (l .log-row .last .0) (l .log-row .ensures) refl refl;
       high = high-of (q .peak) (h .higher .result) true (q .t .stacks) (h .higher .ensures);
-      number = c .class-in .ensures;
+      kind = ap classAt (sym (c .class-in .ensures));
+      small = rw (c .class-in .ensures) (c .before .before .before .before .before .before .before .before .before .before .before .before .before .before .before .before .before .before .before .pre .1 .0 .below _);
     }
 
 skip-requires : tie.Need-skip-requires Inv-loop μ-loop
-skip-requires c κs = (room-there (c .before .before .before .before .before .before .before .pre .0 .0), c .before .before .before .before .before .before .before .pre .1)
+skip-requires c κs = (room-there (c .before .before .before .before .before .before .before .pre .0 .0), c .before .before .before .before .before .before .before .pre .1 .0)
 
 stopped-requires : tie.Need-stopped-requires Inv-loop μ-loop
 stopped-requires c κs = tt
@@ -75,7 +78,7 @@ same-length : tie.Need-same-length Inv-loop μ-loop
 same-length c = c .before .before .before .before .skip .kept .1 .0
 
 returns : tie.Need-returns Inv-loop μ-loop
-returns c = rw (c .stopped .ensures) (runs-from (c .before .before .before .before .before .before .before .before .before .before .before .before .args .start) (not-live _ (c .before .before .before .before .before .before .if1 .taken)) (c .before .before .before .before .before .before .before .before .before .before .before .before .pre .0 .1) (c .before .before .before .before .skip .ensures (c .before .before .before .before .before .before .before .before .before .before .before .before .args .start .stacks) (c .before .before .before .before .before .before .before .before .before .before .before .before .args .start .peak) (c .before .before .before .before .before .before .before .before .before .before .before .before .pre .0 .0 .fit)))
+returns c = rw (c .stopped .ensures) (runs-from (c .before .before .before .before .before .before .before .before .before .before .before .before .args .start) (not-live _ (c .before .before .before .before .before .before .if1 .taken)) (c .before .before .before .before .before .before .before .before .before .before .before .before .pre .0 .1) (c .before .before .before .before .skip .ensures _ (c .before .before .before .before .before .before .before .before .before .before .before .before .args .start .stacks) (c .before .before .before .before .before .before .before .before .before .before .before .before .args .start .peak) (c .before .before .before .before .before .before .before .before .before .before .before .before .pre .0 .0 .fit)))
 
 loop-holds : tie.Need-loop-holds Inv-loop μ-loop
 loop-holds c = walking-none (slice-bytes (c .before .before .before .before .before .before .args .code .now) (c .before .before .before .before .before .shared-slice-known .given)) (ready-running (c .before .before .before .before .before .before .args .start) (c .before .before .before .before .before .before .pre .0 .0))
@@ -171,7 +174,7 @@ returns-7 : tie.Need-returns-7 Inv-loop μ-loop
 returns-7 c = rw (c .stopped7 .ensures) (runs-from (c .before .before .before .before .before .before .before .before .before .before .before .before .before .before .before .before .before .before .before .before .before .before .args .start) (is-live _ (c .before .before .before .before .before .before .before .before .before .before .before .before .before .before .before .before .if1 .left)) (c .before .before .before .before .before .before .before .before .before .before .before .before .before .before .before .before .before .before .before .before .before .before .pre .0 .1) (met-endif (met (c .before .before .before)) (c .before .before .match3 .keys4)))
 
 skip-requires-2 : tie.Need-skip-requires-2 Inv-loop μ-loop
-skip-requires-2 c κs = (room-on (met-return (met (c .before .before)) (c .before .match3 .keys5)), c .before .before .before .before .before .before .before .before .before .before .before .before .before .before .before .before .before .before .before .before .before .pre .1)
+skip-requires-2 c κs = (room-on (met-return (met (c .before .before)) (c .before .match3 .keys5)), c .before .before .before .before .before .before .before .before .before .before .before .before .before .before .before .before .before .before .before .before .before .pre .1 .0)
 
 stopped-requires-8 : tie.Need-stopped-requires-8 Inv-loop μ-loop
 stopped-requires-8 c κs = tt
@@ -180,7 +183,7 @@ same-length-8 : tie.Need-same-length-8 Inv-loop μ-loop
 same-length-8 c = c .before .before .before .before .skip2 .kept .1 .0 ∙ (let m = met (c .before .before .before .before .before .before .before) in m .len ∙ m .walking .len)
 
 returns-8 : tie.Need-returns-8 Inv-loop μ-loop
-returns-8 c = rw (c .stopped8 .ensures) (runs-from (c .before .before .before .before .before .before .before .before .before .before .before .before .before .before .before .before .before .before .before .before .before .before .before .before .before .before .args .start) (is-live _ (c .before .before .before .before .before .before .before .before .before .before .before .before .before .before .before .before .before .before .before .before .if1 .left)) (c .before .before .before .before .before .before .before .before .before .before .before .before .before .before .before .before .before .before .before .before .before .before .before .before .before .before .pre .0 .1) (let w = met-return (met (c .before .before .before .before .before .before .before)) (c .before .before .before .before .before .before .match3 .keys5) in then-dead w (c .before .before .before .before .skip2 .ensures _ _ (w .goes .fit))))
+returns-8 c = rw (c .stopped8 .ensures) (runs-from (c .before .before .before .before .before .before .before .before .before .before .before .before .before .before .before .before .before .before .before .before .before .before .before .before .before .before .args .start) (is-live _ (c .before .before .before .before .before .before .before .before .before .before .before .before .before .before .before .before .before .before .before .before .if1 .left)) (c .before .before .before .before .before .before .before .before .before .before .before .before .before .before .before .before .before .before .before .before .before .before .before .before .before .before .pre .0 .1) (let w = met-return (met (c .before .before .before .before .before .before .before)) (c .before .before .before .before .before .before .match3 .keys5) in then-dead w (c .before .before .before .before .skip2 .ensures _ _ _ (w .goes .fit))))
 
 loop-less : tie.Need-loop-less Inv-loop μ-loop
 loop-less c = nearer (met (c .before))
@@ -195,7 +198,7 @@ enum-told-2 : tie.Need-enum-told-2 Inv-loop μ-loop
 enum-told-2 c = search needs
 
 push-code-requires : tie.Need-push-code-requires Inv-loop μ-loop
-push-code-requires c κs = (search needs, (unknown-suffices, search needs))
+push-code-requires c κs = (search needs, (unknown-suffices, c .before .before .before .before .before .before .before .before .before .before .before .before .before .before .before .before .before .before .before .before .before .before .before .pre .1 .1))
 
 loop-less-2 : tie.Need-loop-less-2 Inv-loop μ-loop
 loop-less-2 c = nearer (met (c .before .before .before .before .before))
@@ -210,7 +213,7 @@ suffices-requires : tie.Need-suffices-requires Inv-loop μ-loop
 suffices-requires c κs = search needs
 
 push-code-requires-2 : tie.Need-push-code-requires-2 Inv-loop μ-loop
-push-code-requires-2 c κs = (met (c .before .before .before .before .before .before .before .before) .walking .goes .fit, (sym (c .before .before .suffices .ensures) ∙ c .before .if2 .taken, omega arith))
+push-code-requires-2 c κs = (met (c .before .before .before .before .before .before .before .before) .walking .goes .fit, (sym (c .before .before .suffices .ensures) ∙ c .before .if2 .taken, c .before .before .before .before .before .before .before .before .before .before .before .before .before .before .before .before .before .before .before .before .before .before .before .before .before .before .before .pre .1 .1))
 
 loop-less-3 : tie.Need-loop-less-3 Inv-loop μ-loop
 loop-less-3 c = nearer (met (c .before .before .before .before .before .before .before .before .before))
@@ -219,7 +222,7 @@ loop-again-3 : tie.Need-loop-again-3 Inv-loop μ-loop
 loop-again-3 c = met-push (met (c .before .before .before .before .before .before .before .before .before)) refl (c .push-code2 .result) (c .before .before .before .before .before .before .before .before .match3 .keys7) (push-is-code _ _ _ (c .push-code2 .result) _ _ (c .before .before .before .before .before .before .v .given .1) (met (c .before .before .before .before .before .before .before .before .before) .stands .held) _ (c .before .before .before .before .code-of .ensures) (sym (c .before .before .before .suffices .ensures) ∙ c .before .before .if2 .taken) (c .push-code2 .ensures))
 
 push-exact-requires : tie.Need-push-exact-requires Inv-loop μ-loop
-push-exact-requires c κs = (met (c .before .before .before .before .before .before .before .before) .walking .goes .fit, (held-exact _ _ _ (c .before .before .before .before .before .v .given .1) (met (c .before .before .before .before .before .before .before .before) .stands .held), (code-wants _ _ (c .before .before .before .code-of .ensures) (sym (c .before .before .suffices .ensures) ∙ c .before .if2 .left), omega arith)))
+push-exact-requires c κs = (met (c .before .before .before .before .before .before .before .before) .walking .goes .fit, (held-exact _ _ _ (c .before .before .before .before .before .v .given .1) (met (c .before .before .before .before .before .before .before .before) .stands .held), (code-wants _ _ (c .before .before .before .code-of .ensures) (sym (c .before .before .suffices .ensures) ∙ c .before .if2 .left), c .before .before .before .before .before .before .before .before .before .before .before .before .before .before .before .before .before .before .before .before .before .before .before .before .before .before .before .pre .1 .1)))
 
 loop-less-4 : tie.Need-loop-less-4 Inv-loop μ-loop
 loop-less-4 c = nearer (met (c .before .before .before .before .before .before .before .before .before))

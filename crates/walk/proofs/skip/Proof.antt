@@ -3,6 +3,8 @@ use mathlib.Core.Path.{_≡_, refl, sym, ap, _∙_}
 use Prim.Native.Nat.{ℕ, _-_}
 use native.Mathlib.Omega.{arith}
 use lib.ListN.{length}
+use Rattle.definition.specs.Classes.{classAt}
+use Rattle.opcodes.specs.View.{rulesBy}
 use Rattle.decode.proofs.Bytes.{slice-bytes}
 use Rattle.decode.proofs.Codes.{code-instruction}
 use Rattle.walk.proofs.Rows.{row-dead}
@@ -17,7 +19,7 @@ use Rattle.opcodes.proofs.class_in.Reads as class-in-reads
 use Rattle.walk.proofs.log_row.Reads as log-row-reads
 
 abbrev Inv-loop : tie.InvT-loop
-Inv-loop code log₀ classes from met written at₀ last₀ rows₀ log at last rows = Skipping code log₀ at₀ last₀ rows₀ log at last rows
+Inv-loop code log₀ classes from met written at₀ last₀ rows₀ log at last rows = Skipping (rulesBy classes) code log₀ at₀ last₀ rows₀ log at last rows
 
 abbrev μ-loop : tie.MeasureT-loop
 μ-loop code log₀ classes from met written at₀ last₀ rows₀ log at last rows = length code - at
@@ -53,31 +55,31 @@ same-length-2 : tie.Need-same-length-2 Inv-loop μ-loop
 same-length-2 c = search needs
 
 returns-2 : tie.Need-returns-2 Inv-loop μ-loop
-returns-2 c = dead-if (c .before .before .before .before .before .before .before .before .before .before .loop .inv) (code-instruction _ _ (c .before .before .before .before .before .before .before .before .before .before .loop .inv .bytes) _ (sym (c .before .before .before .before .before .before .before .before .before .decode-at .ensures .1) ∙ c .before .before .before .before .before .before .before .d .given .1)) (c .before .before .before .before .log-row .kept .0) (row-dead _ _ _ _ (c .before .before .before .before .log-row .ensures)) (c .before .class-in .ensures) (c .match2 .keys1)
+returns-2 c = dead-if (c .before .before .before .before .before .before .before .before .before .before .loop .inv) (code-instruction _ _ (c .before .before .before .before .before .before .before .before .before .before .loop .inv .bytes) _ (sym (c .before .before .before .before .before .before .before .before .before .decode-at .ensures .1) ∙ c .before .before .before .before .before .before .before .d .given .1)) (c .before .before .before .before .log-row .kept .0) (row-dead _ _ _ _ (c .before .before .before .before .log-row .ensures)) (λ limit. ap classAt (sym (c .before .class-in .ensures))) (rw (c .before .class-in .ensures) (c .before .before .before .before .before .before .before .before .before .before .before .before .before .before .pre .1 .below _)) (c .match2 .keys1)
 
 same-length-3 : tie.Need-same-length-3 Inv-loop μ-loop
 same-length-3 c = search needs
 
 returns-3 : tie.Need-returns-3 Inv-loop μ-loop
-returns-3 c = dead-notif (c .before .before .before .before .before .before .before .before .before .before .loop .inv) (code-instruction _ _ (c .before .before .before .before .before .before .before .before .before .before .loop .inv .bytes) _ (sym (c .before .before .before .before .before .before .before .before .before .decode-at .ensures .1) ∙ c .before .before .before .before .before .before .before .d .given .1)) (c .before .before .before .before .log-row .kept .0) (row-dead _ _ _ _ (c .before .before .before .before .log-row .ensures)) (c .before .class-in .ensures) (c .match2 .keys2)
+returns-3 c = dead-notif (c .before .before .before .before .before .before .before .before .before .before .loop .inv) (code-instruction _ _ (c .before .before .before .before .before .before .before .before .before .before .loop .inv .bytes) _ (sym (c .before .before .before .before .before .before .before .before .before .decode-at .ensures .1) ∙ c .before .before .before .before .before .before .before .d .given .1)) (c .before .before .before .before .log-row .kept .0) (row-dead _ _ _ _ (c .before .before .before .before .log-row .ensures)) (λ limit. ap classAt (sym (c .before .class-in .ensures))) (rw (c .before .class-in .ensures) (c .before .before .before .before .before .before .before .before .before .before .before .before .before .before .pre .1 .below _)) (c .match2 .keys2)
 
 same-length-4 : tie.Need-same-length-4 Inv-loop μ-loop
 same-length-4 c = search needs
 
 returns-4 : tie.Need-returns-4 Inv-loop μ-loop
-returns-4 c = dead-else (c .before .before .before .before .before .before .before .before .before .before .loop .inv) (code-instruction _ _ (c .before .before .before .before .before .before .before .before .before .before .loop .inv .bytes) _ (sym (c .before .before .before .before .before .before .before .before .before .decode-at .ensures .1) ∙ c .before .before .before .before .before .before .before .d .given .1)) (c .before .before .before .before .log-row .kept .0) (row-dead _ _ _ _ (c .before .before .before .before .log-row .ensures)) (c .before .class-in .ensures) (c .match2 .keys3)
+returns-4 c = dead-else (c .before .before .before .before .before .before .before .before .before .before .loop .inv) (code-instruction _ _ (c .before .before .before .before .before .before .before .before .before .before .loop .inv .bytes) _ (sym (c .before .before .before .before .before .before .before .before .before .decode-at .ensures .1) ∙ c .before .before .before .before .before .before .before .d .given .1)) (c .before .before .before .before .log-row .kept .0) (row-dead _ _ _ _ (c .before .before .before .before .log-row .ensures)) (λ limit. ap classAt (sym (c .before .class-in .ensures))) (rw (c .before .class-in .ensures) (c .before .before .before .before .before .before .before .before .before .before .before .before .before .before .pre .1 .below _)) (c .match2 .keys3)
 
 same-length-5 : tie.Need-same-length-5 Inv-loop μ-loop
 same-length-5 c = search needs
 
 returns-5 : tie.Need-returns-5 Inv-loop μ-loop
-returns-5 c = dead-endif (c .before .before .before .before .before .before .before .before .before .before .loop .inv) (code-instruction _ _ (c .before .before .before .before .before .before .before .before .before .before .loop .inv .bytes) _ (sym (c .before .before .before .before .before .before .before .before .before .decode-at .ensures .1) ∙ c .before .before .before .before .before .before .before .d .given .1)) (c .before .before .before .before .log-row .kept .0) (row-dead _ _ _ _ (c .before .before .before .before .log-row .ensures)) (c .before .class-in .ensures) (c .match2 .keys4)
+returns-5 c = dead-endif (c .before .before .before .before .before .before .before .before .before .before .loop .inv) (code-instruction _ _ (c .before .before .before .before .before .before .before .before .before .before .loop .inv .bytes) _ (sym (c .before .before .before .before .before .before .before .before .before .decode-at .ensures .1) ∙ c .before .before .before .before .before .before .before .d .given .1)) (c .before .before .before .before .log-row .kept .0) (row-dead _ _ _ _ (c .before .before .before .before .log-row .ensures)) (λ limit. ap classAt (sym (c .before .class-in .ensures))) (rw (c .before .class-in .ensures) (c .before .before .before .before .before .before .before .before .before .before .before .before .before .before .pre .1 .below _)) (c .match2 .keys4)
 
 loop-less : tie.Need-loop-less Inv-loop μ-loop
 loop-less c = let i = (code-instruction _ _ (c .before .before .before .before .before .before .before .before .before .before .loop .inv .bytes) _ (sym (c .before .before .before .before .before .before .before .before .before .decode-at .ensures .1) ∙ c .before .before .before .before .before .before .before .d .given .1)) in omega (arith, i .onward, i .within)
 
 loop-again : tie.Need-loop-again Inv-loop μ-loop
-loop-again c = dead-again (c .before .before .before .before .before .before .before .before .before .before .loop .inv) (code-instruction _ _ (c .before .before .before .before .before .before .before .before .before .before .loop .inv .bytes) _ (sym (c .before .before .before .before .before .before .before .before .before .decode-at .ensures .1) ∙ c .before .before .before .before .before .before .before .d .given .1)) (c .before .before .before .before .log-row .kept .0) (row-dead _ _ _ _ (c .before .before .before .before .log-row .ensures)) (c .before .class-in .ensures) (c .match2 .rest)
+loop-again c = dead-again (c .before .before .before .before .before .before .before .before .before .before .loop .inv) (code-instruction _ _ (c .before .before .before .before .before .before .before .before .before .before .loop .inv .bytes) _ (sym (c .before .before .before .before .before .before .before .before .before .decode-at .ensures .1) ∙ c .before .before .before .before .before .before .before .d .given .1)) (c .before .before .before .before .log-row .kept .0) (row-dead _ _ _ _ (c .before .before .before .before .log-row .ensures)) (λ limit. ap classAt (sym (c .before .class-in .ensures))) (rw (c .before .class-in .ensures) (c .before .before .before .before .before .before .before .before .before .before .before .before .before .before .pre .1 .below _)) (c .match2 .rest)
 
 pub skip-spec : {M : Type 1} → statement M
 skip-spec =
