@@ -1,6 +1,6 @@
 -- What is proved of the class numbers, for a `match` on one.
 use Rattle.definition.specs.Stacks.{builtIn}
-use Rattle.opcodes.specs.View.{GoodRows, rulesBy}
+use Rattle.opcodes.specs.View.{GoodRows, rulesBy, BuiltInRows}
 use lib.ListN.{length, getD, List·getD-eq-default}
 use mathlib.Core.Bool.{Bool, true, false, _&&_}
 use mathlib.Core.List.{List, [], _∷_}
@@ -92,9 +92,12 @@ module _ (rows : List ℕ) (e : length rows ≡ 256) (t : T (every (λ n. eqb (g
       by true k = tabled classNumber rows code (rw e t) (omega (arith, e, ltb→lt code 256 (rw k tt)))
       by false k = let h : 256 ≤ code = nltb→le code 256 (rw k tt) in List·getD-eq-default rows 0 (omega (arith, e, h)) ∙ sym (past-codes code h)
 
-  pub good-rows : GoodRows rows
+  good-rows : GoodRows rows
   good-rows = record { size = e; below = λ code. subst (λ (n : ℕ). n < 32) (sym (row-is code)) (number-below code) }
 
-  pub rules-by : rulesBy rows 244 ≡ builtIn
+  rules-by : rulesBy rows 244 ≡ builtIn
   unfolding classOf
   rules-by = λ i. record { classFor = λ code. classAt (row-is code i); limit = 244 }
+
+  pub built-in-rows : BuiltInRows rows
+  built-in-rows = record { good = good-rows; same = rules-by }

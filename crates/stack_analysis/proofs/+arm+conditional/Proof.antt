@@ -1,6 +1,8 @@
 use mathlib.Core.Path.{_≡_, refl, _∙_}
 use Rattle.stack_analysis.proofs.Cycle.{second, ready-on, ready-there, one-deeper, not-entered, one-arm, two-arms, closed-running, not-else, Arming, arming-none, left-in, same-log, ready-in, arm-ended, falls-in, arm-refused, ready-next, arm-again, arm-nearer}
 use lib.ListN.{length}
+use Rattle.definition.specs.Stacks.{builtIn}
+use Rattle.opcodes.specs.View.{rulesBy}
 use borrow.Author.Needs.{needs}
 use native.Mathlib.Omega.{arith}
 use Prim.Native.Nat.{ℕ, _+_, _-_, _*_, _<_}
@@ -19,10 +21,10 @@ use Rattle.stack_analysis.proofs.+arm+conditional.{statement}
 use Rattle.stack_analysis.proofs.+arm+conditional.Tie.{close}
 
 abbrev μ-arm : Measures 3 arm-kinds.ps ℕ
-μ-arm κs a = 2 * (length (a .0 .now) - a .1 .1 .1 .0 .at)
+μ-arm κs a = 2 * (length (a .0 .now) - a .1 .1 .1 .1 .0 .at)
 
 abbrev μ-conditional : Measures 3 conditional-kinds.ps ℕ
-μ-conditional κs a = 2 * (length (a .0 .now) - a .1 .1 .1 .0 .at) + 1
+μ-conditional κs a = 2 * (length (a .0 .now) - a .1 .1 .1 .1 .0 .at) + 1
 
 abbrev arm-at : ℕ → In 3 arm-kinds.ps
 arm-at t = and 3 arm-kinds.ps (is 3 arm-kinds.ps μ-arm t) arm.Pre
@@ -39,10 +41,10 @@ conditional-below t =
     and 3 conditional-kinds.ps (falls 3 conditional-kinds.ps _<_ μ-conditional t) conditional.Pre
 
 abbrev arm-Inv-loop : arm-lts.InvT-loop
-arm-Inv-loop code log₀ classes depth w₀ log w = Arming code depth w₀ log₀ w log
+arm-Inv-loop code log₀ classes limit depth w₀ log w = Arming (rulesBy classes limit) code depth w₀ log₀ w log
 
 abbrev arm-μ-loop : arm-lts.MeasureT-loop
-arm-μ-loop code log₀ classes depth w₀ log w = left-in code w
+arm-μ-loop code log₀ classes limit depth w₀ log w = left-in code w
 
 arm-plain-requires : (t : ℕ) → arm-lts.Need-plain-requires (
   plain-reads.Asked,
@@ -50,7 +52,7 @@ arm-plain-requires : (t : ℕ) → arm-lts.Need-plain-requires (
   conditional-below t,
   conditional.Post,
 ) (arm-at t) arm.Post arm-Inv-loop arm-μ-loop
-arm-plain-requires t c κs = (c .before .before .before .before .pre .1 .0, c .before .before .before .before .pre .1 .1 .0)
+arm-plain-requires t c κs = (c .before .before .before .before .pre .1 .0, (c .before .before .before .before .pre .1 .1 .0, c .before .before .before .before .pre .1 .1 .1))
 
 arm-loop-holds : (t : ℕ) → arm-lts.Need-loop-holds (
   plain-reads.Asked,
@@ -151,7 +153,7 @@ arm-plain-requires-2 t c κs =
     let q = c .before .before .before .before .before .before .before .before .before .before .before .plain in
     let a = c .before .before .before .before .before .before .before .before .loop .inv in
     let d = c .before .before .before .before .conditional in
-    ((ready-next (s .pre .1 .0 .0) (q .ensures) (q .kept .1 .0) a (d .ensures) (d .kept .1 .0), closed-running _ (d .ensures .closed) (c .before .match2 .keys2)), s .pre .1 .1 .0)
+    ((ready-next (s .pre .1 .0 .0) (q .ensures) (q .kept .1 .0) a (d .ensures) (d .kept .1 .0), closed-running _ (d .ensures .closed) (c .before .match2 .keys2)), (s .pre .1 .1 .0, s .pre .1 .1 .1))
 
 arm-loop-less : (t : ℕ) → arm-lts.Need-loop-less (
   plain-reads.Asked,
@@ -191,7 +193,7 @@ conditional-enter-requires : (t : ℕ) → conditional-lts.Need-enter-requires (
 ) (conditional-at t) conditional.Post
 conditional-enter-requires t c κs =
     let s = c .before .before .before in
-    ((s .pre .1 .0 .0 .fit, s .pre .1 .0 .1), s .pre .1 .1 .1)
+    ((s .pre .1 .0 .0 .fit, s .pre .1 .0 .1), s .pre .1 .1 .2)
 
 conditional-enum-told : (t : ℕ) → conditional-lts.Need-enum-told (
   enter-reads.Asked,
@@ -213,7 +215,7 @@ conditional-returns : (t : ℕ) → conditional-lts.Need-returns (
 ) (conditional-at t) conditional.Post
 conditional-returns t c =
     let s = c .before .before .before .before .before .before in
-    not-entered (s .pre .1 .0 .0) (c .before .before .enter .ensures (s .args .code .now)) _ (c .enum-told .given .1)
+    not-entered (s .pre .1 .0 .0) (c .before .before .enter .ensures _ (s .args .code .now)) _ (c .enum-told .given .1)
 
 conditional-add-arm : (t : ℕ) → conditional-lts.Need-add-arm (
   enter-reads.Asked,
@@ -235,9 +237,9 @@ conditional-arm-requires : (t : ℕ) → conditional-lts.Need-arm-requires (
 ) (conditional-at t) conditional.Post
 conditional-arm-requires t c κs =
     let s = c .before .before .before .before .before .before .before in
-    let e = c .before .before .before .enter .ensures (s .args .code .now) in
+    let e = c .before .before .before .enter .ensures builtIn (s .args .code .now) in
     let run = closed-running _ (e .closed) (c .before .before .match .keys2) in
-    (omega (arith, s .pre .0, e .place .at), ((ready-there (s .pre .1 .0 .0) (e .fit) (e .place), run), (s .pre .1 .1 .0, one-deeper (s .pre .1 .0 .0) e run)))
+    (omega (arith, s .pre .0, e .place .at), ((ready-there (s .pre .1 .0 .0) (e .fit) (e .place), run), (s .pre .1 .1 .0, s .pre .1 .1 .1, one-deeper (s .pre .1 .0 .0) e run)))
 
 conditional-enum-told-2 : (t : ℕ) → conditional-lts.Need-enum-told-2 (
   enter-reads.Asked,
@@ -257,7 +259,7 @@ conditional-add-arm-2 : (t : ℕ) → conditional-lts.Need-add-arm-2 (
   finish-reads.Asked,
   finish-reads.Learnt,
 ) (conditional-at t) conditional.Post
-conditional-add-arm-2 t c = search (needs, c .before .before .before .before .before .before .before .before .before .before .before .before .before .before .pre .1 .1 .1)
+conditional-add-arm-2 t c = search (needs, c .before .before .before .before .before .before .before .before .before .before .before .before .before .before .pre .1 .1 .2)
 
 conditional-arm-requires-2 : (t : ℕ) → conditional-lts.Need-arm-requires-2 (
   enter-reads.Asked,
@@ -269,11 +271,11 @@ conditional-arm-requires-2 : (t : ℕ) → conditional-lts.Need-arm-requires-2 (
 ) (conditional-at t) conditional.Post
 conditional-arm-requires-2 t c κs =
     let s = c .before .before .before .before .before .before .before .before .before .before .before .before .before .before in
-    let e = c .before .before .before .before .before .before .before .before .before .before .enter .ensures (s .args .code .now) in
+    let e = c .before .before .before .before .before .before .before .before .before .before .enter .ensures builtIn (s .args .code .now) in
     let f = c .before .before .before .before .before .before .arm in
     let run = closed-running _ (e .closed) (c .before .before .before .before .before .before .before .before .before .match .keys2) in
     let r = ready-on (ready-there (s .pre .1 .0 .0) (e .fit) (e .place)) (f .ensures .goes) (f .kept .1 .0) in
-    (omega (arith, s .pre .0, e .place .at, f .ensures .goes .low), ((record { fit = search (e .fit, f .ensures .goes .fit); high = r .high; short = r .short; room = r .room }, run), (s .pre .1 .1 .0, one-deeper (s .pre .1 .0 .0) e run)))
+    (omega (arith, s .pre .0, e .place .at, f .ensures .goes .low), ((record { fit = search (e .fit, f .ensures .goes .fit); high = r .high; short = r .short; room = r .room }, run), (s .pre .1 .1 .0, s .pre .1 .1 .1, one-deeper (s .pre .1 .0 .0) e run)))
 
 conditional-finish-requires : (t : ℕ) → conditional-lts.Need-finish-requires (
   enter-reads.Asked,
@@ -307,9 +309,9 @@ conditional-returns-2 : (t : ℕ) → conditional-lts.Need-returns-2 (
 ) (conditional-at t) conditional.Post
 conditional-returns-2 t c =
     let s = c .before .before .before .before .before .before .before .before .before .before .before .before .before .before .before .before .before .before in
-    let e = c .before .before .before .before .before .before .before .before .before .before .before .before .before .before .enter .ensures (s .args .code .now) in
+    let e = c .before .before .before .before .before .before .before .before .before .before .before .before .before .before .enter .ensures _ (s .args .code .now) in
     let run = closed-running _ (e .closed) (c .before .before .before .before .before .before .before .before .before .before .before .before .before .match .keys2) in
-    two-arms (s .pre .1 .0 .0) e run (c .before .before .before .before .before .before .before .before .before .before .arm .ensures) (c .before .before .before .before .before .before .enum-told2 .given .1) (c .before .before .before .arm2 .ensures) (c .finish .ensures (s .args .code .now))
+    two-arms (s .pre .1 .0 .0) e run (c .before .before .before .before .before .before .before .before .before .before .arm .ensures) (c .before .before .before .before .before .before .enum-told2 .given .1) (c .before .before .before .arm2 .ensures) (c .finish .ensures _ (s .args .code .now))
 
 conditional-finish-requires-2 : (t : ℕ) → conditional-lts.Need-finish-requires-2 (
   enter-reads.Asked,
@@ -321,7 +323,7 @@ conditional-finish-requires-2 : (t : ℕ) → conditional-lts.Need-finish-requir
 ) (conditional-at t) conditional.Post
 conditional-finish-requires-2 t c κs =
     let f = c .before .before .before .arm in
-    ((f .ensures .goes .fit, c .before .before .before .before .before .before .before .enter .ensures (c .before .before .before .before .before .before .before .before .before .before .before .args .code .now) .fit), f .ensures .ended)
+    ((f .ensures .goes .fit, c .before .before .before .before .before .before .before .enter .ensures builtIn (c .before .before .before .before .before .before .before .before .before .before .before .args .code .now) .fit), f .ensures .ended)
 
 conditional-same-length-2 : (t : ℕ) → conditional-lts.Need-same-length-2 (
   enter-reads.Asked,
@@ -343,9 +345,9 @@ conditional-returns-3 : (t : ℕ) → conditional-lts.Need-returns-3 (
 ) (conditional-at t) conditional.Post
 conditional-returns-3 t c =
     let s = c .before .before .before .before .before .before .before .before .before .before .before .before in
-    let e = c .before .before .before .before .before .before .before .before .enter .ensures (s .args .code .now) in
+    let e = c .before .before .before .before .before .before .before .before .enter .ensures _ (s .args .code .now) in
     let run = closed-running _ (e .closed) (c .before .before .before .before .before .before .before .match .keys2) in
-    one-arm (s .pre .1 .0 .0) e run (c .before .before .before .before .arm .ensures) (not-else (c .before .before .before .before .arm .result .stop) (c .before .match2 .keys2)) (c .finish2 .ensures (s .args .code .now))
+    one-arm (s .pre .1 .0 .0) e run (c .before .before .before .before .arm .ensures) (not-else (c .before .before .before .before .arm .result .stop) (c .before .match2 .keys2)) (c .finish2 .ensures _ (s .args .code .now))
 
 pub +arm+conditional-spec : {M : Type 1} → statement M
 +arm+conditional-spec = close μ-arm μ-conditional (λ t. arm-lts.spec (
