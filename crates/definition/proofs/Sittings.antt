@@ -81,7 +81,8 @@ pairs-half [] = refl
 pairs-half (number ∷ []) = refl
 pairs-half (number ∷ peak ∷ rest) = omega (arith, pairs-half rest)
 
-peaks-counted : (l : List Pair) → length (acceptedPeaks l) ≡ occurrences 0 l
+-- the accepted peaks are as many as 0 occurs
+pub peaks-counted : (l : List Pair) → length (acceptedPeaks l) ≡ occurrences 0 l
 peaks-counted [] = refl
 peaks-counted (p ∷ l) = by (eqb (p .number) 0) refl (peaks-counted l)
   where
@@ -104,8 +105,8 @@ module _ (sitting : List ℕ) where
   pub countsAddUp : (sums sitting .number ≡ 23 → ⊥) → sumOf (sums sitting .counts) ≡ length sitting / 2
   countsAddUp =
       of-both (λ r. (r .number ≡ 23 → ⊥) → sumOf (r .counts) ≡ length sitting / 2)
-          (λ u h. pairs-counted (pairs sitting) u ∙ pairs-half sitting)
-          (λ h. absurd (h refl))
+      (λ u h. pairs-counted (pairs sitting) u ∙ pairs-half sitting)
+      (λ h. absurd (h refl))
 
   pub countAtZero : sums sitting .count ≡ getD (sums sitting .counts) 0 0
   countAtZero = of-both (λ r. r .count ≡ getD (r .counts) 0 0) (λ u. peaks-counted (pairs sitting)) refl
