@@ -44,13 +44,6 @@ at-most-one true = omega arith
 at-most-one false = omega arith
 
 -- a peak that is summed or not
-at-most-peak : (peak : ℕ) → peak ≤ 4294967295 → (b : Bool) → pick b peak 0 ≤ 4294967295
-at-most-peak peak h true = h
-at-most-peak peak h false = omega arith
-
-pub accepted-fits : (number peak p : ℕ) → p ≡ pick (eqb number 0) peak 0 → peak ≤ 4294967295 → p ≤ 4294967295
-accepted-fits number peak p e h = omega (arith, e, at-most-peak peak h (eqb number 0))
-
 one-peak : (peak : ℕ) (rest : List ℕ) (b : Bool) → sumOf (pick b (peak ∷ rest) rest) ≡ pick b peak 0 + sumOf rest
 one-peak peak rest true = refl
 one-peak peak rest false = omega arith
@@ -135,14 +128,14 @@ module _ (s : List ℕ) where
     room : number ≤ greatestNumber → number < length counts
     room g = omega (arith, g, c .places)
 
-    pub summing-more : k + 1 < length s → number ≤ greatestNumber → peak ≤ 4294967295 → (p : ℕ) → p ≡ pick (eqb number 0) peak 0
+    pub summing-more : k + 1 < length s → number ≤ greatestNumber → peak ≤ 4294967295 → (p : ℕ) → p ≡ pick (eqb number 0) peak 0 → p ≤ peak
         → Summing (k + 2) (set counts number (getD counts number 0 + 1)) (sum + p)
-    summing-more h g w p e = record {
+    summing-more h g w p e m = record {
       even = omega (arith, c .even);
       places = length-set counts number (getD counts number 0 + 1) ∙ c .places;
       few = λ i q. omega (arith, one-more counts number (room g) i, at-most-one (eqb number i), c .few i q);
       counted = λ i q. omega (arith, one-more counts number (room g) i, c .counted i q, ap (occurrences i) (next-pair h));
-      small = omega (arith, c .small, accepted-fits number peak p e w);
+      small = omega (arith, c .small, m, w);
       summed = omega (arith, c .summed, e, ap (λ (l : List Pair). sumOf (acceptedPeaks l)) (next-pair h), one-peak peak (acceptedPeaks (pairs (drop (k + 2) s))) (eqb number 0));
       used = c .used ∙ ap inUse (next-pair h) ∙ rw (le-leb number greatestNumber g);
     }

@@ -1,6 +1,7 @@
 // Sums over a sitting: document 02, request L1.
 ghost use mathlib.Core.Bool.{true};
 ghost use mathlib.Core.Path.{_≡_};
+ghost use Prim.Native.Nat.{_≤_};
 ghost use lib.Dec.{eqb};
 ghost use lib.ListN.{length, getD};
 ghost use Rattle.definition.specs.Basics.{pick};
@@ -46,7 +47,8 @@ fn good_length(n: usize) -> bool
 
 // The peak of an accepted verdict, 0 for that of a refusal.
 fn accepted_peak(number: u32, peak: u32) -> u64
-    ensures { λ r. ⌜ r ≡ pick (eqb number 0) peak 0 ⌝ }
+    ensures same { λ r. ⌜ r ≡ pick (eqb number 0) peak 0 ⌝ }
+    ensures most { λ r. ⌜ r ≤ peak ⌝ }
 {
     if number == 0 {
         return peak as u64;

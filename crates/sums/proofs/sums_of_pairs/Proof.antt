@@ -4,7 +4,7 @@ use native.Mathlib.Omega.{arith}
 use borrow.Author.Needs.{needs}
 use lib.ListN.{length, getD}
 use Rattle.sums.specs.View.{sumsOf}
-use Rattle.sums.proofs.Summing.{Summing, good-bound, good-even, summing-none, pair-within, past-greatest, summing-more, all-summed, accepted-fits}
+use Rattle.sums.proofs.Summing.{Summing, good-bound, good-even, summing-none, pair-within, past-greatest, summing-more, all-summed}
 use Rattle.sums.proofs.sums_of_pairs.Statement.{statement}
 use Rattle.sums.proofs.sums_of_pairs.Tie as tie
 
@@ -76,7 +76,7 @@ add-sum : tie.Need-add-sum Inv-loop μ-loop
 add-sum c =
     let t = c .before .before .before .before in
     let l = t .before in
-    omega (arith, good-bound _ (l .before .before .pre), t .loop-test .taken, l .loop .inv .small, accepted-fits _ _ _ (c .accepted-peak .ensures) (peak-fits (c .before)))
+    omega (arith, good-bound _ (l .before .before .pre), t .loop-test .taken, l .loop .inv .small, c .accepted-peak .ensures .1, peak-fits (c .before))
 
 add-k : tie.Need-add-k Inv-loop μ-loop
 add-k c = search needs
@@ -87,7 +87,7 @@ loop-less c = search needs
 loop-again : tie.Need-loop-again Inv-loop μ-loop
 loop-again c =
     let t = c .before .before .before .before in
-    summing-more _ _ _ _ (t .before .loop .inv) (has-peak t) (c .before .before .if1 .left) (peak-fits (c .before)) _ (c .accepted-peak .ensures)
+    summing-more _ _ _ _ (t .before .loop .inv) (has-peak t) (c .before .before .if1 .left) (peak-fits (c .before)) _ (c .accepted-peak .ensures .0) (c .accepted-peak .ensures .1)
 
 answer-requires-2 : tie.Need-answer-requires-2 Inv-loop μ-loop
 answer-requires-2 c κs = search needs
