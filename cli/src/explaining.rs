@@ -23,7 +23,7 @@ const fn meaning(given: &'static str, figures: &'static str, line: &'static str,
 }
 
 /// The numbers in their order.
-pub const MEANINGS: [Meaning; 23] = [
+pub const MEANINGS: [Meaning; listochur::NUMBERS] = [
     meaning("none of the numbers below is given", "0, 0", "listochur fragment 0 0 51", "accepted, peak 1, end main 1 alt 0"),
     meaning(
         "a fragment has over 10,000 bytes",
@@ -146,6 +146,12 @@ pub const MEANINGS: [Meaning; 23] = [
         "refused 21 at 0 0 8001 8000",
     ),
     Meaning { given: "a sum of the tally would pass 4,294,967,295", figures: "", example: None },
+    meaning(
+        "sums over a sitting: the list has over 8,192 numbers or an odd count of them, or a verdict number above the greatest in use",
+        "",
+        "printf 'name,number,word,entry,offset,first,second,rows,peak,fragments\\na,99,,0,0,0,0,0,0,\\n' | listochur sums -",
+        "refused 23, bad sitting",
+    ),
 ];
 
 /// Said where no bytes get the number from this command.

@@ -1,4 +1,4 @@
--- A refusal in words: document 01, section 7.
+-- A refusal in words: document 01, section 7, and the requests of document 02.
 use mathlib.Core.List.{List, [], _∷_, _++_}
 use Prim.Native.Nat.{ℕ}
 use Prim.Native.String.{String}
@@ -41,6 +41,7 @@ reasons first second =
     ∷ both "dispatch: sum " first ", limit " second
     ∷ both "long paper: length " first ", limit " second
     ∷ text "tally full"
+    ∷ text "bad sitting"
     ∷ []
 
 -- that of one number, and nothing for a number past the table

@@ -1,5 +1,5 @@
-// The words of the verdict numbers: document 01, section 7. A text is written into lent bytes from an index on; the answer is
-// the index after it.
+// The words of the verdict numbers: document 01, section 7, and document 02. A text is written into lent bytes from an index
+// on; the answer is the index after it.
 ghost use mathlib.Core.List.{_++_};
 ghost use Prim.Native.Nat.{_+_, _≤_};
 ghost use lib.ListN.{length};
@@ -37,7 +37,7 @@ fn write_opcode(out: &mut [u8], at: usize, word: &[u8], opcode: u64) -> usize
     text::write_hex(out, next, opcode)
 }
 
-// The word of a number with its figures: document 01, section 7. From 0 to 5, to 11, to 17 and to 22.
+// The word of a number with its figures: document 01, section 7, and document 02. From 0 to 5, to 11, to 17 and to 23.
 fn write_reason_0(out: &mut [u8], at: usize, number: u32, first: u64, second: u64) -> usize
     requires { ⌜ (at + 80 ≤ length (now out)) × ((0 ≤ number) × (number ≤ 5)) ⌝ }
     ensures same { λ r. ⌜ Written (now (out .entry)) at (reason number first second) (now (out .exit)) r ⌝ }
@@ -98,7 +98,7 @@ fn write_reason_12(out: &mut [u8], at: usize, number: u32, first: u64, second: u
 }
 
 fn write_reason_18(out: &mut [u8], at: usize, number: u32, first: u64, second: u64) -> usize
-    requires { ⌜ (at + 80 ≤ length (now out)) × ((18 ≤ number) × (number ≤ 22)) ⌝ }
+    requires { ⌜ (at + 80 ≤ length (now out)) × ((18 ≤ number) × (number ≤ 23)) ⌝ }
     ensures same { λ r. ⌜ Written (now (out .entry)) at (reason number first second) (now (out .exit)) r ⌝ }
     ensures short { λ r. ⌜ r ≤ at + 80 ⌝ }
 {
@@ -107,7 +107,8 @@ fn write_reason_18(out: &mut [u8], at: usize, number: u32, first: u64, second: u
         19 => text::write_word(out, at, b"header"),
         20 => write_both(out, at, b"dispatch: sum ", first, b", limit ", second),
         21 => write_both(out, at, b"long paper: length ", first, b", limit ", second),
-        _ => text::write_word(out, at, b"tally full"),
+        22 => text::write_word(out, at, b"tally full"),
+        _ => text::write_word(out, at, b"bad sitting"),
     }
 }
 
@@ -126,7 +127,7 @@ pub fn write_reason(out: &mut [u8], at: usize, number: u32, first: u64, second: 
     if number < 18 {
         return write_reason_12(out, at, number, first, second);
     }
-    if number < 23 {
+    if number < 24 {
         return write_reason_18(out, at, number, first, second);
     }
     at
