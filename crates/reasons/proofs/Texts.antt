@@ -15,7 +15,7 @@ module _ (first second : ℕ) where
       → Written lent at (reason k first second) new next → Written lent at (reason number first second) new next
   reason-at number k e w = written-as (ap (λ n. reason n first second) (sym e)) w
 
-  pub reason-past : (lent : Bytes) (at number : ℕ) → 23 ≤ number → Written lent at (reason number first second) lent at
+  pub reason-past : (lent : Bytes) (at number : ℕ) → 26 ≤ number → Written lent at (reason number first second) lent at
   unfolding reason
   reason-past lent at number h =
       let n : at ≡ at + 0 = omega arith in
