@@ -839,9 +839,9 @@ impl Stacks {
                 self.mains = m - 4;
                 self.zk_drop(n, limit)
             }
-            Count::Refused(refusal) => Stepped {
+            Count::Refused(why) => Stepped {
                 stacks: self,
-                answer: Answer::Refused(refusal),
+                answer: Answer::Refused(why),
             },
         }
     }
