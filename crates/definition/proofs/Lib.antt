@@ -11,3 +11,4 @@ pub mod TrueOfPaper
 pub mod Witnesses
 pub mod PrintedPapers
 pub mod NumberForm
+pub mod Sittings

@@ -1,5 +1,5 @@
-// The words of the verdict numbers: document 01, section 7. A text is written into lent bytes from an index on; the answer is
-// the index after it.
+// The words of the verdict numbers: document 01, section 7, and document 02. A text is written into lent bytes from an index
+// on; the answer is the index after it.
 ghost use mathlib.Core.List.{_++_};
 ghost use Prim.Native.Nat.{_+_, _≤_};
 ghost use lib.ListN.{length};
@@ -37,7 +37,7 @@ fn write_opcode(out: &mut [u8], at: usize, word: &[u8], opcode: u64) -> usize
     text::write_hex(out, next, opcode)
 }
 
-// The word of a number with its figures: document 01, section 7. From 0 to 5, to 11, to 17, to 23 and to 25.
+// The word of a number with its figures: document 01, section 7, and document 02. From 0 to 5, to 11, to 17, to 23 and to 25.
 fn write_reason_0(out: &mut [u8], at: usize, number: u32, first: u64, second: u64) -> usize
     requires { ⌜ (at + 80 ≤ length (now out)) × ((0 ≤ number) × (number ≤ 5)) ⌝ }
     ensures same { λ r. ⌜ Written (now (out .entry)) at (reason number first second) (now (out .exit)) r ⌝ }
