@@ -73,10 +73,10 @@ pub const MEANINGS: [Meaning; 23] = [
         "refused 8 at offset 2, alt dry",
     ),
     meaning(
-        "PICK, ROLL or ZK takes an index or count that is not known, is no number, or is negative",
+        "PICK, ROLL or ZK takes an index or count from an item that is unknown",
         "0, 0",
         "listochur fragment 2 0 79",
-        "refused 9 at offset 0, index",
+        "refused 9 at offset 0, index: the item is unknown",
     ),
     meaning(
         "the tag of ZK is not known to be the one byte 20 or 21",

@@ -43,8 +43,8 @@ reasons first second =
     ∷ both "long paper: length " first ", limit " second
     ∷ text "tally full"
     ∷ text "bad sitting"
-    ∷ text "crooked number: a needless 00 or 80 ends it (05 00; 80 is a negative zero)"
-    ∷ text "negative index: the sign bit, 80 in the last byte, is set (81 is minus 1)"
+    ∷ text "crooked number: a needless 00 (05 00) or 80 (negative zero)"
+    ∷ text "negative index: top bit of the last byte set (81 is minus 1)"
     ∷ []
 
 -- that of one number, and nothing for a number past the table

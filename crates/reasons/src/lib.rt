@@ -121,12 +121,12 @@ fn write_reason_24(out: &mut [u8], at: usize, number: u32, first: u64, second: u
         24 => text::write_word(
             out,
             at,
-            b"crooked number: a needless 00 or 80 ends it (05 00; 80 is a negative zero)",
+            b"crooked number: a needless 00 (05 00) or 80 (negative zero)",
         ),
         _ => text::write_word(
             out,
             at,
-            b"negative index: the sign bit, 80 in the last byte, is set (81 is minus 1)",
+            b"negative index: top bit of the last byte set (81 is minus 1)",
         ),
     }
 }
