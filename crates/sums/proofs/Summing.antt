@@ -7,12 +7,11 @@ use native.Mathlib.Nat.{add-zero, add-suc, suc-add}
 use native.Mathlib.Omega.{arith}
 use borrow.Author.Tests.{le-leb, lt-leb, leb-true, eqb-true, eqb-false}
 use lib.Dec.{leb, eqb}
-use lib.ListN.{length, drop, getD, set, replicate, length-set, length-replicate, getD-replicate, drop-of-length-le}
+use lib.ListN.{length, drop, getD, set, replicate, length-set, getD-replicate, drop-of-length-le}
 use lib.Seq.{drop-cons, getD-set-same, getD-set-other, ext-getD}
 use Rattle.definition.specs.Basics.{pick}
 use Rattle.definition.specs.Refusals.{greatestNumber}
-use Rattle.definition.specs.Sums.{Pair, pairs, occurrences, occurrencesFrom, acceptedPeaks, sumOf, inUse, maxSitting, goodSitting, goodSums, badSums, sums}
-use Rattle.definition.specs.Sums as D
+use Rattle.definition.specs.Sums.{Pair, pairs, occurrences, occurrencesFrom, acceptedPeaks, sumOf, inUse, maxSitting, goodSitting, badSums, sums}
 use Rattle.definition.proofs.Sittings.{peaks-counted}
 use Rattle.definition.proofs.Sound.{and-true}
 use Rattle.sums.specs.View.{goodLength}
