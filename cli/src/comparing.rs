@@ -276,7 +276,11 @@ mod tests {
             }
         }
         for number in [8, 10, 23, 26] {
-            assert_eq!(beside(b"a", [number, 1, 6, 0, 0], b"refused N", &Answer::Verdict(index)).0, Outcome::Different, "{number}");
+            assert_eq!(
+                beside(b"a", [number, 1, 6, 0, 0], b"refused N", &Answer::Verdict(index)).0,
+                Outcome::Different,
+                "{number}"
+            );
         }
         let (outcome, line) = beside(b"a", [5, 0, 49, 24, 24], b"refused 5 at 0 49 24 24", &Answer::Outside);
         assert_eq!((outcome, line.as_str()), (Outcome::Outside, "a: ours refused 5 at 0 49 24 24, Rust outside, not compared\n"));
