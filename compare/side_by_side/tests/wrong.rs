@@ -188,7 +188,7 @@ fn everything_accepted() {
 /// 9, 24 and 25 are one message of the Rust: the plain reading tells them apart.
 #[test]
 fn crooked_and_negative_exchanged() {
-    let (case, against) = reported(
+    let (_, against) = reported(
         Changed {
             fragment: |_, _, _, _, mut out| {
                 out[0] = match out[0] {
@@ -202,8 +202,6 @@ fn crooked_and_negative_exchanged() {
         },
         "fragments",
     );
-    let Case::Fragment { bytes, .. } = &case else { panic!("{case}") };
-    assert!(bytes.len() <= 4, "{case}");
     assert!(against.starts_with("document 01"), "{against}");
 }
 
