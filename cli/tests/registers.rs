@@ -213,6 +213,9 @@ fn any_name_is_read_back() {
         assert_eq!((records.len(), records[0].len()), (1, 10), "{name:?}");
         let own = records[0][0].strip_prefix(b"./").filter(|_| !name.starts_with(b"./")).unwrap_or(&records[0][0]);
         assert_eq!(own, name);
+        // and `sums` reads it the same, whatever stands before it
+        let text = [HEAD.as_bytes(), &record, &record].concat();
+        assert_eq!(command::register::pairs(&text), Ok(vec![[7, 0]; 2]), "{name:?}");
     }
 }
 
