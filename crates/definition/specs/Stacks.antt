@@ -138,8 +138,8 @@ module _ {A : Type 0} (I : ItemOps A) where
   sizeItem none = I .result
   sizeItem (some l) = numberItem (length l)
 
-  -- an index "readable, not negative". Request L2: "9 stays for an item that is unknown. .. 24 crooked number, when the exact bytes are no
-  -- number by section 1; 25 negative index, when they are one below zero; both at the place of 9."
+  -- an index "readable, not negative". Request L2: "9 stays for an item that is unknown. .. 24 crooked number, when the exact
+  -- bytes are no number by section 1; 25 negative index, when they are one below zero; both at the place of 9."
   abbrev pub readable : Index → (ℕ → Outcome A) → Outcome A
   readable notKnown next = refused badIndex
   readable noNumber next = refused crookedNumber
