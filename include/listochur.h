@@ -34,7 +34,7 @@ extern "C" {
 #define LISTOCHUR_SUMS_PLACES (3 + LISTOCHUR_NUMBERS)
 
 /* How many verdict numbers are in use, from 0 on. */
-#define LISTOCHUR_NUMBERS 24
+#define LISTOCHUR_NUMBERS 26
 
 /* Room for the lines of any paper, and for the words of any verdict. */
 #define LISTOCHUR_LINES_BYTES 4096

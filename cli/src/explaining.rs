@@ -73,10 +73,10 @@ pub const MEANINGS: [Meaning; listochur::NUMBERS] = [
         "refused 8 at offset 2, alt dry",
     ),
     meaning(
-        "PICK, ROLL or ZK takes an index or count that is not known, is no number, or is negative",
+        "PICK, ROLL or ZK takes an index or count from an item that is unknown",
         "0, 0",
         "listochur fragment 2 0 79",
-        "refused 9 at offset 0, index",
+        "refused 9 at offset 0, index: the item is unknown",
     ),
     meaning(
         "the tag of ZK is not known to be the one byte 20 or 21",
@@ -151,6 +151,19 @@ pub const MEANINGS: [Meaning; listochur::NUMBERS] = [
         "",
         "printf 'name,number,word,entry,offset,first,second,rows,peak,fragments\\na,99,,0,0,0,0,0,0,\\n' | listochur sums -",
         "refused 23, bad sitting",
+    ),
+    meaning(
+        "PICK, ROLL or ZK takes an index or count from exact bytes that are no number: the last is a 00 or 80 that is not needed, \
+         as in `05 00` and in `80`, a negative zero",
+        "0, 0",
+        "listochur fragment 1 0 '01 80 79'",
+        "refused 24 at offset 2, crooked number: a needless 00 (05 00) or 80 (negative zero)",
+    ),
+    meaning(
+        "PICK, ROLL or ZK takes an index or count from exact bytes that are a number below zero, as `81`, minus 1",
+        "0, 0",
+        "listochur fragment 1 0 '4f 79'",
+        "refused 25 at offset 1, negative index: top bit of the last byte set (81 is minus 1)",
     ),
 ];
 

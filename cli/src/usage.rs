@@ -127,7 +127,8 @@ Marks papers, asks the Rust about each, and lays the two verdicts side by side: 
 the end. The Rust is the program `driver` of the folder compare/: what the variable LISTOCHUR_DRIVER names, else
 listochur-driver beside this command, else that of the folder built/ that this command comes from. A paper outside the
 limits that the Rust shares is said to be outside, and is no difference. Of 19 and 21, which the Rust does not have,
-the driver has a plain reading of document 01.
+the driver has a plain reading of document 01. Of 9, 24 and 25 the Rust has one message, told as 9: ours and that are
+equal where place and figures are.
 
   PAPER     a file, - for standard input, or a folder: every file in it, in the order of their names
 

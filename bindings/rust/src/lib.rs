@@ -107,7 +107,7 @@ pub const LINES_BYTES: usize = 4_096;
 pub const REASON_BYTES: usize = 80;
 
 /// How many verdict numbers are in use, from 0 on.
-pub const NUMBERS: usize = 24;
+pub const NUMBERS: usize = 26;
 
 /// The verdict on a fragment.
 #[derive(Clone, Copy, Debug, PartialEq, Eq)]

@@ -52,6 +52,26 @@ fn the_marked_papers_of_section_8() {
     }
 }
 
+/// Request L2: an unknown item, bytes that are no number, and one below zero, of PICK, ROLL and ZK's count.
+#[test]
+fn spoilt_indices() {
+    let indices: [(&[u8], u32, Verdict); 10] = [
+        (&[0x79], 2, refused(9, 0, 0, 0, 1)),
+        (&[0x09, 0, 0, 0, 0, 0, 0, 0, 0, 0, 0x79], 1, refused(9, 10, 0, 0, 2)),
+        (&[0x01, 0x80, 0x79], 1, refused(24, 2, 0, 0, 2)),
+        (&[0x02, 0x05, 0x00, 0x7a], 1, refused(24, 3, 0, 0, 2)),
+        (&[0x4f, 0x79], 1, refused(25, 1, 0, 0, 2)),
+        (&[0x02, 0x80, 0x80, 0x7a], 1, refused(25, 3, 0, 0, 2)),
+        (&[0x02, 0x80, 0x00, 0x79], 1, refused(7, 3, 129, 1, 2)),
+        (&[0x79], 0, refused(7, 0, 1, 0, 1)),
+        (&[0x4f, 0x51, 0x51, 0x01, 0x20, 0xa6], 0, refused(25, 5, 0, 0, 5)),
+        (&[0x4f, 0xa6], 9, refused(10, 1, 0, 0, 2)),
+    ];
+    for (fragment, main, verdict) in indices {
+        assert_eq!(analyze(fragment, main, 0, &mut [LENT; 90]), verdict, "{fragment:02x?}");
+    }
+}
+
 const UNKNOWN: Item = Item { value: Value::Unknown, mark: 0 };
 
 /// The item of these bytes.
@@ -285,7 +305,7 @@ fn reasons() {
         "stacks full: total wanted 18, limit 5",
         "main dry: needed 18, had 5",
         "alt dry",
-        "index",
+        "index: the item is unknown",
         "tag",
         "unmodelled: opcode 12",
         "arms differ",
@@ -300,6 +320,8 @@ fn reasons() {
         "long paper: length 18, limit 5",
         "tally full",
         "bad sitting",
+        "crooked number: a needless 00 (05 00) or 80 (negative zero)",
+        "negative index: top bit of the last byte set (81 is minus 1)",
     ];
     assert_eq!(words.len(), NUMBERS);
     for (number, expected) in (0..).zip(words) {

@@ -3,7 +3,7 @@
 use std::fmt;
 use std::panic::{AssertUnwindSafe, catch_unwind};
 
-use reference::{Answer, PaperAnswer};
+use reference::{Answer, PaperAnswer, as_message};
 use tools::definition::{self, Item, Stacks};
 
 use crate::marker::{Marker, UNWRITTEN};
@@ -108,7 +108,8 @@ impl<'m, M: Marker> Checker<'m, M> {
         }
     }
 
-    /// The verdict number, the same on all sides. The Rust is not asked where document 01 answers 1, 4 or 5.
+    /// The verdict number, the same on all sides, but that the Rust has one message for 9, 24 and 25. The Rust is not asked where
+    /// document 01 answers 1, 4 or 5.
     pub fn fragment(&mut self, main: u32, alt: u32, bytes: &[u8], lent: usize) -> Result<u32, Box<Difference>> {
         self.lend(lent);
         let ours = self.marker.analyze(bytes, main, alt, &mut self.ours);
@@ -124,7 +125,7 @@ impl<'m, M: Marker> Checker<'m, M> {
             _ => {
                 let rust = ask(ours, || reference::fragment(bytes, main, alt))?;
                 let rust = [u64::from(rust.number), rust.offset, rust.a, rust.b];
-                if ours[..4] != rust {
+                if [as_message(ours[0]), ours[1], ours[2], ours[3]] != rust {
                     return Err(differ(RUST, &ours[..4], rust));
                 }
             }
@@ -215,7 +216,7 @@ impl<'m, M: Marker> Checker<'m, M> {
             _ => {
                 let rust = ask(ours, || reference::paper(bytes))?;
                 let rust = [u64::from(rust.number), rust.entry, rust.offset, rust.a, rust.b];
-                if ours[..5] != rust {
+                if [as_message(ours[0]), ours[1], ours[2], ours[3], ours[4]] != rust {
                     return Err(differ(RUST_PAPER, &ours[..5], rust));
                 }
             }

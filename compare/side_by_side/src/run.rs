@@ -22,7 +22,7 @@ pub type Found = Box<(Case, Box<Difference>)>;
 pub struct Counts {
     pub cases: u64,
     pub bytes: u64,
-    pub numbers: [u64; 23],
+    pub numbers: [u64; 26],
 }
 
 impl Counts {

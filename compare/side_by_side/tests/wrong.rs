@@ -185,6 +185,42 @@ fn everything_accepted() {
     assert!(against.starts_with("the Rust"), "{against}");
 }
 
+/// 9, 24 and 25 are one message of the Rust: the plain reading tells them apart.
+#[test]
+fn crooked_and_negative_exchanged() {
+    let (_, against) = reported(
+        Changed {
+            fragment: |_, _, _, _, mut out| {
+                out[0] = match out[0] {
+                    24 => 25,
+                    25 => 24,
+                    number => number,
+                };
+                out
+            },
+            ..UNCHANGED
+        },
+        "fragments",
+    );
+    assert!(against.starts_with("document 01"), "{against}");
+}
+
+/// Nothing else is that message.
+#[test]
+fn a_tag_told_as_a_crooked_number() {
+    let (_, against) = reported(
+        Changed {
+            fragment: |_, _, _, _, mut out| {
+                out[0] = if out[0] == 10 { 24 } else { out[0] };
+                out
+            },
+            ..UNCHANGED
+        },
+        "fragments",
+    );
+    assert!(against.starts_with("the Rust"), "{against}");
+}
+
 #[test]
 fn a_row_is_missing() {
     let (case, against) = reported(

@@ -1,5 +1,6 @@
 -- What is proved of the definitions.
 pub mod MarkedPapers
+pub mod SpoiltIndices
 pub mod Replays
 pub mod Related
 pub mod Arms

@@ -123,9 +123,10 @@ unfolding reason
 returns-6 c =
     let w = c .before .before in
     let m = w .before .before .before in
-    let s = m .before .before in (
+    let s = m .before .before in
+    let r = m .match .rest in (
       reason-at (s .args .first) (s .args .second) (s .args .number) 23
-          (omega (arith, s .pre, m .match .rest .1, m .match .rest .0 .1, m .match .rest .0 .0 .1, m .match .rest .0 .0 .0 .1, m .match .rest .0 .0 .0 .0 .1))
+          (omega (arith, s .pre, r .1, r .0 .1, r .0 .0 .1, r .0 .0 .0 .1, r .0 .0 .0 .0 .1))
           (w .write-word3 .ensures),
       omega (arith, w .write-word3 .ensures .ends),
     )
