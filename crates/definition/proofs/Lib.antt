@@ -7,6 +7,7 @@ pub mod Sound
 pub mod Complete
 pub mod TrueOfEveryReplay
 pub mod TrueOfPaper
+pub mod LongData
 pub mod Witnesses
 pub mod PrintedPapers
 pub mod NumberForm

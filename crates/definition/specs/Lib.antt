@@ -8,3 +8,4 @@ pub mod Walk
 pub mod Replay
 pub mod Papers
 pub mod Lines
+pub mod Blank
