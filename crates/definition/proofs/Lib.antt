@@ -8,6 +8,8 @@ pub mod Complete
 pub mod TrueOfEveryReplay
 pub mod TrueOfPaper
 pub mod LongData
+pub mod Blanked
+pub mod LongDataWitnesses
 pub mod Witnesses
 pub mod PrintedPapers
 pub mod NumberForm
