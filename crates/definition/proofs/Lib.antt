@@ -1,5 +1,6 @@
 -- What is proved of the definitions.
 pub mod MarkedPapers
+pub mod LongDataWitnesses
 pub mod Replays
 pub mod Related
 pub mod Arms
@@ -9,7 +10,6 @@ pub mod TrueOfEveryReplay
 pub mod TrueOfPaper
 pub mod LongData
 pub mod Blanked
-pub mod LongDataWitnesses
 pub mod Witnesses
 pub mod PrintedPapers
 pub mod NumberForm

@@ -5,7 +5,7 @@ use mathlib.Core.List.{List, [], _∷_, _++_}
 use mathlib.Core.Logic.{_⊎_, inl, inr}
 use mathlib.Core.Option.{Option, none, some}
 use mathlib.Core.Path.{_≡_, refl, sym, ap, subst, _∙_}
-use Prim.Native.Nat.{ℕ, zero, suc, _+_, _*_, _≤_, max}
+use Prim.Native.Nat.{ℕ, zero, suc, _+_, _*_, _≤_, _<_, max}
 use native.Mathlib.Omega.{arith}
 use borrow.Author.Tests.{leb-true, lt-leb}
 use lib.Dec.{ltb, leb, eqb}
@@ -24,11 +24,9 @@ use Rattle.definition.proofs.TrueOfPaper.{within-front}
 
 -- the marker knows nothing of long data
 pub known-long : (l : Bytes) → long (length l) ≡ true → known l ≡ unknown
-known-long l h = none-kept (leb (length l) 8) refl
-  where
-    none-kept : (b : Bool) → leb (length l) 8 ≡ b → pick b (exact l) unknown ≡ unknown
-    none-kept true e = absurd (omega (arith, leb-true (length l) 8 e, leb-true 9 (length l) h))
-    none-kept false e = refl
+known-long l h =
+    let above : 8 < length l = omega (arith, leb-true _ (length l) h) in
+    rw lt-leb
 
 -- so it knows the same of the literals of alike instructions
 known-alike : (i j : Instruction) → AlikeInstructions i j → known (i .literal) ≡ known (j .literal)

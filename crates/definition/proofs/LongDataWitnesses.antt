@@ -67,7 +67,7 @@ unfolding blank decode front
 tailsAlike = ((refl, bothMalformed 0), λ h. absurd (omega (arith, ap (λ l. getD l 1 0) h)))
 
 -- A paper with one entry, of one parameter, and one state field; its body, at 15, is 4c 09, nine bytes and 6d (drops two); its
--- initialiser, at 28, is 4c 0a, which is broken off. Byte 14 is in no part.
+-- initialiser, at 27, is 4c 0a, which is broken off. Byte 14 is in no part.
 abbrev half : ℕ → ℕ → ℕ → Bytes
 half between sig state =
     0x01 ∷ 0x00 ∷ 0x01 ∷ 0x00 ∷ 0x1b ∷ 0x00 ∷ 0x05 ∷ 0x00 ∷ 0x01 ∷ 0x00 ∷ 0x0f ∷ 0x00 ∷ 0x0c ∷ 0x00 ∷ between ∷
