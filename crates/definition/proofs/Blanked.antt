@@ -15,7 +15,7 @@ use Rattle.definition.specs.Decoding.{Instruction, number, Front, whole,
 use Rattle.definition.specs.Stacks.{Rules}
 use Rattle.definition.specs.Walk.{analysis}
 use Rattle.definition.specs.Papers.{Part, bytesOf, initialiser, entries, bodies, markPaper}
-use Rattle.definition.specs.Blank.{long, lengthBytes, dataBytes, blankFrom, blank, Blanked, AlikeInstructions, AlikeCode, bothEnd, bothMalformed, bothThen, Alike, EachPart, Papers, TellsNothing}
+use Rattle.definition.specs.Blank.{long, lengthBytes, dataBytes, blankFrom, blank, Blanked, AlikeInstructions, AlikeCode, bothEnd, bothMalformed, bothThen, Alike, EachPart, RelatedPapers, TellsNothing}
 use Rattle.definition.proofs.TrueOfPaper.{within-front}
 use Rattle.definition.proofs.LongData.{analysis-alike, paper-alike, malformed-alike}
 
@@ -195,7 +195,7 @@ pub blankedAlike : (f g : Bytes) → Blanked f g → Alike f g
 unfolding blank decode
 blankedAlike f g h = (sym (length-blank 0 0 f) ∙ ap length h ∙ length-blank 0 0 g, blanked-code 0 0 0 0 refl f g h)
 
-pub blankedAlikeOfPapers : (p q : Bytes) → Papers Blanked p q → Papers Alike p q
+pub blankedAlikeOfPapers : (p q : Bytes) → RelatedPapers Blanked p q → RelatedPapers Alike p q
 blankedAlikeOfPapers p q a = record { size = a .size; header = a .header; parts = λ good. each (initialiser p ∷ bodies (entries p)) (a .parts good) }
   where
     each : (xs : List Part) → EachPart Blanked p q xs → EachPart Alike p q xs
@@ -207,7 +207,7 @@ pub longDataTellsNothing : (R : Rules) (f g : Bytes) → Blanked f g → (main a
 longDataTellsNothing R f g h = analysis-alike R f g (blankedAlike f g h)
 
 -- .. and so have related papers
-pub longDataTellsNothingOfPapers : (R : Rules) (p q : Bytes) → Papers Blanked p q → (log : List ℕ) → markPaper R p log ≡ markPaper R q log
+pub longDataTellsNothingOfPapers : (R : Rules) (p q : Bytes) → RelatedPapers Blanked p q → (log : List ℕ) → markPaper R p log ≡ markPaper R q log
 longDataTellsNothingOfPapers R p q h = paper-alike R p q (blankedAlikeOfPapers p q h)
 
 pub blankedTellsNothing : (R : Rules) → TellsNothing R Blanked

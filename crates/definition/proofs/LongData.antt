@@ -17,7 +17,7 @@ use Rattle.definition.specs.Refusals.{unmodelledOpcode, longFragment, ma
 use Rattle.definition.specs.Stacks.{Rules, Stacks, Outcome, refused, pushItem, step}
 use Rattle.definition.specs.Walk.{Item, unknown, exact, known, marking, Arm, dead, live, Frame, Move, moves, refuses, onOutcome, effect, State, met, WalkEnd, follow, walk, Verdict, Marked, refusedEarly, begin, tested, analysisOf, unknowns, analysis}
 use Rattle.definition.specs.Papers.{field, Part, partAt, bytesOf, Entry, entriesAt, entryCount, stateFields, initialiser, entries, headerSize, goodParts, bodies, goodHeader, Fragment, bodyFragments, mostParameters, stateFragments, fragments, PaperMarked, refusedPaper, after, markFrom, dispatch, markPaper}
-use Rattle.definition.specs.Blank.{long, AlikeInstructions, AlikeCode, bothEnd, bothMalformed, bothThen, Alike, EachPart, Papers, TellsNothing}
+use Rattle.definition.specs.Blank.{long, AlikeInstructions, AlikeCode, bothEnd, bothMalformed, bothThen, Alike, EachPart, RelatedPapers, TellsNothing}
 use Rattle.definition.proofs.TrueOfPaper.{within-front}
 
 -- A step
@@ -203,7 +203,7 @@ module _ (p q : Bytes) (begins : take (headerSize p) p ≡ take (headerSize p) q
   dispatch-alike R h k [] log = marked-alike R 0 0 0 h log
   dispatch-alike R h k (e ∷ es) log = rw (state-same, dispatch-alike R h (k + 1) es log)
 
-pub paper-alike : (R : Rules) (p q : Bytes) → Papers Alike p q → (log : List ℕ) → markPaper R p log ≡ markPaper R q log
+pub paper-alike : (R : Rules) (p q : Bytes) → RelatedPapers Alike p q → (log : List ℕ) → markPaper R p log ≡ markPaper R q log
 unfolding markPaper
 paper-alike R p q a log = rw (a .size, ← (header-same p q (a .header) (a .size)), ← (entries-same p q (a .header)))
     (ap (λ m. pick (ltb maxPaper (length q)) (refusedPaper 0 (longPaper (length q)) log) m) (good (goodHeader p) refl))

@@ -13,7 +13,7 @@ use Rattle.definition.specs.Refusals.{accepted, answer}
 use Rattle.definition.specs.Stacks.{builtIn, pushItem, dropItems, copyItems, step, plainStep}
 use Rattle.definition.specs.Walk.{live, dead, unknown, logRow, walk, analysisOf, Marked, analysis}
 use Rattle.definition.specs.Papers.{PaperMarked, goodHeader, fragments, markFrom, dispatch, markPaper}
-use Rattle.definition.specs.Blank.{blank, Blanked, bothMalformed, Alike, Papers}
+use Rattle.definition.specs.Blank.{blank, Blanked, bothMalformed, Alike, RelatedPapers}
 
 -- Related pairs
 
@@ -73,7 +73,7 @@ half between sig state =
     0x01 ∷ 0x00 ∷ 0x01 ∷ 0x00 ∷ 0x1b ∷ 0x00 ∷ 0x05 ∷ 0x00 ∷ 0x01 ∷ 0x00 ∷ 0x0f ∷ 0x00 ∷ 0x0c ∷ 0x00 ∷ between ∷
     0x4c ∷ 0x09 ∷ replicate 9 sig ++ 0x6d ∷ 0x4c ∷ 0x0a ∷ replicate 3 state
 
-pub papersRelated : Papers Blanked (half 0x00 0x5a 0x07) (half 0xff 0x00 0x08)
+pub papersRelated : RelatedPapers Blanked (half 0x00 0x5a 0x07) (half 0xff 0x00 0x08)
 unfolding blank goodHeader
 papersRelated = record { size = refl; header = refl; parts = λ good. (refl, (refl, tt)) }
 

@@ -66,7 +66,7 @@ EachPart Related p q (x ∷ xs) = (Related (bytesOf p x) (bytesOf q x)) × (Each
 
 -- "whole papers with the same header that differ in the same way": of one length, with one header as far as there is one, and,
 -- where it is good, with parts that are related. Bytes in no part may differ.
-pub record Papers (Related : Bytes → Bytes → Type 0) (p q : Bytes) : Type 0 where
+pub record RelatedPapers (Related : Bytes → Bytes → Type 0) (p q : Bytes) : Type 0 where
   pub size : length p ≡ length q
   pub header : take (headerSize p) p ≡ take (headerSize p) q
   pub parts : goodHeader p ≡ true → EachPart Related p q (initialiser p ∷ bodies (entries p))
@@ -75,4 +75,4 @@ pub record Papers (Related : Bytes → Bytes → Type 0) (p q : Bytes) : Type 0 
 -- refused fragments too .. and for whole papers": of either relation.
 pub record TellsNothing (R : Rules) (Related : Bytes → Bytes → Type 0) : Type 0 where
   pub fragments : (f g : Bytes) → Related f g → (main alt : ℕ) (log : List ℕ) → analysis R f main alt log ≡ analysis R g main alt log
-  pub papers : (p q : Bytes) → Papers Related p q → (log : List ℕ) → markPaper R p log ≡ markPaper R q log
+  pub papers : (p q : Bytes) → RelatedPapers Related p q → (log : List ℕ) → markPaper R p log ≡ markPaper R q log

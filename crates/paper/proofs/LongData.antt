@@ -3,7 +3,7 @@
 use mathlib.Core.List.{List}
 use mathlib.Core.Path.{_≡_, refl, sym, ap, _∙_}
 use Rattle.definition.specs.Basics.{Bytes}
-use Rattle.definition.specs.Blank.{Blanked, Papers}
+use Rattle.definition.specs.Blank.{Blanked, RelatedPapers}
 use Rattle.definition.specs.Papers as P
 use Rattle.definition.specs.Papers.{PaperMarked, markPaper}
 use Rattle.definition.specs.Stacks.{builtIn}
@@ -33,7 +33,7 @@ paperOf-one r s e = ap back e
       peak = v .verdict .peak;
     }
 
-pub markPaperTellsNothing : (p q : Bytes) → Papers Blanked p q → (log : List ℕ) (r s : PaperVerdict) (rOut sOut : List ℕ)
+pub markPaperTellsNothing : (p q : Bytes) → RelatedPapers Blanked p q → (log : List ℕ) (r s : PaperVerdict) (rOut sOut : List ℕ)
     → PaperMarkedAs p log r rOut → PaperMarkedAs q log s sOut → (r ≡ s) × (rOut ≡ sOut)
 markPaperTellsNothing p q h log r s rOut sOut a b =
     let e : markPaper builtIn p log ≡ markPaper builtIn q log = longDataTellsNothingOfPapers builtIn p q h log in
