@@ -2,8 +2,7 @@
 use mathlib.Core.Bool.{Bool, true, false, _&&_}
 use mathlib.Core.List.{List, [], _∷_}
 use mathlib.Core.Logic.{_⊎_, inl, inr}
-use mathlib.Core.Option.{Option}
-use mathlib.Core.Path.{_≡_, refl, sym, ap, subst, _∙_}
+use mathlib.Core.Path.{_≡_, refl, sym, ap, _∙_}
 use Prim.Native.Nat.{ℕ, zero, suc, _+_, _-_, _≤_}
 use native.Mathlib.Omega.{arith}
 use borrow.Author.Tests.{leb-true, eqb-true, ne-eqb, le-leb}
@@ -11,11 +10,11 @@ use lib.Dec.{leb, eqb}
 use lib.ListN.{length, take, drop, getD, length-drop}
 use lib.Seq.{length-take-le}
 use Rattle.definition.specs.Basics.{Bytes, pick}
-use Rattle.definition.specs.Decoding.{Instruction, number, Front, whole, short, alone, pushes, front, Code, onFront, decodeFrom, decode, malformedAt}
+use Rattle.definition.specs.Decoding.{number, Front, whole, short, alone, pushes, front, Code, onFront, decodeFrom, decode, malformedAt}
 use Rattle.definition.specs.Stacks.{Rules}
 use Rattle.definition.specs.Walk.{analysis}
 use Rattle.definition.specs.Papers.{Part, bytesOf, initialiser, entries, bodies, markPaper}
-use Rattle.definition.specs.Blank.{long, lengthBytes, dataBytes, blankFrom, blank, Blanked, AlikeInstructions, AlikeCode, bothEnd, bothMalformed, bothThen, Alike, EachPart, RelatedPapers, TellsNothing}
+use Rattle.definition.specs.Blank.{long, lengthBytes, dataBytes, blankFrom, blank, Blanked, AlikeCode, bothEnd, bothMalformed, bothThen, Alike, EachPart, RelatedPapers, TellsNothing}
 use Rattle.definition.proofs.TrueOfPaper.{within-front}
 use Rattle.definition.proofs.LongData.{analysis-alike, paper-alike, malformed-alike}
 

@@ -1,22 +1,21 @@
 -- Request L3 of the wider relation: alike fragments have the same verdict and the same log, and so have papers of alike parts.
 -- One law to a layer: step, walk, analysis, paper.
-use mathlib.Core.Bool.{Bool, true, false, _&&_}
+use mathlib.Core.Bool.{Bool, true, false}
 use mathlib.Core.List.{List, [], _∷_, _++_}
 use mathlib.Core.Logic.{_⊎_, inl, inr}
 use mathlib.Core.Option.{Option, none, some}
 use mathlib.Core.Path.{_≡_, refl, sym, ap, subst, _∙_}
-use Prim.Native.Nat.{ℕ, zero, suc, _+_, _*_, _≤_, _<_, max}
+use Prim.Native.Nat.{ℕ, zero, suc, _+_, _*_, _≤_, _<_}
 use native.Mathlib.Omega.{arith}
 use borrow.Author.Tests.{leb-true, lt-leb}
-use lib.Dec.{ltb, leb, eqb}
 use lib.ListN.{length, take, drop}
 use Rattle.definition.specs.Basics.{Bytes, pick}
-use Rattle.definition.specs.Decoding.{Instruction, number, Code, ends, malformed, then, decode, instructions, malformedAt}
+use Rattle.definition.specs.Decoding.{Instruction, number, Code, decode, instructions, malformedAt}
 use Rattle.definition.specs.Classes.{Class, IF, NOTIF, ELSE, ENDIF, RETURN, ordinary, plain, Ordinary, unmodelled, push, nothing, TOALT, FROMALT, DEPTH, SIZE, NIP, TUCK, PICK, ROLL, ZK, copies, rotates}
-use Rattle.definition.specs.Refusals.{unmodelledOpcode, longFragment, maxFragment, startTooLarge, maxPaper, badHeader, longPaper, dispatchTooLarge}
-use Rattle.definition.specs.Stacks.{Rules, Stacks, Outcome, refused, pushItem, step}
-use Rattle.definition.specs.Walk.{Item, unknown, exact, known, marking, Arm, dead, live, Frame, Move, moves, refuses, onOutcome, effect, State, met, WalkEnd, follow, walk, Verdict, Marked, refusedEarly, begin, tested, analysisOf, unknowns, analysis}
-use Rattle.definition.specs.Papers.{field, Part, partAt, bytesOf, Entry, entriesAt, entryCount, stateFields, initialiser, entries, headerSize, goodParts, bodies, goodHeader, Fragment, bodyFragments, mostParameters, stateFragments, fragments, PaperMarked, refusedPaper, after, markFrom, dispatch, markPaper}
+use Rattle.definition.specs.Refusals.{unmodelledOpcode}
+use Rattle.definition.specs.Stacks.{Rules, Stacks, refused, pushItem, step}
+use Rattle.definition.specs.Walk.{Item, unknown, known, marking, Arm, dead, live, Frame, Move, moves, refuses, onOutcome, effect, State, met, WalkEnd, follow, walk, begin, tested, analysisOf, unknowns, analysis}
+use Rattle.definition.specs.Papers.{field, Entry, entriesAt, entryCount, stateFields, initialiser, entries, headerSize, bodies, goodHeader, Fragment, bodyFragments, stateFragments, fragments, markFrom, dispatch, markPaper}
 use Rattle.definition.specs.Blank.{long, AlikeInstructions, AlikeCode, bothEnd, bothMalformed, bothThen, Alike, EachPart, RelatedPapers, TellsNothing}
 use Rattle.definition.proofs.TrueOfPaper.{within-front}
 
@@ -119,31 +118,18 @@ each-append : {fs gs fs′ gs′ : List Fragment} → EachAlike fs gs → EachAl
 each-append noMore e = e
 each-append (more main alt a h) e = more main alt a (each-append h e)
 
-marked-alike : (R : Rules) (k rows peak : ℕ) {fs gs : List Fragment} → EachAlike fs gs → (log : List ℕ)
+marked-alike : (R : Rules) {fs gs : List Fragment} → EachAlike fs gs → (k rows peak : ℕ) (log : List ℕ)
     → markFrom R k rows peak fs log ≡ markFrom R k rows peak gs log
 unfolding markFrom
-marked-alike R k rows peak noMore log = refl
-marked-alike R k rows peak (more {f = f} {g = g} main alt {fs = fs} {gs = gs} a h) log =
-    rw (analysis-alike R f g a main alt (drop (3 * rows) log)) (ap (λ r. pick (eqb (v .answer .number) 0) (after v r) stop)
-    (marked-alike R (k + 1) (rows + v .rows) (max peak (v .peak)) h out))
+marked-alike R noMore k rows peak log = refl
+marked-alike R (more {f = f} {g = g} main alt {fs = fs} {gs = gs} a h) k rows peak log = by (λ k rows peak log. marked-alike R h k rows peak log)
   where
-    m : Marked
-    m = analysis R g main alt (drop (3 * rows) log)
+    by : ((k rows peak : ℕ) (log : List ℕ) → markFrom R k rows peak fs log ≡ markFrom R k rows peak gs log)
+        → markFrom R k rows peak (record { bytes = f; main = main; alt = alt } ∷ fs) log
+        ≡ markFrom R k rows peak (record { bytes = g; main = main; alt = alt } ∷ gs) log
+    by onward = rw (analysis-alike R f g a main alt (drop (3 * rows) log), onward)
 
-    v : Verdict
-    v = m .verdict
-
-    out : List ℕ
-    out = take (3 * rows) log ++ m .log
-
-    stop : PaperMarked
-    stop = record {
-      paper = record { entry = k; verdict = record { answer = v .answer; rows = rows + v .rows; peak = 0; end = dead } };
-      verdicts = [];
-      log = out;
-    }
-
--- papers of one length that begin with the same bytes, as many as the first one's header has
+-- papers that begin with the same bytes, as many as the first one's header has
 module _ (p q : Bytes) (begins : take (headerSize p) p ≡ take (headerSize p) q) where
   field-same : (offset : ℕ) → offset + 2 ≤ headerSize p → field p offset ≡ field q offset
   field-same offset h =
@@ -160,58 +146,51 @@ module _ (p q : Bytes) (begins : take (headerSize p) p ≡ take (headerSize p) q
   state-same : stateFields p ≡ stateFields q
   state-same = field-same 2 (omega arith)
 
-  initialiser-same : initialiser p ≡ initialiser q
-  initialiser-same = rw (field-same 4 (omega arith), field-same 6 (omega arith))
-
   entries-same : entries p ≡ entries q
   entries-same = entries-from (entryCount p) 8 (omega arith) ∙ ap (entriesAt q 8) count-same
 
   -- the same header is good in both or in neither
   header-same : length p ≡ length q → goodHeader p ≡ goodHeader q
   unfolding goodHeader
-  header-same e =
-      ap (λ n. good n (entryCount p) (initialiser p) (entries p)) e ∙ ap (λ n. good (length q) n (initialiser p) (entries p)) count-same
-      ∙ ap (λ x. good (length q) (entryCount q) x (entries p)) initialiser-same ∙ ap (good (length q) (entryCount q) (initialiser q)) entries-same
-    where
-      good : ℕ → ℕ → Part → List Entry → Bool
-      good size count x es = leb 8 size && (leb 1 count && (leb count 32 && (leb (8 + 6 * count) size && goodParts (8 + 6 * count) size (x ∷ bodies es))))
+  header-same e = rw (e, entries-same, field-same 4 (omega arith), field-same 6 (omega arith), count-same)
 
   each-body : (es : List Entry) → EachPart Alike p q (bodies es) → EachAlike (bodyFragments p es) (bodyFragments q es)
   each-body [] h = noMore
-  each-body (e ∷ es) h = rw state-same (more (e .parameters + stateFields q) 0 (h .0) (each-body es (h .1)))
+  each-body (e ∷ es) h = rw state-same (more _ _ (h .0) (each-body es (h .1)))
 
   fragments-alike : EachPart Alike p q (initialiser p ∷ bodies (entries p)) → EachAlike (fragments p) (fragments q)
   unfolding fragments
-  fragments-alike h = subst (EachAlike (fragments p)) same (each-append (each-body (entries p) (h .1)) (state (eqb (initialiser p .size) 0)))
+  fragments-alike h = each-append (subst (λ es. EachAlike (bodyFragments p (entries p)) (bodyFragments q es)) entries-same (each-body (entries p) (h .1))) state
     where
-      stateOf : Bool → Bytes → Part → List Entry → List Fragment
-      stateOf b paper x es = pick b [] (record { bytes = bytesOf paper x; main = mostParameters es; alt = 1 } ∷ [])
+      one : (b : Bool) (main alt : ℕ) (f g : Bytes) → Alike f g
+          → EachAlike (pick b [] (record { bytes = f; main = main; alt = alt } ∷ [])) (pick b [] (record { bytes = g; main = main; alt = alt } ∷ []))
+      one true main alt f g a = noMore
+      one false main alt f g a = more main alt a noMore
 
-      all : Part → List Entry → List Fragment
-      all x es = bodyFragments q es ++ stateOf (eqb (x .size) 0) q x es
-
-      same : all (initialiser p) (entries p) ≡ fragments q
-      same = ap (λ x. all x (entries p)) initialiser-same ∙ ap (all (initialiser q)) entries-same
-
-      state : (b : Bool) → EachAlike (stateOf b p (initialiser p) (entries p)) (stateOf b q (initialiser p) (entries p))
-      state true = noMore
-      state false = more (mostParameters (entries p)) 1 (h .0) noMore
+      state : EachAlike (stateFragments p) (stateFragments q)
+      state = rw (← (field-same 4 (omega arith)), ← (field-same 6 (omega arith)), ← entries-same) (search (one, h .0))
 
   dispatch-alike : (R : Rules) → EachAlike (fragments p) (fragments q) → (k : ℕ) (es : List Entry) (log : List ℕ)
       → dispatch R p k es log ≡ dispatch R q k es log
   unfolding dispatch
-  dispatch-alike R h k [] log = marked-alike R 0 0 0 h log
+  dispatch-alike R h k [] log = marked-alike R h 0 0 0 log
   dispatch-alike R h k (e ∷ es) log = rw (state-same, dispatch-alike R h (k + 1) es log)
 
 pub paper-alike : (R : Rules) (p q : Bytes) → RelatedPapers Alike p q → (log : List ℕ) → markPaper R p log ≡ markPaper R q log
 unfolding markPaper
-paper-alike R p q a log = rw (a .size, ← (header-same p q (a .header) (a .size)), ← (entries-same p q (a .header)))
-    (ap (λ m. pick (ltb maxPaper (length q)) (refusedPaper 0 (longPaper (length q)) log) m) (good (goodHeader p) refl))
+paper-alike R p q a log = by (goodHeader p) refl
   where
-    good : (b : Bool) → goodHeader p ≡ b
-        → pick b (dispatch R p 0 (entries p) log) (refusedPaper 0 badHeader log) ≡ pick b (dispatch R q 0 (entries p) log) (refusedPaper 0 badHeader log)
-    good true e = dispatch-alike p q (a .header) R (fragments-alike p q (a .header) (a .parts e)) 0 (entries p) log
-    good false e = refl
+    good : goodHeader p ≡ goodHeader q
+    good = header-same p q (a .header) (a .size)
+
+    by : (b : Bool) → goodHeader p ≡ b → markPaper R p log ≡ markPaper R q log
+    by true e = rw (
+      a .size,
+      good,
+      ← (entries-same p q (a .header)),
+      dispatch-alike p q (a .header) R (fragments-alike p q (a .header) (a .parts e)) 0 (entries p) log,
+    )
+    by false e = rw (a .size, ← good, e)
 
 -- Alike fragments, and papers of alike parts, have the same verdict and the same log.
 pub alikeTellsNothing : (R : Rules) → TellsNothing R Alike

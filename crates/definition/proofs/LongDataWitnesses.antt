@@ -1,11 +1,10 @@
 -- Request L3 by example: related pairs that are accepted, refused in the walk and malformed, and a pair of papers; and pairs that
 -- are not related, with verdicts or logs that differ.
-use mathlib.Core.Bool.{Bool, true, false}
-use mathlib.Core.List.{List, [], _∷_, _++_}
+use mathlib.Core.List.{[], _∷_, _++_}
 use mathlib.Core.Path.{_≡_, refl, ap}
 use Prim.Native.Nat.{ℕ}
 use native.Mathlib.Omega.{arith}
-use lib.ListN.{length, replicate, getD}
+use lib.ListN.{replicate, getD}
 use Rattle.definition.specs.Basics.{Bytes}
 use Rattle.definition.specs.Decoding.{front, decode, serialize, deserialize}
 use Rattle.definition.specs.Classes.{classNumber, classOf}

@@ -1,14 +1,14 @@
 -- Request L3 of the code: two calls of `mark_paper` on related papers, with the same log, answer with the same struct and leave the
 -- same log. Each is fixed by the clauses `same` and `logged` of its promise.
 use mathlib.Core.List.{List}
-use mathlib.Core.Path.{_≡_, refl, sym, ap, _∙_}
+use mathlib.Core.Path.{_≡_, sym, ap, _∙_}
+use Prim.Native.Nat.{ℕ}
 use Rattle.definition.specs.Basics.{Bytes}
 use Rattle.definition.specs.Blank.{Blanked, RelatedPapers}
 use Rattle.definition.specs.Papers as P
 use Rattle.definition.specs.Papers.{PaperMarked, markPaper}
 use Rattle.definition.specs.Stacks.{builtIn}
 use Rattle.definition.proofs.Blanked.{longDataTellsNothingOfPapers}
-use Prim.Native.Nat.{ℕ}
 use Rattle.paper.specs.View.{paperOf}
 use Rattle.paper.specs.declared.PaperVerdict.{PaperVerdict}
 
