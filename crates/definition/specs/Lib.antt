@@ -1,4 +1,4 @@
--- Document 01 as definitions, by its sections, in the order in which they are read.
+-- Document 01 as definitions, by its sections, in the order in which they are read; then those of the requests.
 pub mod Basics
 pub mod Decoding
 pub mod Classes
