@@ -9,3 +9,4 @@ pub mod Replay
 pub mod Papers
 pub mod Lines
 pub mod Sums
+pub mod Blank
