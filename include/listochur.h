@@ -1,6 +1,7 @@
 /*
  * Listochur: a proved stack marker for Kaspa script, for C callers on x86-64 Linux. Link libexport.a, which
- * `rt staticlib export` writes to target/staticlib. The numbers are those of document 01, section 7.
+ * `rt staticlib export` writes to target/staticlib. The numbers are those of document 01, section 7, and of the requests of
+ * document 02.
  *
  * Each function takes every input: what is bad about it is refused with a number, so a caller has nothing to test first.
  * A slice passes as a pointer and then the number of its elements. As everywhere in C, this much is the caller's:
@@ -30,6 +31,10 @@ extern "C" {
 #define LISTOCHUR_LINES_PLACES 1
 #define LISTOCHUR_LOG_LINES_PLACES 1
 #define LISTOCHUR_REASON_PLACES 1
+#define LISTOCHUR_SUMS_PLACES (3 + LISTOCHUR_NUMBERS)
+
+/* How many verdict numbers are in use, from 0 on. */
+#define LISTOCHUR_NUMBERS 26
 
 /* Room for the lines of any paper, and for the words of any verdict. */
 #define LISTOCHUR_LINES_BYTES 4096
@@ -109,7 +114,7 @@ uint32_t listochur_log_lines(const uint8_t *paper, size_t paper_len, uint16_t *l
 
 /*
  * A verdict's number and its two figures in words, as `main dry: needed 2, had 1`. Answers the number that it was passed; one
- * past those of document 01 has no words.
+ * past those in use has no words.
  * `text`: the words, with no newline and no NUL behind them, where it has room for all of them; else it stays as it was. The
  * bytes behind them stay as they were.
  * `out`: how many bytes the words take, also where `text` has no room for them; at most LISTOCHUR_REASON_BYTES.
@@ -123,6 +128,14 @@ uint32_t listochur_reason(uint32_t number, uint64_t first, uint64_t second, uint
  * `tally`: four counters: fragments, accepted, rows, greatest peak. A pointer to four numbers; no length is passed.
  */
 uint32_t listochur_gain(uint32_t tally[4], uint32_t number, uint64_t rows, uint32_t peak);
+
+/*
+ * Sums over a sitting, a list of verdict number and peak by turns. Answers 0, or 23 where the list has more than 8,192 numbers or
+ * an odd count of them, or a verdict number is not in use.
+ * `out`: number, the sum of the accepted verdicts' peaks, their count, and how often 0, 1, .. the greatest number in use occurred;
+ * after 23 all but the number are 0.
+ */
+uint32_t listochur_sums(const uint32_t *sitting, size_t sitting_len, uint64_t *out, size_t out_len);
 
 #ifdef __cplusplus
 }

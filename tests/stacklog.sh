@@ -224,9 +224,31 @@ on "9, an unknown index" <<END
 entry 0: length 1, from main 2 alt 0
 $(heading 8)
      0    2    0     2 $(bar 4) 79
-     ^ refused 9, index
+     ^ refused 9, index: the item is unknown
 
 refused 9 at 0 0 0 0
+END
+
+paper 2 02 05 00 79 >"$work/paper"
+on "24, a needless 00" <<END
+entry 0: length 4, from main 2 alt 0
+$(heading 8)
+     0    2    0     2 $(bar 4) 02 05 00
+     3    3    0     3 $(bar 6) 79
+     ^ refused 24, crooked number: a needless 00 (05 00) or 80 (negative zero)
+
+refused 24 at 0 3 0 0
+END
+
+paper 2 4f 7a >"$work/paper"
+on "25, minus 1" <<END
+entry 0: length 2, from main 2 alt 0
+$(heading 8)
+     0    2    0     2 $(bar 4) 4f
+     1    3    0     3 $(bar 6) 7a
+     ^ refused 25, negative index: top bit of the last byte set (81 is minus 1)
+
+refused 25 at 0 1 0 0
 END
 
 paper 2 01 22 a6 >"$work/paper"

@@ -1,5 +1,5 @@
 /* Marks the sample paper of document 01, section 6, prints its lines and its log, analyses a fragment that is refused and says
- * why in words, shows the items of an end, and keeps a tally. */
+ * why in words, shows the items of an end, keeps a tally, and sums up a sitting. */
 #include <inttypes.h>
 #include <stdio.h>
 #include <stdlib.h>
@@ -64,5 +64,11 @@ int main(void) {
     listochur_gain(tally, (uint32_t)v[0], v[4], (uint32_t)v[5]);
     printf("%" PRIu32 " fragments, %" PRIu32 " accepted, %" PRIu32 " rows, peak %" PRIu32 "\n", tally[0], tally[1], tally[2],
            tally[3]);
+
+    const uint32_t sitting[] = {(uint32_t)p[0], (uint32_t)p[6], (uint32_t)v[0], (uint32_t)v[5]};
+    uint64_t s[LISTOCHUR_SUMS_PLACES];
+    listochur_sums(sitting, 4, s, LISTOCHUR_SUMS_PLACES);
+    printf("%" PRIu64 " with 0, %" PRIu64 " with 7, peaks of the accepted: sum %" PRIu64 ", count %" PRIu64 "\n", s[3], s[3 + 7],
+           s[1], s[2]);
     return 0;
 }

@@ -241,7 +241,7 @@ static void reason(void) {
     EXPECT(text[0] == 9 && text[size - 2] == 9);
     /* no words: the lent bytes stay */
     lend(out);
-    EXPECT(listochur_reason(23, 2, 1, text, sizeof text, out, 10) == 23);
+    EXPECT(listochur_reason(LISTOCHUR_NUMBERS, 2, 1, text, sizeof text, out, 10) == LISTOCHUR_NUMBERS);
     EXPECT(holds(out, (const uint64_t[]){0}, 1) && text[0] == 9);
     EXPECT(listochur_reason(UINT32_MAX, 0, 0, NULL, 0, out, 1) == UINT32_MAX && out[0] == 0);
     EXPECT(listochur_reason(0, 0, 0, NULL, 0, out, 1) == 0 && out[0] == 8);
@@ -267,6 +267,40 @@ static void gain(void) {
     EXPECT(listochur_gain(tally, 16, 0, 0) == 22);
 }
 
+static void sums(void) {
+    uint64_t out[LISTOCHUR_SUMS_PLACES + 1], numbers[LISTOCHUR_SUMS_PLACES] = {0};
+    static uint32_t sitting[8194];
+    const size_t places = LISTOCHUR_SUMS_PLACES;
+    const uint32_t few[] = {0, 5, 7, 99, 0, UINT32_MAX, LISTOCHUR_NUMBERS - 1, 1};
+    out[places] = 7;
+    EXPECT(listochur_sums(few, 8, out, places + 1) == 0);
+    numbers[1] = 4294967300;
+    numbers[2] = 2;
+    numbers[3] = 2;
+    numbers[3 + 7] = 1;
+    numbers[places - 1] = 1;
+    EXPECT(holds(out, numbers, places));
+    /* no numbers */
+    memset(numbers, 0, sizeof numbers);
+    EXPECT(listochur_sums(NULL, 0, out, places) == 0);
+    EXPECT(holds(out, numbers, places));
+    /* 23, with zeros: an odd count, a number that is not in use in the last pair, too many */
+    numbers[0] = 23;
+    const uint32_t bad[] = {0, 5, LISTOCHUR_NUMBERS, 0};
+    EXPECT(listochur_sums(few, 7, out, places) == 23);
+    EXPECT(holds(out, numbers, places));
+    out[2] = 9;
+    EXPECT(listochur_sums(bad, 4, out, places) == 23);
+    EXPECT(holds(out, numbers, places));
+    EXPECT(listochur_sums(sitting, 8193, NULL, 0) == 23);
+    EXPECT(listochur_sums(sitting, 8194, NULL, 0) == 23);
+    EXPECT(listochur_sums(sitting, 8192, out, places) == 0 && out[2] == 4096 && out[3] == 4096);
+    /* one place too few */
+    memset(out, 9, sizeof out);
+    EXPECT(listochur_sums(few, 8, out, places - 1) == 0);
+    for (size_t k = 0; k < places; k++) EXPECT(out[k] == 0x0909090909090909);
+}
+
 int main(void) {
     analyse();
     analyse_items();
@@ -277,5 +311,6 @@ int main(void) {
     log_lines();
     reason();
     gain();
+    sums();
     return failures != 0;
 }

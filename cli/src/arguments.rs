@@ -6,7 +6,7 @@ use crate::Stop;
 use crate::bytes::Bytes;
 use crate::names::shown;
 use crate::papers::Source;
-use crate::usage::{self, COMPARE, EXPLAIN, FRAGMENT, LIMITS, LOG, MARK, PAPER, Usage};
+use crate::usage::{self, COMPARE, EXPLAIN, FRAGMENT, LIMITS, LOG, MARK, PAPER, SUMS, Usage};
 
 #[derive(Debug, PartialEq, Eq)]
 pub enum Command {
@@ -18,6 +18,7 @@ pub enum Command {
     Paper { fields: u16, init: Bytes, entries: Vec<Entry> },
     Limits { bytes: Bytes },
     Explain { number: u32 },
+    Sums { registers: Vec<OsString> },
     Compare { papers: Vec<OsString> },
 }
 
@@ -121,10 +122,10 @@ impl Words<'_> {
         }
     }
 
-    /// One paper or more; standard input cannot be read twice.
-    fn papers(&self) -> Result<Vec<OsString>, Stop> {
+    /// One file of this kind or more; standard input cannot be read twice.
+    fn files(&self, kind: &str) -> Result<Vec<OsString>, Stop> {
         if self.rest.is_empty() {
-            return Err(self.wrong("no paper is named"));
+            return Err(self.wrong(format!("no {kind} is named")));
         }
         if self.rest.iter().filter(|word| **word == "-").count() > 1 {
             return Err(self.wrong("- is named twice, and standard input can be read once"));
@@ -162,7 +163,7 @@ fn sub_command(usage: &'static Usage, words: &[OsString]) -> Result<Command, Sto
             (false, true) => Form::Json,
             (false, false) => Form::Lines,
         };
-        return Ok(Command::Mark { form, papers: words.papers()? });
+        return Ok(Command::Mark { form, papers: words.files("paper")? });
     }
     if usage == &LOG {
         let [paper] = words.exactly()?;
@@ -185,8 +186,11 @@ fn sub_command(usage: &'static Usage, words: &[OsString]) -> Result<Command, Sto
         let [number] = words.exactly()?;
         return Ok(Command::Explain { number: words.number("N", number, u32::MAX.into())? });
     }
+    if usage == &SUMS {
+        return Ok(Command::Sums { registers: words.files("register")? });
+    }
     debug_assert_eq!(usage, &COMPARE);
-    Ok(Command::Compare { papers: words.papers()? })
+    Ok(Command::Compare { papers: words.files("paper")? })
 }
 
 fn paper(words: &Words) -> Result<Command, Stop> {
@@ -262,6 +266,7 @@ mod tests {
         );
         assert_eq!(parsed(&["limits", "@-"]), Command::Limits { bytes: Bytes::Of(Source::Input) });
         assert_eq!(parsed(&["explain", "22"]), Command::Explain { number: 22 });
+        assert_eq!(parsed(&["sums", "a", "-"]), Command::Sums { registers: words(&["a", "-"]) });
         assert_eq!(parsed(&["compare", "a"]), Command::Compare { papers: words(&["a"]) });
         assert_eq!(
             parsed(&["paper", "3:51", "--init", "-", "--fields", "65535", "0:@a:b"]),
@@ -331,6 +336,9 @@ mod tests {
             &["explain"],
             &["explain", "x"],
             &["explain", "1", "2"],
+            &["sums"],
+            &["sums", "-", "-"],
+            &["sums", "--csv", "a"],
             &["compare"],
         ] {
             assert_eq!(wrong(line).1, Some(line[0]), "{line:?}");

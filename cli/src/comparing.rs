@@ -53,6 +53,12 @@ pub enum Outcome {
     Outside,
 }
 
+/// A verdict as the Rust's message tells it: of 9, 24 and 25 it has one, which is told as 9 (request L2).
+fn as_message([number, place @ ..]: [u64; 5]) -> [u64; 5] {
+    let [entry, offset, first, second] = place;
+    [if matches!(number, 24 | 25) { 9 } else { number }, entry, offset, first, second]
+}
+
 /// The two verdicts side by side. `last` is the last line that the proved function writes of the paper.
 pub fn beside(name: &[u8], ours: [u64; 5], last: &[u8], rust: &Answer) -> (Outcome, String) {
     let (outcome, theirs, words) = match rust {
@@ -63,7 +69,13 @@ pub fn beside(name: &[u8], ours: [u64; 5], last: &[u8], rust: &Answer) -> (Outco
                 [0, 0, 0, 0, 0] => "accepted".into(),
                 _ => format!("refused {number} at {entry} {offset} {first} {second}"),
             };
-            if *numbers == ours { (Outcome::Equal, theirs, "equal") } else { (Outcome::Different, theirs, "DIFFERENT") }
+            if *numbers == ours {
+                (Outcome::Equal, theirs, "equal")
+            } else if *numbers == as_message(ours) {
+                (Outcome::Equal, theirs, "equal (one message there)")
+            } else {
+                (Outcome::Different, theirs, "DIFFERENT")
+            }
         }
     };
     (outcome, format!("{}: ours {}, Rust {theirs}, {words}\n", shown(name), String::from_utf8_lossy(last)))
@@ -250,6 +262,26 @@ mod tests {
             beside(b"a", [0; 5], b"accepted", &Answer::Verdict([0; 5])),
             (Outcome::Equal, "a: ours accepted, Rust accepted, equal\n".into())
         );
+        // Of 9, 24 and 25 the Rust has one message; the place and the figures are still held to its own.
+        let index = [9, 1, 6, 0, 0];
+        for number in [24, 25] {
+            let (outcome, line) = beside(b"a", [number, 1, 6, 0, 0], b"refused N", &Answer::Verdict(index));
+            let said = "a: ours refused N, Rust refused 9 at 1 6 0 0, equal (one message there)\n";
+            assert_eq!((outcome, line.as_str()), (Outcome::Equal, said), "{number}");
+            for place in 0..5 {
+                let mut other = index;
+                other[place] += 1;
+                let (outcome, _) = beside(b"a", [number, 1, 6, 0, 0], b"refused N", &Answer::Verdict(other));
+                assert_eq!(outcome, Outcome::Different, "{number} {place}");
+            }
+        }
+        for number in [8, 10, 23, 26] {
+            assert_eq!(
+                beside(b"a", [number, 1, 6, 0, 0], b"refused N", &Answer::Verdict(index)).0,
+                Outcome::Different,
+                "{number}"
+            );
+        }
         let (outcome, line) = beside(b"a", [5, 0, 49, 24, 24], b"refused 5 at 0 49 24 24", &Answer::Outside);
         assert_eq!((outcome, line.as_str()), (Outcome::Outside, "a: ours refused 5 at 0 49 24 24, Rust outside, not compared\n"));
     }

@@ -23,7 +23,7 @@ const fn meaning(given: &'static str, figures: &'static str, line: &'static str,
 }
 
 /// The numbers in their order.
-pub const MEANINGS: [Meaning; 23] = [
+pub const MEANINGS: [Meaning; listochur::NUMBERS] = [
     meaning("none of the numbers below is given", "0, 0", "listochur fragment 0 0 51", "accepted, peak 1, end main 1 alt 0"),
     meaning(
         "a fragment has over 10,000 bytes",
@@ -73,10 +73,10 @@ pub const MEANINGS: [Meaning; 23] = [
         "refused 8 at offset 2, alt dry",
     ),
     meaning(
-        "PICK, ROLL or ZK takes an index or count that is not known, is no number, or is negative",
+        "PICK, ROLL or ZK takes an index or count from an item that is unknown",
         "0, 0",
         "listochur fragment 2 0 79",
-        "refused 9 at offset 0, index",
+        "refused 9 at offset 0, index: the item is unknown",
     ),
     meaning(
         "the tag of ZK is not known to be the one byte 20 or 21",
@@ -146,6 +146,25 @@ pub const MEANINGS: [Meaning; 23] = [
         "refused 21 at 0 0 8001 8000",
     ),
     Meaning { given: "a sum of the tally would pass 4,294,967,295", figures: "", example: None },
+    meaning(
+        "sums over a sitting: the list has over 8,192 numbers or an odd count of them, or a verdict number above the greatest in use",
+        "",
+        "printf 'name,number,word,entry,offset,first,second,rows,peak,fragments\\na,99,,0,0,0,0,0,0,\\n' | listochur sums -",
+        "refused 23, bad sitting",
+    ),
+    meaning(
+        "PICK, ROLL or ZK takes an index or count from exact bytes that are no number: the last is a 00 or 80 that is not needed, \
+         as in `05 00` and in `80`, a negative zero",
+        "0, 0",
+        "listochur fragment 1 0 '01 80 79'",
+        "refused 24 at offset 2, crooked number: a needless 00 (05 00) or 80 (negative zero)",
+    ),
+    meaning(
+        "PICK, ROLL or ZK takes an index or count from exact bytes that are a number below zero, as `81`, minus 1",
+        "0, 0",
+        "listochur fragment 1 0 '4f 79'",
+        "refused 25 at offset 1, negative index: top bit of the last byte set (81 is minus 1)",
+    ),
 ];
 
 /// Said where no bytes get the number from this command.

@@ -14,6 +14,7 @@ pub mod papers;
 pub mod register;
 pub mod streams;
 pub mod summary;
+pub mod summing;
 pub mod usage;
 pub mod writing;
 
@@ -89,6 +90,7 @@ fn carry_out(command: Command) -> Result<Status, Stop> {
         Command::Limits { bytes } => fragments::limits(&mut out, &bytes.read()?)?,
         Command::Paper { fields, init, entries } => writing::paper(&mut out, fields, init, entries)?,
         Command::Explain { number } => explaining::explain(&mut out, number)?,
+        Command::Sums { registers } => summing::sums(&mut out, &registers)?,
         Command::Compare { papers } => comparing::compare(&mut out, &papers)?,
     };
     out.finish()?;

@@ -8,6 +8,7 @@ use listochur::PaperVerdict;
 
 use crate::arguments::Form;
 use crate::marking::{reason, split};
+use crate::names::shown;
 
 /// The first line of comma-separated values: the columns in their order.
 pub const COLUMNS: &str = "name,number,word,entry,offset,first,second,rows,peak,fragments\n";
@@ -84,8 +85,8 @@ impl Records {
 }
 
 /// The word of a verdict: its words up to the figures.
-fn word(verdict: &PaperVerdict) -> String {
-    let words = reason(verdict.number, verdict.first, verdict.second);
+pub fn word(number: u32, first: u64, second: u64) -> String {
+    let words = reason(number, first, second);
     words.split_once(':').map_or(words.as_str(), |(word, _)| word).to_owned()
 }
 
@@ -95,7 +96,7 @@ fn csv(name: &[u8], verdict: &PaperVerdict, fragments: &[u8]) -> Vec<u8> {
     let numbers = format!(",{entry},{offset},{first},{second},{rows},{peak},");
     let start = if formula(name) { &b"./"[..] } else { b"" };
     let name = field(&[start, name].concat());
-    let word = field(word(verdict).as_bytes());
+    let word = field(word(number, first, second).as_bytes());
     [&name, &format!(",{number},").into_bytes(), &word, numbers.as_bytes(), &field(fragments), b"\n"].concat()
 }
 
@@ -122,6 +123,87 @@ fn field(text: &[u8]) -> Vec<u8> {
     field
 }
 
+/// Comma-separated values that are read back.
+struct Reader<'a> {
+    rest: &'a [u8],
+    /// The line that the rest begins in, from 1.
+    line: usize,
+}
+
+impl Reader<'_> {
+    fn byte(&mut self) -> Option<u8> {
+        let (byte, rest) = self.rest.split_first()?;
+        self.rest = rest;
+        self.line += usize::from(*byte == b'\n');
+        Some(*byte)
+    }
+
+    fn next_is(&mut self, byte: u8) -> bool {
+        self.rest.first() == Some(&byte) && self.byte().is_some()
+    }
+
+    /// The next field, without its quotes, and whether it is the last of its record.
+    fn field(&mut self) -> Result<(Vec<u8>, bool), &'static str> {
+        let mut field = Vec::new();
+        let quoted = self.next_is(b'"');
+        while quoted {
+            match self.byte() {
+                Some(b'"') if !self.next_is(b'"') => break,
+                Some(byte) => field.push(byte),
+                None => return Err("a quote is open at the end"),
+            }
+        }
+        loop {
+            match self.byte() {
+                Some(b',') => return Ok((field, false)),
+                Some(b'\n') => return Ok((field, true)),
+                Some(_) if quoted => return Err("something stands behind a closing quote"),
+                Some(b'"') => return Err("a quote stands in a field without quotes"),
+                Some(byte) => field.push(byte),
+                None => return Err("the record has no newline"),
+            }
+        }
+    }
+
+    fn record(&mut self) -> Result<Vec<Vec<u8>>, &'static str> {
+        let mut record = Vec::new();
+        loop {
+            let (field, last) = self.field()?;
+            record.push(field);
+            if last {
+                return Ok(record);
+            }
+        }
+    }
+}
+
+/// A number of 32 bits, digits alone.
+fn number(column: &str, field: &[u8]) -> Result<u32, String> {
+    let digits = str::from_utf8(field).ok().filter(|text| !text.is_empty() && text.bytes().all(|byte| byte.is_ascii_digit()));
+    digits
+        .and_then(|text| text.parse().ok())
+        .ok_or_else(|| format!("{column} is a number up to {}, and '{}' is none", u32::MAX, shown(field)))
+}
+
+/// Number and peak of each record of comma-separated values; where they are no such register, what is wrong, and where.
+pub fn pairs(text: &[u8]) -> Result<Vec<[u32; 2]>, String> {
+    let Some(rest) = text.strip_prefix(COLUMNS.as_bytes()) else {
+        return Err("line 1 does not name its columns".into());
+    };
+    let mut reader = Reader { rest, line: 2 };
+    let mut pairs = Vec::new();
+    while !reader.rest.is_empty() {
+        let line = reader.line;
+        let at = |wrong: String| format!("record at line {line}: {wrong}");
+        let record = reader.record().map_err(|wrong| at(wrong.into()))?;
+        let [_, own, _, _, _, _, _, _, peak, _] = record.as_slice() else {
+            return Err(at(format!("it has {} fields, and not 10", record.len())));
+        };
+        pairs.push([number("number", own).map_err(at)?, number("peak", peak).map_err(at)?]);
+    }
+    Ok(pairs)
+}
+
 /// An object on a line of its own, with a comma before it where one has been written.
 fn json(name: &[u8], verdict: &PaperVerdict, fragments: &[Fragment], comma: bool) -> Vec<u8> {
     let PaperVerdict { number, entry, offset, first, second, rows, peak } = *verdict;
@@ -137,7 +219,7 @@ fn json(name: &[u8], verdict: &PaperVerdict, fragments: &[Fragment], comma: bool
          \"second\":{second},\"rows\":{rows},\"peak\":{peak},\"fragments\":[{}]}}",
         if comma { "," } else { "" },
         string(name),
-        string(word(verdict).as_bytes()),
+        string(word(number, first, second).as_bytes()),
         fragments.join(",")
     )
     .into_bytes()

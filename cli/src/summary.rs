@@ -93,7 +93,7 @@ mod tests {
 
     #[test]
     fn no_line_is_like_that_of_a_paper() {
-        let all: Vec<_> = (0..=22).map(|number| verdict(number, 1, 1)).collect();
+        let all: Vec<_> = (0..listochur::NUMBERS as u32).map(|number| verdict(number, 1, 1)).collect();
         assert!(!line(&all).contains(": "));
     }
 }

@@ -103,6 +103,22 @@ Status 0, or 2: N is no verdict number, or a write failed.
     examples: &["listochur explain 7"],
 };
 
+pub static SUMS: Usage = Usage {
+    name: "sums",
+    line: "listochur sums REGISTER..",
+    about: "\
+Sums over a sitting: how often each verdict number stands in registers that `mark --csv` wrote, with its word, and sum
+and count of the peaks of the accepted papers, whose quotient is their mean. Several registers are one sitting. One of
+over 4,096 papers is refused with 23.
+
+  REGISTER  a file that `mark --csv` wrote, or - for standard input
+
+Status 0: summed. 1: refused. 2: a file that could not be read or is no such register, in which case nothing is
+summed, or a write that failed.
+",
+    examples: &["listochur sums register.csv", "listochur mark --csv room1 room2 | listochur sums -"],
+};
+
 pub static COMPARE: Usage = Usage {
     name: "compare",
     line: "listochur compare PAPER..",
@@ -111,7 +127,8 @@ Marks papers, asks the Rust about each, and lays the two verdicts side by side: 
 the end. The Rust is the program `driver` of the folder compare/: what the variable LISTOCHUR_DRIVER names, else
 listochur-driver beside this command, else that of the folder built/ that this command comes from. A paper outside the
 limits that the Rust shares is said to be outside, and is no difference. Of 19 and 21, which the Rust does not have,
-the driver has a plain reading of document 01.
+the driver has a plain reading of document 01. Of 9, 24 and 25 the Rust has one message, told as 9: ours and that are
+equal where place and figures are.
 
   PAPER     a file, - for standard input, or a folder: every file in it, in the order of their names
 
@@ -121,14 +138,14 @@ Status 0: no difference. 1: some differ. 2: no driver, a paper could not be read
 };
 
 /// All sub-commands.
-pub static ALL: [&Usage; 7] = [&MARK, &LOG, &FRAGMENT, &PAPER, &LIMITS, &EXPLAIN, &COMPARE];
+pub static ALL: [&Usage; 8] = [&MARK, &LOG, &FRAGMENT, &PAPER, &LIMITS, &EXPLAIN, &SUMS, &COMPARE];
 
 /// Said after a usage line.
 pub const HINT: &str = "listochur help shows more.";
 
 /// Said where no sub-command is named.
 pub const SHORT: &str = "\
-usage: listochur mark | log | fragment | paper | limits | explain | compare ..
+usage: listochur mark | log | fragment | paper | limits | explain | sums | compare ..
 listochur help shows more.";
 
 /// The sub-command of this name.
@@ -156,6 +173,7 @@ pub fn all() -> String {
         "writes a paper",
         "the limit check",
         "a verdict number in words",
+        "sums over the papers of registers",
         "our verdicts beside the Rust's",
     ]) {
         text += &format!("  {}\n      {about}\n", usage.line);
@@ -165,7 +183,7 @@ pub fn all() -> String {
   listochur --version
 
 PAPER is a file, - for standard input, or, for mark and compare, a folder: every file in it, in the order of their
-names. BYTES are hexadecimal digits, - for none, @FILE for the bytes of a file, @- for those of standard input.
+names. REGISTER is a file that mark --csv wrote, or - for standard input. BYTES are hexadecimal digits, - for none, @FILE for the bytes of a file, @- for those of standard input.
 
 Exit status: 0 all accepted, or equal; 1 some refused, or different; 2 bad usage, something that cannot be read, a write
 that failed. 2 goes before 1, and the other papers are marked all the same.

@@ -7,7 +7,7 @@ use std::fs;
 use common::{Folder, ROOT, SAMPLE, ran};
 
 /// A paper's name, and the words that `paper` writes it from; the others are written by hand.
-const WRITTEN: [(&str, &str); 16] = [
+const WRITTEN: [(&str, &str); 18] = [
     ("sample", "--fields 1 1:635167526875"),
     ("initialiser", "--fields 0 --init 5175 0:51 2:75"),
     ("no-end", "--fields 0 0:6aff"),
@@ -20,6 +20,8 @@ const WRITTEN: [(&str, &str); 16] = [
     ("main-dry", "--fields 1 1:63516752686f"),
     ("alt-dry", "--fields 0 1:6b6c6c"),
     ("unknown-index", "--fields 0 2:79"),
+    ("crooked-number", "--fields 0 1:018079"),
+    ("negative-index", "--fields 0 1:4f79"),
     ("unmodelled", "--fields 0 --init 5175ff 1:-"),
     ("arms-differ", "--fields 0 1:635168"),
     ("open-if", "--fields 0 0:5163"),

@@ -123,14 +123,14 @@ fn table() -> Vec<[String; 4]> {
         cells[0].parse::<u32>().ok()?;
         Some([cells[0].clone(), cells[1].clone(), cells[2].clone(), cells[3].clone()])
     });
-    rows.take(23).collect()
+    rows.take(listochur::NUMBERS).collect()
 }
 
 #[test]
 fn explanations_are_those_of_the_readme() {
     let folder = Folder::new();
     let table = table();
-    assert_eq!(table.len(), 23);
+    assert_eq!(table.len(), listochur::NUMBERS);
     for (place, [number, word, given, figures]) in table.iter().enumerate() {
         assert_eq!(*number, place.to_string());
         let ran = folder.run(&["explain", number]);
@@ -162,7 +162,8 @@ fn examples_of_explanations_get_their_number() {
 #[test]
 fn no_such_number() {
     let folder = Folder::new();
-    folder.run(&["explain", "23"]).fails("", &["no verdict has the number 23", "usage: listochur explain N"]);
+    let past = listochur::NUMBERS.to_string();
+    folder.run(&["explain", &past]).fails("", &[&format!("no verdict has the number {past}"), "usage: listochur explain N"]);
     folder.run(&["explain", "4294967296"]).fails("", &["usage: listochur explain N"]);
     folder.run(&["explain", "seven"]).fails("", &["usage: listochur explain N"]);
     folder.run(&["explain"]).fails("", &["usage: listochur explain N"]);

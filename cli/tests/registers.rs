@@ -1,4 +1,4 @@
-//! `mark --csv` and `mark --json`: registers that can be read back.
+//! `mark --csv` and `mark --json`: registers that can be read back; `sums` of them.
 mod common;
 
 use std::ffi::OsStr;
@@ -213,5 +213,91 @@ fn any_name_is_read_back() {
         assert_eq!((records.len(), records[0].len()), (1, 10), "{name:?}");
         let own = records[0][0].strip_prefix(b"./").filter(|_| !name.starts_with(b"./")).unwrap_or(&records[0][0]);
         assert_eq!(own, name);
+        // and `sums` reads it the same, whatever stands before it
+        let text = [HEAD.as_bytes(), &record, &record].concat();
+        assert_eq!(command::register::pairs(&text), Ok(vec![[7, 0]; 2]), "{name:?}");
     }
+}
+
+const HEAD: &str = "name,number,word,entry,offset,first,second,rows,peak,fragments\n";
+
+#[test]
+fn sums_of_a_register() {
+    let folder = pile();
+    folder.file("register", &folder.run(&["mark", "--csv", "pile"]).out);
+    let expected = "5 with 0, accepted\n4 with 7, main dry\npeaks of the accepted: sum 10, count 5\n";
+    folder.run(&["sums", "register"]).gives(0, expected);
+    folder.run_on(&["sums", "-"], &folder.run(&["mark", "--csv", "pile"]).out).gives(0, expected);
+    // several registers are one sitting
+    folder.file("other", format!("{HEAD}a,19,header,0,0,0,0,0,0,\nb,0,accepted,0,0,0,0,1,4294967295,\n").as_bytes());
+    folder
+        .run(&["sums", "register", "other"])
+        .gives(0, "6 with 0, accepted\n4 with 7, main dry\n1 with 19, header\npeaks of the accepted: sum 4294967305, count 6\n");
+    // a register of no papers
+    folder.run_on(&["sums", "-"], HEAD.as_bytes()).gives(0, "peaks of the accepted: sum 0, count 0\n");
+}
+
+#[test]
+fn bad_sittings() {
+    let folder = Folder::new();
+    let refused = "refused 23, bad sitting\n";
+    let record = |number: u32| format!("a,{number},,0,0,0,0,0,3,\n");
+    let greatest = listochur::NUMBERS as u32 - 1;
+    folder.run_on(&["sums", "-"], (HEAD.to_owned() + &record(0) + &record(greatest + 1)).as_bytes()).gives(1, refused);
+    let ran = folder.run_on(&["sums", "-"], (HEAD.to_owned() + &record(greatest)).as_bytes());
+    assert_eq!(ran.status, Some(0));
+    // 8,192 numbers are 4,096 papers
+    let most = HEAD.to_owned() + &record(0).repeat(4_096);
+    folder
+        .run_on(&["sums", "-"], most.as_bytes())
+        .gives(0, "4096 with 0, accepted\npeaks of the accepted: sum 12288, count 4096\n");
+    folder.run_on(&["sums", "-"], (most.clone() + &record(0)).as_bytes()).gives(1, refused);
+    // each of two registers has room, and both together have not
+    folder.file("most", most.as_bytes());
+    folder.run_on(&["sums", "most", "-"], (HEAD.to_owned() + &record(7)).as_bytes()).gives(1, refused);
+}
+
+#[test]
+fn what_is_no_register_is_said_with_its_place() {
+    let folder = pile();
+    let register = folder.run(&["mark", "--csv", "pile"]).out;
+    folder.file("register", &register);
+    let good = "a,0,accepted,0,0,0,0,6,2,entry 0 peak 2 end 1 0\n";
+    for (text, words) in [
+        (String::new(), ["- is no register", "line 1 does not name its columns"]),
+        (good.into(), ["line 1", "columns"]),
+        (HEAD.replace(',', ";"), ["line 1", "columns"]),
+        (HEAD.replace('\n', "\r\n"), ["line 1", "columns"]),
+        (format!("{HEAD}{good}\n"), ["record at line 3", "1 fields"]),
+        (format!("{HEAD}{good}a,0\n{good}"), ["record at line 3", "2 fields"]),
+        (format!("{HEAD}{}", good.replace("a,", "a,b,")), ["record at line 2", "11 fields"]),
+        (
+            format!("{HEAD}{}", good.replace(",0,accepted", ",,accepted")),
+            ["line 2", "number is a number up to 4294967295, and '' is none"],
+        ),
+        (format!("{HEAD}{}", good.replace(",0,accepted", ",+1,accepted")), ["line 2", "'+1' is none"]),
+        (format!("{HEAD}{}", good.replace(",6,2,", ",6,4294967296,")), ["line 2", "peak is a number up to"]),
+        (format!("{HEAD}{}", good.trim_end()), ["record at line 2", "no newline"]),
+        (format!("{HEAD}\"a{good}"), ["record at line 2", "a quote is open"]),
+        (format!("{HEAD}\"a\"b{good}"), ["record at line 2", "behind a closing quote"]),
+        (format!("{HEAD}a\"b{good}"), ["record at line 2", "a field without quotes"]),
+        // a record that begins behind a name of two lines
+        (format!("{HEAD}\"a\nb\",{}x\n", &good[2..]), ["record at line 4", "1 fields"]),
+    ] {
+        folder.run_on(&["sums", "-"], text.as_bytes()).fails("", &words);
+        // nothing is summed of the others
+        folder.run_on(&["sums", "register", "-"], text.as_bytes()).fails("", &words);
+    }
+    let json = folder.run(&["mark", "--json", "pile"]).out;
+    folder.run_on(&["sums", "-"], &json).fails("", &["line 1"]);
+    // a register that breaks off
+    for size in 0..register.len() {
+        if size < HEAD.len() || register[size - 1] != b'\n' {
+            folder.run_on(&["sums", "-"], &register[..size]).fails("", &["- is no register"]);
+        }
+    }
+    folder.run(&["sums", "none"]).fails("", &["cannot read none"]);
+    folder.run(&["sums", "pile"]).fails("", &["cannot read pile"]);
+    folder.run(&["sums", ""]).fails("", &["an empty name"]);
+    folder.run(&["sums"]).fails("", &["no register is named", "usage: listochur sums REGISTER.."]);
 }

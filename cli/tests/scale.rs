@@ -72,7 +72,7 @@ fn a_hundred_thousand_papers_of_any_bytes() {
     let mut numbers = Numbers(1);
     let mut marker = Marker::default();
     let mut summary = Summary::default();
-    let mut seen = [0; 23];
+    let mut seen = [0; listochur::NUMBERS];
     let (mut csv, mut json) = (Records::new(Form::Csv), Records::new(Form::Json));
     for _ in 0..100_000 {
         let paper = random_paper(&mut numbers);
@@ -102,7 +102,7 @@ fn a_hundred_thousand_papers_of_any_bytes() {
     assert_eq!(summary.tally.accepted, seen[0]);
     assert_eq!(summary.refused.values().sum::<u64>(), 100_000 - u64::from(seen[0]));
     // every number that a paper can get without long bodies occurs, and many are accepted
-    for number in [0, 3, 6, 7, 8, 9, 11, 12, 13, 14, 15, 16, 19, 21] {
+    for number in [0, 3, 6, 7, 8, 9, 11, 12, 13, 14, 15, 16, 19, 21, 25] {
         assert!(seen[number] > 0, "{seen:?}");
     }
     assert!(seen[0] > 1_000, "{seen:?}");

@@ -1,5 +1,5 @@
 //! Marks the sample paper of document 01, section 6, prints its lines and its log, analyses a fragment that is refused and says
-//! why in words, shows the items of an end, and keeps a tally.
+//! why in words, shows the items of an end, keeps a tally, and sums up a sitting.
 use listochur::Item;
 use std::io::{self, Write};
 
@@ -48,5 +48,11 @@ fn main() -> io::Result<()> {
     listochur::gain(&mut tally, p.number, p.rows, p.peak);
     listochur::gain(&mut tally, v.number, v.rows, v.peak);
     println!("{} fragments, {} accepted, {} rows, peak {}", tally.fragments, tally.accepted, tally.rows, tally.peak);
+
+    let sums = listochur::sums(&[p.number, p.peak, v.number, v.peak]);
+    println!(
+        "{} with 0, {} with 7, peaks of the accepted: sum {}, count {}",
+        sums.counts[0], sums.counts[7], sums.sum, sums.count
+    );
     Ok(())
 }

@@ -1,12 +1,12 @@
 //! A proved stack marker for Kaspa script: analyse a fragment, check limits, mark a paper, display, print, say why in words, keep
-//! a tally.
+//! a tally, sum up a sitting.
 //!
 //! The functions hand their slices and numbers to the proved ones of the crate `export` and read the numbers that come
 //! back. They test nothing. A fragment that is too long, heights over the limit, a short log, a bad header or a mark that is
 //! neither 0 nor 1 reach the callee as they are: it takes every input and has refused them, with a number of document 01,
-//! section 7, before anything here could. Nothing panics and nothing is allocated.
+//! section 7, or of document 02, before anything here could. Nothing panics and nothing is allocated.
 //!
-//! What is proved is that the answer and the log are those of document 01, for every input, and the texts those of the
+//! What is proved is that the answer and the log are those of the documents, for every input, and the texts those of the
 //! definitions. This crate and the compilers are not: here are a call for each function, the numbers that it leaves, and the
 //! part that the display's two numbers cut out. A call uses up to 512 KiB of stack.
 //!
@@ -93,6 +93,7 @@ mod callee {
         ) -> u32;
         // Four counters, with no length.
         pub fn listochur_gain(tally: *mut u32, number: u32, rows: u64, peak: u32) -> u32;
+        pub fn listochur_sums(sitting: *const u32, sitting_len: usize, out: *mut u64, out_len: usize) -> u32;
     }
 }
 
@@ -104,6 +105,9 @@ pub const LINES_BYTES: usize = 4_096;
 
 /// Room for the words of any verdict.
 pub const REASON_BYTES: usize = 80;
+
+/// How many verdict numbers are in use, from 0 on.
+pub const NUMBERS: usize = 26;
 
 /// The verdict on a fragment.
 #[derive(Clone, Copy, Debug, PartialEq, Eq)]
@@ -185,6 +189,19 @@ pub struct Tally {
     pub rows: u32,
     /// The greatest of their peaks.
     pub peak: u32,
+}
+
+/// The sums over a sitting.
+#[derive(Clone, Copy, Debug, PartialEq, Eq)]
+pub struct Sums {
+    /// 0, or 23 if the list is no sitting.
+    pub number: u32,
+    /// How often each verdict number occurred.
+    pub counts: [u32; NUMBERS],
+    /// The peaks of the accepted verdicts together.
+    pub sum: u64,
+    /// How many there are.
+    pub count: u32,
 }
 
 /// The analysis of a fragment from so many unknown items on main and alt. For each instruction met three numbers are written
@@ -414,7 +431,7 @@ pub fn log_lines(paper: &[u8], log: &mut [u16], text: &mut [u8]) -> Lines {
 /// A verdict's number and its two figures in words. They are written to the start of `text` where it has room for all of them,
 /// else none is; the rest of it stays as lent. Answers how many bytes they take, at most [`REASON_BYTES`].
 ///
-/// Tests nothing: for a number past those of document 01 the callee writes no words.
+/// Tests nothing: for a number past those in use the callee writes no words.
 ///
 /// ```
 /// let mut text = [0; listochur::REASON_BYTES];
@@ -442,4 +459,22 @@ pub fn gain(tally: &mut Tally, number: u32, rows: usize, peak: u32) -> u32 {
     let [fragments, accepted, rows, peak] = counters;
     *tally = Tally { fragments, accepted, rows, peak };
     answer
+}
+
+/// The sums over a sitting, a list of verdict number and peak by turns: 0, or 23 where it has more than 8,192 numbers or an odd
+/// count of them, or a verdict number is not in use; all sums are then 0.
+///
+/// Tests nothing: a list of any length and content is the callee's to judge.
+///
+/// ```
+/// let sums = listochur::sums(&[0, 2, 7, 0, 0, 5]);
+/// assert_eq!((sums.number, sums.counts[0], sums.counts[7], sums.sum, sums.count), (0, 2, 1, 7, 2));
+/// ```
+pub fn sums(sitting: &[u32]) -> Sums {
+    let mut out = [0; 3 + NUMBERS];
+    // SAFETY: each slice is passed whole, with its own length, and the borrow keeps `out` apart from the rest.
+    let number = unsafe { callee::listochur_sums(sitting.as_ptr(), sitting.len(), out.as_mut_ptr(), out.len()) };
+    let [_, sum, count, counts @ ..] = out;
+    // The places hold numbers of these widths, widened by the callee.
+    Sums { number, counts: counts.map(|times| times as u32), sum, count: count as u32 }
 }

@@ -1,7 +1,7 @@
 //! The functions from Rust: what document 01 says of them, bad input included.
 use listochur::{
-    DEAD, Heights, Item, LINES_BYTES, Limits, Lines, PaperVerdict, REASON_BYTES, Tally, Value, Verdict, analyze, analyze_items,
-    check_limits, display, gain, log_lines, mark_lines, mark_paper, reason,
+    DEAD, Heights, Item, LINES_BYTES, Limits, Lines, NUMBERS, PaperVerdict, REASON_BYTES, Sums, Tally, Value, Verdict, analyze,
+    analyze_items, check_limits, display, gain, log_lines, mark_lines, mark_paper, reason, sums,
 };
 
 /// What stands in a log that no row has been written to.
@@ -49,6 +49,26 @@ fn the_marked_papers_of_section_8() {
         let mut log = [LENT; 90];
         assert_eq!(analyze(fragment, main, alt, &mut log), verdict, "{fragment:02x?}");
         assert!(log[3 * verdict.rows..].iter().all(|&n| n == LENT), "{fragment:02x?}");
+    }
+}
+
+/// Request L2: an unknown item, bytes that are no number, and one below zero, of PICK, ROLL and ZK's count.
+#[test]
+fn spoilt_indices() {
+    let indices: [(&[u8], u32, Verdict); 10] = [
+        (&[0x79], 2, refused(9, 0, 0, 0, 1)),
+        (&[0x09, 0, 0, 0, 0, 0, 0, 0, 0, 0, 0x79], 1, refused(9, 10, 0, 0, 2)),
+        (&[0x01, 0x80, 0x79], 1, refused(24, 2, 0, 0, 2)),
+        (&[0x02, 0x05, 0x00, 0x7a], 1, refused(24, 3, 0, 0, 2)),
+        (&[0x4f, 0x79], 1, refused(25, 1, 0, 0, 2)),
+        (&[0x02, 0x80, 0x80, 0x7a], 1, refused(25, 3, 0, 0, 2)),
+        (&[0x02, 0x80, 0x00, 0x79], 1, refused(7, 3, 129, 1, 2)),
+        (&[0x79], 0, refused(7, 0, 1, 0, 1)),
+        (&[0x4f, 0x51, 0x51, 0x01, 0x20, 0xa6], 0, refused(25, 5, 0, 0, 5)),
+        (&[0x4f, 0xa6], 9, refused(10, 1, 0, 0, 2)),
+    ];
+    for (fragment, main, verdict) in indices {
+        assert_eq!(analyze(fragment, main, 0, &mut [LENT; 90]), verdict, "{fragment:02x?}");
     }
 }
 
@@ -285,7 +305,7 @@ fn reasons() {
         "stacks full: total wanted 18, limit 5",
         "main dry: needed 18, had 5",
         "alt dry",
-        "index",
+        "index: the item is unknown",
         "tag",
         "unmodelled: opcode 12",
         "arms differ",
@@ -299,7 +319,11 @@ fn reasons() {
         "dispatch: sum 18, limit 5",
         "long paper: length 18, limit 5",
         "tally full",
+        "bad sitting",
+        "crooked number: a needless 00 (05 00) or 80 (negative zero)",
+        "negative index: top bit of the last byte set (81 is minus 1)",
     ];
+    assert_eq!(words.len(), NUMBERS);
     for (number, expected) in (0..).zip(words) {
         // More room than is needed, just enough, too little.
         for room in [REASON_BYTES, expected.len(), expected.len() - 1, 0] {
@@ -315,7 +339,7 @@ fn reasons() {
 
 #[test]
 fn a_number_past_the_table_has_no_words() {
-    for number in [23, 24, 255, 256, u32::MAX] {
+    for number in [NUMBERS as u32, NUMBERS as u32 + 1, 255, 256, u32::MAX] {
         let mut text = [b'#'; REASON_BYTES];
         assert_eq!(reason(number, 18, 5, &mut text), 0, "{number}");
         assert_eq!(text, [b'#'; REASON_BYTES], "{number}");
@@ -345,6 +369,51 @@ fn tallies() {
         let mut tally = lent;
         assert_eq!(gain(&mut tally, 0, 1, 1), 22);
         assert_eq!(tally, lent);
+    }
+}
+
+/// Good sums, by the numbers that occur.
+fn summed(occur: &[(usize, u32)], sum: u64, count: u32) -> Sums {
+    let mut counts = [0; NUMBERS];
+    for &(number, times) in occur {
+        counts[number] = times;
+    }
+    Sums { number: 0, counts, sum, count }
+}
+
+const BAD_SITTING: Sums = Sums { number: 23, counts: [0; NUMBERS], sum: 0, count: 0 };
+
+#[test]
+fn sums_over_a_sitting() {
+    let greatest = NUMBERS as u32 - 1;
+    assert_eq!(sums(&[]), summed(&[], 0, 0));
+    assert_eq!(sums(&[0, u32::MAX]), summed(&[(0, 1)], u32::MAX.into(), 1));
+    assert_eq!(sums(&[0, u32::MAX, 0, u32::MAX]), summed(&[(0, 2)], 2 * u64::from(u32::MAX), 2));
+    // peaks are not judged, and those of refused verdicts are not summed
+    assert_eq!(sums(&[7, 99]), summed(&[(7, 1)], 0, 0));
+    assert_eq!(sums(&[0, 5, 7, 99, 0, 2, 7, 0, greatest, 1]), summed(&[(0, 2), (7, 2), (NUMBERS - 1, 1)], 7, 2));
+    for number in 0..NUMBERS {
+        let accepted = number == 0;
+        let expected = summed(&[(number, 3)], if accepted { 12 } else { 0 }, if accepted { 3 } else { 0 });
+        assert_eq!(sums(&[number as u32, 4].repeat(3)), expected, "{number}");
+    }
+}
+
+#[test]
+fn bad_sittings_have_zeros() {
+    let greatest = NUMBERS as u32 - 1;
+    // an odd count
+    for odd in [&[0][..], &[0, 5, 0], &[7, 99, 0, 1, 3]] {
+        assert_eq!(sums(odd), BAD_SITTING, "{odd:?}");
+    }
+    // a number that is not in use, in the first pair, in the last
+    for bad in [&[greatest + 1, 0][..], &[u32::MAX, 0, 0, 5], &[0, 5, 7, 9, greatest + 1, 0], &[0, 5, u32::MAX, 0]] {
+        assert_eq!(sums(bad), BAD_SITTING, "{bad:?}");
+    }
+    // 8,192 numbers are taken, and no more
+    assert_eq!(sums(&[0, u32::MAX].repeat(4_096)), summed(&[(0, 4_096)], 4_096 * u64::from(u32::MAX), 4_096));
+    for many in [8_193, 8_194, 10_000, 1_000_001] {
+        assert_eq!(sums(&vec![0; many]), BAD_SITTING, "{many}");
     }
 }
 

@@ -47,6 +47,14 @@ impl Answer {
     }
 }
 
+/// The number of the Rust's message that a verdict number counts as: request L2 has 9, 24 and 25 where the Rust has one message.
+pub const fn as_message(number: u64) -> u64 {
+    match number {
+        24 | 25 => 9,
+        other => other,
+    }
+}
+
 /// `parts/tests.rs` adds the way to the private functions of the analysis.
 pub(crate) struct Analysis;
 

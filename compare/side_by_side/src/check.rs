@@ -3,19 +3,22 @@
 use std::fmt;
 use std::panic::{AssertUnwindSafe, catch_unwind};
 
-use reference::{Answer, PaperAnswer};
+use reference::{Answer, PaperAnswer, as_message};
 use tools::definition::{self, Item, Stacks};
 
 use crate::marker::{Marker, UNWRITTEN};
 use crate::replays;
 
-/// A case. `lent` is the length of the lent log in numbers; `seed` gives the byte strings and the choices of the replays.
+/// A case. `lent` is the length of the lent log in numbers; `seed` gives the byte strings and the choices of the replays; `other`
+/// differs from `bytes` only within long data.
 #[derive(Clone, Debug, PartialEq, Eq)]
 pub enum Case {
     Fragment { main: u32, alt: u32, bytes: Vec<u8>, lent: usize },
     Replays { main: u32, alt: u32, bytes: Vec<u8>, seed: u64 },
     Limits { bytes: Vec<u8> },
     Paper { bytes: Vec<u8>, lent: usize },
+    Fragments { main: u32, alt: u32, bytes: Vec<u8>, other: Vec<u8>, lent: usize },
+    Papers { bytes: Vec<u8>, other: Vec<u8>, lent: usize },
     Display { body: Vec<u8>, initialiser: Vec<u8>, offset: usize, mark: u32 },
 }
 
@@ -31,6 +34,12 @@ impl fmt::Display for Case {
             }
             Self::Limits { bytes } => write!(f, "limits {}", hex(bytes)),
             Self::Paper { bytes, lent } => write!(f, "paper {}   (a log of {lent})", hex(bytes)),
+            Self::Fragments { main, alt, bytes, other, lent } => {
+                write!(f, "fragment {main} {alt} {}   and {}   (a log of {lent})", hex(bytes), hex(other))
+            }
+            Self::Papers { bytes, other, lent } => {
+                write!(f, "paper {}   and {}   (a log of {lent})", hex(bytes), hex(other))
+            }
             Self::Display { body, initialiser, offset, mark } => {
                 write!(f, "display {offset} {mark} {} {}", hex(body), hex(initialiser))
             }
@@ -70,6 +79,8 @@ const LIMITS: &str = "document 01: number, offset, figures";
 const LOG: &str = "document 01: the log";
 const ITEMS: &str = "document 01: the items of the end";
 const AGAIN: &str = "the same without the items";
+const BLANKED: &str = "ours with other long data";
+const RUST_BLANKED: &str = "the Rust's, both with other long data";
 const PART: &str = "document 01: start and length of the part";
 
 /// What a number of the log is until it is written. No height and no offset is this large, and dead rows have 65,535.
@@ -108,7 +119,8 @@ impl<'m, M: Marker> Checker<'m, M> {
         }
     }
 
-    /// The verdict number, the same on all sides. The Rust is not asked where document 01 answers 1, 4 or 5.
+    /// The verdict number, the same on all sides, but that the Rust has one message for 9, 24 and 25. The Rust is not asked where
+    /// document 01 answers 1, 4 or 5.
     pub fn fragment(&mut self, main: u32, alt: u32, bytes: &[u8], lent: usize) -> Result<u32, Box<Difference>> {
         self.lend(lent);
         let ours = self.marker.analyze(bytes, main, alt, &mut self.ours);
@@ -124,7 +136,7 @@ impl<'m, M: Marker> Checker<'m, M> {
             _ => {
                 let rust = ask(ours, || reference::fragment(bytes, main, alt))?;
                 let rust = [u64::from(rust.number), rust.offset, rust.a, rust.b];
-                if ours[..4] != rust {
+                if [as_message(ours[0]), ours[1], ours[2], ours[3]] != rust {
                     return Err(differ(RUST, &ours[..4], rust));
                 }
             }
@@ -145,7 +157,14 @@ impl<'m, M: Marker> Checker<'m, M> {
 
     /// With room for one item more than there can be, the items are those of document 01, main and then alt, each from bottom to
     /// top, and the rest is as lent; numbers and log are those of before.
-    fn same_items(&mut self, main: u32, alt: u32, bytes: &[u8], ours: [u64; 9], end: Option<&Stacks>) -> Result<(), Box<Difference>> {
+    fn same_items(
+        &mut self,
+        main: u32,
+        alt: u32,
+        bytes: &[u8],
+        ours: [u64; 9],
+        end: Option<&Stacks>,
+    ) -> Result<(), Box<Difference>> {
         self.ours.fill(LENT);
         for items in [&mut self.items, &mut self.wanted] {
             items.clear();
@@ -215,7 +234,7 @@ impl<'m, M: Marker> Checker<'m, M> {
             _ => {
                 let rust = ask(ours, || reference::paper(bytes))?;
                 let rust = [u64::from(rust.number), rust.entry, rust.offset, rust.a, rust.b];
-                if ours[..5] != rust {
+                if [as_message(ours[0]), ours[1], ours[2], ours[3], ours[4]] != rust {
                     return Err(differ(RUST_PAPER, &ours[..5], rust));
                 }
             }
@@ -226,6 +245,50 @@ impl<'m, M: Marker> Checker<'m, M> {
         }
         self.same_log()?;
         Ok(number)
+    }
+
+    /// Request L3: two fragments that differ only within long data. Ours have the same numbers, log and items, and the Rust's two
+    /// answers are the same. The verdict number.
+    pub fn blanked(&mut self, main: u32, alt: u32, bytes: &[u8], other: &[u8], lent: usize) -> Result<u32, Box<Difference>> {
+        self.lend(lent);
+        for items in [&mut self.items, &mut self.wanted] {
+            items.clear();
+            items.resize(3 * 245, UNWRITTEN);
+        }
+        let one = self.marker.analyze_items(bytes, main, alt, &mut self.ours, &mut self.items);
+        let two = self.marker.analyze_items(other, main, alt, &mut self.theirs, &mut self.wanted);
+        if one != two {
+            return Err(differ(BLANKED, one, two));
+        }
+        if self.ours != self.theirs {
+            return Err(differ(BLANKED, &self.ours, &self.theirs));
+        }
+        if self.items != self.wanted {
+            return Err(differ(BLANKED, &self.items, &self.wanted));
+        }
+        let rust = ask(one, || (reference::fragment(bytes, main, alt), reference::fragment(other, main, alt)))?;
+        if rust.0 != rust.1 {
+            return Err(differ(RUST_BLANKED, rust.0, rust.1));
+        }
+        Ok(one[0] as u32)
+    }
+
+    /// The same of two papers.
+    pub fn blanked_papers(&mut self, bytes: &[u8], other: &[u8], lent: usize) -> Result<u32, Box<Difference>> {
+        self.lend(lent);
+        let one = self.marker.mark_paper(bytes, &mut self.ours);
+        let two = self.marker.mark_paper(other, &mut self.theirs);
+        if one != two {
+            return Err(differ(BLANKED, one, two));
+        }
+        if self.ours != self.theirs {
+            return Err(differ(BLANKED, &self.ours, &self.theirs));
+        }
+        let rust = ask(one, || (reference::paper(bytes), reference::paper(other)))?;
+        if rust.0 != rust.1 {
+            return Err(differ(RUST_BLANKED, rust.0, rust.1));
+        }
+        Ok(one[0] as u32)
     }
 
     /// The Rust has no display: document 01 alone. An empty part starts at the offset, or at the end of its fragment.
@@ -247,6 +310,8 @@ impl<'m, M: Marker> Checker<'m, M> {
             Case::Replays { main, alt, bytes, seed } => self.replays(*main, *alt, bytes, *seed).map(drop),
             Case::Limits { bytes } => self.limits(bytes).map(drop),
             Case::Paper { bytes, lent } => self.paper(bytes, *lent).map(drop),
+            Case::Fragments { main, alt, bytes, other, lent } => self.blanked(*main, *alt, bytes, other, *lent).map(drop),
+            Case::Papers { bytes, other, lent } => self.blanked_papers(bytes, other, *lent).map(drop),
             Case::Display { body, initialiser, offset, mark } => self.display(body, initialiser, *offset, *mark),
         }
     }

@@ -82,16 +82,17 @@ fn report(outcome: &Outcome) {
     }
     line("all", &sum, seconds);
 
-    println!("\nverdict number{:>14}{:>13}{:>13}", "fragments", "limit checks", "papers");
+    println!("\nverdict number{:>14}{:>13}{:>13}{:>13}", "fragments", "limit checks", "papers", "pairs");
     for number in 0..sum.fragments.numbers.len() {
-        let row = [&sum.fragments, &sum.limits, &sum.papers].map(|counts| counts.numbers[number]);
-        if row != [0; 3] {
-            println!("{number:>14}{:>14}{:>13}{:>13}", row[0], row[1], row[2]);
+        let row = [&sum.fragments, &sum.limits, &sum.papers, &sum.pairs].map(|counts| counts.numbers[number]);
+        if row != [0; 4] {
+            println!("{number:>14}{:>14}{:>13}{:>13}{:>13}", row[0], row[1], row[2], row[3]);
         }
     }
     // The additions of document 01: see README.md.
     let unasked = |counts: &Counts| [1, 4, 5, 19, 21].iter().map(|number| counts.numbers[*number]).sum::<u64>();
-    let alone = unasked(&sum.fragments) + unasked(&sum.papers) + sum.displays.cases;
+    let alone =
+        unasked(&sum.fragments) + unasked(&sum.papers) + sum.pairs.numbers[19] + sum.pairs.numbers[21] + sum.displays.cases;
     println!("\nanswered by the Rust: {}; not by it (1, 4, 5, 19, 21, display): {alone}", sum.cases() - alone);
     let r = sum.replays;
     println!(

@@ -1,8 +1,9 @@
 //! What is compared: every small fragment, then generated cases.
 
+use tools::blank::{changed, free_in_paper, long_data, with_long_data};
 use tools::case;
 use tools::case::Case;
-use tools::generate::{Kind, body, case, mutate, planned, start};
+use tools::generate::{Draft, Kind, body, case, mutate, planned, start};
 use tools::model::{FAULTS, Fault, Writer};
 use tools::rng::Rng;
 
@@ -17,6 +18,8 @@ pub struct Sizes {
     pub five_instructions: Option<u64>,
     pub fragments: u64,
     pub papers: u64,
+    /// Pairs of fragments, and a tenth as many of papers.
+    pub blanked: u64,
     pub limits: u64,
     /// Of each of the three lengths.
     pub long: u64,
@@ -30,6 +33,7 @@ impl Sizes {
         five_instructions: Some(100_000),
         fragments: 400_000,
         papers: 60_000,
+        blanked: 50_000,
         limits: 30_000,
         long: 150,
         nested: 30_000,
@@ -41,6 +45,7 @@ impl Sizes {
         five_instructions: None,
         fragments: 20_000_000,
         papers: 1_000_000,
+        blanked: 1_000_000,
         limits: 500_000,
         long: 4_000,
         nested: 500_000,
@@ -110,6 +115,7 @@ pub fn parts<M: Marker>(sizes: &Sizes) -> Vec<Part<M>> {
     part("nesting", 1 + sizes.nested / 100, Box::new(|worker, chunk| nesting(worker, chunk, 100)));
     part("limit checks", 1 + sizes.limits / 100, Box::new(|worker, chunk| limits(worker, chunk, 100)));
     part("papers", sizes.papers / 100, Box::new(|worker, _| papers(worker, 100)));
+    part("long data", sizes.blanked / 1_000, Box::new(|worker, _| blanked(worker, 1_000)));
     part("display", 1 + sizes.displays / 1_000, Box::new(|worker, chunk| displays(worker, chunk, 1_000)));
     parts
 }
@@ -460,6 +466,85 @@ fn papers<M: Marker>(worker: &mut Worker<M>, cases: usize) -> Done {
         }
     }
     Ok(())
+}
+
+/// Request L3: a generated fragment with long data in it, some cut short or damaged, and a copy with other long data; then a tenth
+/// as many papers. Each of the two is held against the Rust and document 01 too.
+fn blanked<M: Marker>(worker: &mut Worker<M>, pairs: usize) -> Done {
+    for _ in 0..pairs {
+        let (main, alt, bytes, other) = two_fragments(&mut worker.rng);
+        let lent = if worker.rng.percent(5) { worker.rng.below(enough(&bytes)) } else { enough(&bytes) };
+        worker.blanked(main, alt, &bytes, &other, lent)?;
+        worker.fragment(main, alt, &other, lent)?;
+    }
+    for _ in 0..pairs / 10 {
+        let (bytes, other) = two_papers(&mut worker.rng);
+        let lent = if worker.rng.percent(8) { worker.rng.below(bytes.len() + 1) } else { enough(&bytes) };
+        worker.blanked_papers(&bytes, &other, lent)?;
+        worker.paper(&other, lent)?;
+    }
+    Ok(())
+}
+
+/// Heights, and two fragments that are not the same and differ only within long data.
+fn two_fragments(rng: &mut Rng) -> (u32, u32, Vec<u8>, Vec<u8>) {
+    loop {
+        let (main, alt, plain) = generated(rng);
+        let bytes = long_fragments(rng, &plain);
+        let other = changed(rng, &bytes, &long_data(&bytes));
+        if bytes != other {
+            return (main, alt, bytes, other);
+        }
+    }
+}
+
+/// Two papers that are not the same and differ only where they may.
+fn two_papers(rng: &mut Rng) -> (Vec<u8>, Vec<u8>) {
+    loop {
+        let bytes = if rng.percent(30) { bytes_of(case(rng, Kind::Paper)) } else { long_paper(rng) };
+        let other = changed(rng, &bytes, &free_in_paper(&bytes));
+        if bytes != other {
+            return (bytes, other);
+        }
+    }
+}
+
+/// These bytes with long data in them; one time in five cut short, one in ten damaged.
+fn long_fragments(rng: &mut Rng, bytes: &[u8]) -> Vec<u8> {
+    let mut bytes = with_long_data(rng, bytes);
+    if rng.percent(20) {
+        // Within what was pushed last, if that is long.
+        let from = long_data(&bytes).last().map_or(0, |data| data.start);
+        let cut = rng.within(from, bytes.len());
+        bytes.truncate(cut);
+    }
+    if rng.percent(10) {
+        mutate(rng, &mut bytes);
+    }
+    bytes
+}
+
+/// A paper of one to four entries with long data in most parts, and bytes behind the last.
+fn long_paper(rng: &mut Rng) -> Vec<u8> {
+    let state_fields = rng.below(3);
+    let mut draft = Draft { state_fields, entries: Vec::new(), initialiser: Vec::new() };
+    for _ in 0..rng.within(1, 4) {
+        let params = rng.below(5);
+        let plain = body(rng, params + state_fields, 0);
+        draft.entries.push((params, if rng.percent(80) { long_fragments(rng, &plain) } else { plain }));
+    }
+    if rng.percent(60) {
+        let most = draft.entries.iter().map(|entry| entry.0).max().unwrap_or(0);
+        let plain = body(rng, most, 1);
+        draft.initialiser = long_fragments(rng, &plain);
+    }
+    let mut bytes = draft.pack();
+    let rest = rng.below(3);
+    bytes.extend(rng.bytes(rest));
+    if rng.percent(5) {
+        mutate(rng, &mut bytes);
+    }
+    bytes
 }
 
 /// Every offset of every fragment of up to two bytes first, then generated ones.

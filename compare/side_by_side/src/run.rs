@@ -22,7 +22,7 @@ pub type Found = Box<(Case, Box<Difference>)>;
 pub struct Counts {
     pub cases: u64,
     pub bytes: u64,
-    pub numbers: [u64; 23],
+    pub numbers: [u64; 26],
 }
 
 impl Counts {
@@ -48,6 +48,8 @@ pub struct Tally {
     pub limits: Counts,
     pub papers: Counts,
     pub displays: Counts,
+    /// Pairs that differ only within long data.
+    pub pairs: Counts,
     pub replays: replays::Counts,
 }
 
@@ -57,21 +59,22 @@ impl Tally {
         self.limits.add(&other.limits);
         self.papers.add(&other.papers);
         self.displays.add(&other.displays);
+        self.pairs.add(&other.pairs);
         self.replays.add(&other.replays);
     }
 
     /// All but the replays, whose fragments are among the others.
     pub fn cases(&self) -> u64 {
-        self.fragments.cases + self.limits.cases + self.papers.cases + self.displays.cases
+        self.fragments.cases + self.limits.cases + self.papers.cases + self.displays.cases + self.pairs.cases
     }
 
     /// Verdicts of number 0.
     pub fn accepted(&self) -> u64 {
-        self.fragments.numbers[0] + self.limits.numbers[0] + self.papers.numbers[0]
+        self.fragments.numbers[0] + self.limits.numbers[0] + self.papers.numbers[0] + self.pairs.numbers[0]
     }
 
     pub fn bytes(&self) -> u64 {
-        self.fragments.bytes + self.limits.bytes + self.papers.bytes + self.displays.bytes
+        self.fragments.bytes + self.limits.bytes + self.papers.bytes + self.displays.bytes + self.pairs.bytes
     }
 }
 
@@ -122,6 +125,33 @@ impl<M: Marker> Worker<'_, M> {
                 Ok(())
             }
             Err(difference) => self.found(Case::Paper { bytes: bytes.to_vec(), lent }, difference),
+        }
+    }
+
+    /// A pair; a byte of it is one of each.
+    pub fn blanked(&mut self, main: u32, alt: u32, bytes: &[u8], other: &[u8], lent: usize) -> Result<(), Found> {
+        match self.checker.blanked(main, alt, bytes, other, lent) {
+            Ok(number) => {
+                self.tally.pairs.count(bytes.len(), number);
+                Ok(())
+            }
+            Err(difference) => {
+                let (bytes, other) = (bytes.to_vec(), other.to_vec());
+                self.found(Case::Fragments { main, alt, bytes, other, lent }, difference)
+            }
+        }
+    }
+
+    pub fn blanked_papers(&mut self, bytes: &[u8], other: &[u8], lent: usize) -> Result<(), Found> {
+        match self.checker.blanked_papers(bytes, other, lent) {
+            Ok(number) => {
+                self.tally.pairs.count(bytes.len(), number);
+                Ok(())
+            }
+            Err(difference) => {
+                let (bytes, other) = (bytes.to_vec(), other.to_vec());
+                self.found(Case::Papers { bytes, other, lent }, difference)
+            }
         }
     }
 

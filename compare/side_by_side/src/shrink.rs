@@ -3,6 +3,7 @@
 
 use std::time::{Duration, Instant};
 
+use tools::blank::{papers_related, related};
 use tools::definition::decode;
 use tools::generate::Draft;
 
@@ -53,6 +54,26 @@ fn smaller(case: &Case) -> Box<dyn Iterator<Item = Case>> {
             let drafts = smaller_papers(&bytes).into_iter().chain(fewer(bytes));
             Box::new(drafts.map(move |bytes| Case::Paper { bytes, lent }))
         }
+        // The same pieces of both, where what is left is still related.
+        Case::Fragments { main, alt, bytes, other, lent } => {
+            let (again, twice) = (bytes.clone(), other.clone());
+            let lower = lower_starts(main, alt).map(move |(main, alt)| Case::Fragments {
+                main,
+                alt,
+                bytes: again.clone(),
+                other: twice.clone(),
+                lent,
+            });
+            let shorter = fewer_of_both(bytes, other)
+                .filter(|(bytes, other)| related(bytes, other))
+                .map(move |(bytes, other)| Case::Fragments { main, alt, bytes, other, lent });
+            Box::new(shorter.chain(lower))
+        }
+        Case::Papers { bytes, other, lent } => Box::new(
+            fewer_of_both(bytes, other)
+                .filter(|(bytes, other)| papers_related(bytes, other))
+                .map(move |(bytes, other)| Case::Papers { bytes, other, lent }),
+        ),
         Case::Display { body, initialiser, offset, mark } => {
             let (same_body, same_initialiser) = (body.clone(), initialiser.clone());
             let bodies = fewer(body).map(move |body| Case::Display { body, initialiser: same_initialiser.clone(), offset, mark });
@@ -74,19 +95,32 @@ fn smaller(case: &Case) -> Box<dyn Iterator<Item = Case>> {
     }
 }
 
-/// The bytes without a piece or two of them: large pieces first, then runs of instructions, two instructions (as those of a
-/// conditional), bytes.
+/// The bytes without a piece or two of them.
 fn fewer(bytes: Vec<u8>) -> impl Iterator<Item = Vec<u8>> {
+    pieces(&bytes).into_iter().map(move |piece| without(&bytes, piece))
+}
+
+/// Both without the same pieces.
+fn fewer_of_both(bytes: Vec<u8>, other: Vec<u8>) -> impl Iterator<Item = (Vec<u8>, Vec<u8>)> {
+    pieces(&bytes).into_iter().map(move |piece| (without(&bytes, piece), without(&other, piece)))
+}
+
+/// A piece is from and to, twice; the second may be empty.
+fn without(bytes: &[u8], [from, to, again, last]: [usize; 4]) -> Vec<u8> {
+    [&bytes[..from], &bytes[to..again], &bytes[last..]].concat()
+}
+
+/// Large pieces first, then runs of instructions, two instructions (as those of a conditional), bytes.
+fn pieces(bytes: &[u8]) -> Vec<[usize; 4]> {
     const FEW: usize = 60;
     let size = bytes.len();
-    // From and to, twice; the second piece may be empty.
     let mut pieces: Vec<[usize; 4]> = Vec::new();
     let mut piece = size;
     while piece > 1 {
         pieces.extend((0..size).step_by(piece).map(|from| [from, (from + piece).min(size), size, size]));
         piece /= 2;
     }
-    if let Ok(instructions) = decode(&bytes) {
+    if let Ok(instructions) = decode(bytes) {
         let starts: Vec<usize> = instructions.iter().map(|instruction| instruction.offset).chain([size]).collect();
         let count = instructions.len();
         let longest = if count <= FEW { count } else { 1 };
@@ -99,7 +133,7 @@ fn fewer(bytes: Vec<u8>) -> impl Iterator<Item = Vec<u8>> {
         }
     }
     pieces.extend((0..size).map(|at| [at, at + 1, size, size]));
-    pieces.into_iter().map(move |[from, to, again, last]| [&bytes[..from], &bytes[to..again], &bytes[last..]].concat())
+    pieces
 }
 
 /// Lower main, lower alt.

@@ -12,6 +12,7 @@ const SMALL: Sizes = Sizes {
     five_instructions: Some(1_000),
     fragments: 10_000,
     papers: 3_000,
+    blanked: 3_000,
     limits: 2_000,
     long: 10,
     nested: 500,
@@ -78,7 +79,7 @@ fn reported(marker: Changed, name: &str) -> (Case, String) {
 }
 
 /// Parts that take little time.
-const SHORT: [&str; 6] = ["bytes, 3, a sample", "fragments", "nesting", "limit checks", "papers", "display"];
+const SHORT: [&str; 7] = ["bytes, 3, a sample", "fragments", "nesting", "limit checks", "papers", "long data", "display"];
 
 fn fragment(main: u32, alt: u32, bytes: &[u8], lent: usize) -> Case {
     Case::Fragment { main, alt, bytes: bytes.to_vec(), lent }
@@ -104,6 +105,24 @@ fn peak_off_by_one() {
     let Case::Fragment { main, alt, bytes, .. } = &case else { panic!("{case}") };
     assert!(*main as usize + *alt as usize + bytes.len() <= 4, "{case}");
     assert!(against.starts_with("document 01"), "{against}");
+}
+
+/// Long data that begins with 00 is told from other long data.
+#[test]
+fn long_data_told() {
+    let (case, against) = reported(
+        Changed {
+            fragment: |bytes, _, _, _, mut out| {
+                out[5] += u64::from(bytes.len() > 9 && bytes[0] == 9 && bytes[1] == 0);
+                out
+            },
+            ..UNCHANGED
+        },
+        "long data",
+    );
+    let Case::Fragments { bytes, other, .. } = &case else { panic!("{case}") };
+    assert_eq!((bytes.len(), other.len(), bytes[0], other[0]), (10, 10, 9, 9), "{case}");
+    assert!(against.starts_with("ours"), "{against}");
 }
 
 /// The bytes of an exact item, where there are two or more of them.
@@ -182,6 +201,42 @@ fn the_smallest_case_is_printed() {
 fn everything_accepted() {
     let (_, against) =
         reported(Changed { fragment: |_, _, _, _, out| if out[0] == 0 { out } else { [0; 9] }, ..UNCHANGED }, "fragments");
+    assert!(against.starts_with("the Rust"), "{against}");
+}
+
+/// 9, 24 and 25 are one message of the Rust: the plain reading tells them apart.
+#[test]
+fn crooked_and_negative_exchanged() {
+    let (_, against) = reported(
+        Changed {
+            fragment: |_, _, _, _, mut out| {
+                out[0] = match out[0] {
+                    24 => 25,
+                    25 => 24,
+                    number => number,
+                };
+                out
+            },
+            ..UNCHANGED
+        },
+        "fragments",
+    );
+    assert!(against.starts_with("document 01"), "{against}");
+}
+
+/// Nothing else is that message.
+#[test]
+fn a_tag_told_as_a_crooked_number() {
+    let (_, against) = reported(
+        Changed {
+            fragment: |_, _, _, _, mut out| {
+                out[0] = if out[0] == 10 { 24 } else { out[0] };
+                out
+            },
+            ..UNCHANGED
+        },
+        "fragments",
+    );
     assert!(against.starts_with("the Rust"), "{against}");
 }
 

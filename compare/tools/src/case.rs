@@ -2,7 +2,9 @@
 
 use std::fmt;
 
-use reference::{Tally, display, fragment, fragment_outside, limits, paper, paper_outside};
+use reference::{Tally, as_message, display, fragment, fragment_outside, limits, paper, paper_outside};
+
+use crate::definition;
 
 #[derive(Clone, Debug, PartialEq, Eq)]
 pub enum Case {
@@ -104,6 +106,21 @@ impl Case {
 }
 
 impl Case {
+    /// The same as the marker answers: the Rust's one message for 9, 24 and 25 is told apart by the plain reading, which has to
+    /// agree that it is one of them.
+    pub fn told_apart(&self) -> (Option<u32>, String) {
+        let (number, line) = self.answer();
+        let told = match self {
+            Self::Fragment { main, alt, bytes } if number == Some(9) => {
+                definition::analysis(bytes, *main, *alt, &mut vec![0; 3 * bytes.len()]).answer.number
+            }
+            Self::Paper { bytes } if number == Some(9) => definition::mark(bytes, &mut [0; 24_000]).answer.number,
+            _ => return (number, line),
+        };
+        assert_eq!(as_message(told.into()), 9, "{self}");
+        (Some(told), line.replacen(" 9 ", &format!(" {told} "), 1))
+    }
+
     /// The line with the bytes as hex alone.
     pub fn plain(&self) -> String {
         self.line(usize::MAX)

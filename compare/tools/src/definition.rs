@@ -1,5 +1,5 @@
-//! Document 01 once more, written from its text alone: sections 1 to 4, 6 and 7.
-//! Section 5 is in `replay.rs`.
+//! Document 01 once more, written from its text alone: sections 1 to 4, 6 and 7, with
+//! request L2 of document 02. Section 5 is in `replay.rs`.
 
 use reference::{Answer, PaperAnswer};
 
@@ -78,19 +78,30 @@ pub fn written(mut number: u64) -> Vec<u8> {
     bytes
 }
 
+/// Why bytes are no index: they are no number, or one below zero.
+#[derive(Clone, Copy, Debug, PartialEq, Eq)]
+pub enum NoIndex {
+    Crooked,
+    Negative,
+}
+
 /// The number that these bytes are the form of, unless it is negative.
-pub fn index(bytes: &[u8]) -> Option<u64> {
+pub fn index(bytes: &[u8]) -> Result<u64, NoIndex> {
     let Some(last) = bytes.last() else {
-        return Some(0);
+        return Ok(0);
     };
-    if bytes.len() > 8 || *last >= 0x80 || (*last == 0 && (bytes.len() < 2 || bytes[bytes.len() - 2] < 0x80)) {
-        return None;
+    let needless = matches!(*last, 0x00 | 0x80) && (bytes.len() < 2 || bytes[bytes.len() - 2] < 0x80);
+    if bytes.len() > 8 || needless {
+        return Err(NoIndex::Crooked);
+    }
+    if *last >= 0x80 {
+        return Err(NoIndex::Negative);
     }
     let mut number = 0u64;
     for (place, byte) in bytes.iter().enumerate() {
         number += u64::from(*byte) << (8 * place);
     }
-    Some(number)
+    Ok(number)
 }
 
 // Sections 2 and 3.
@@ -139,8 +150,13 @@ impl Stacks {
     fn pop_index(self) -> Result<(u64, Self), Refusal> {
         let (item, rest) = self.pop()?;
         match item {
-            Item::Exact(bytes) => Ok((index(&bytes).ok_or((9, 0, 0))?, rest)),
             Item::Unknown => Err((9, 0, 0)),
+            // Request L2: at the place of 9.
+            Item::Exact(bytes) => match index(&bytes) {
+                Ok(number) => Ok((number, rest)),
+                Err(NoIndex::Crooked) => Err((24, 0, 0)),
+                Err(NoIndex::Negative) => Err((25, 0, 0)),
+            },
         }
     }
 

@@ -1,6 +1,7 @@
 //! What the programs share: the protocol of cases and answers, the generator, and
 //! document 01 as a plain reading.
 
+pub mod blank;
 pub mod case;
 pub mod definition;
 pub mod generate;

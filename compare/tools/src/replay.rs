@@ -46,7 +46,7 @@ impl Replay<'_> {
     }
 
     fn pop_index(&mut self) -> Result<u64, &'static str> {
-        index(&self.pop()?).ok_or("an index that is no number or negative")
+        index(&self.pop()?).map_err(|_| "an index that is no number or negative")
     }
 
     fn pops(&mut self, count: u64) -> Step {

@@ -132,6 +132,6 @@ fn the_fixed_list_is_answered_as_committed() {
     let answers = include_str!("../../list/answers.txt");
     assert_eq!(cases.lines().count(), answers.lines().count());
     for (number, (case, answer)) in cases.lines().zip(answers.lines()).enumerate() {
-        assert_eq!(Case::parse(case).unwrap().answer().1, answer, "line {}", number + 1);
+        assert_eq!(Case::parse(case).unwrap().told_apart().1, answer, "line {}", number + 1);
     }
 }

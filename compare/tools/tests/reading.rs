@@ -21,6 +21,36 @@ fn heights(end: &Option<Stacks>) -> Option<(usize, usize)> {
     end.as_ref().map(|end| (end.main.len(), end.alt.len()))
 }
 
+/// Request L2: 9 for an unknown item, 24 for bytes that are no number, 25 for a number below zero, each at the place of 9.
+#[test]
+fn spoilt_indices() {
+    let refused: [(&[u8], u32, [u64; 4]); 15] = [
+        (b"\x79", 2, [9, 0, 0, 0]),
+        (b"\x09\0\0\0\0\0\0\0\0\0\x79", 1, [9, 10, 0, 0]),
+        (b"\x01\x80\x79", 1, [24, 2, 0, 0]),
+        (b"\x02\x00\x80\x7a", 1, [24, 3, 0, 0]),
+        (b"\x01\x00\x79", 1, [24, 2, 0, 0]),
+        (b"\x02\x05\x00\x79", 1, [24, 3, 0, 0]),
+        (b"\x02\x05\x80\x79", 1, [24, 3, 0, 0]),
+        (b"\x4f\x79", 1, [25, 1, 0, 0]),
+        (b"\x02\x80\x80\x7a", 1, [25, 3, 0, 0]),
+        // 80 00 is 128, and missing items come first.
+        (b"\x02\x80\x00\x79", 1, [7, 3, 129, 1]),
+        (b"\x79", 0, [7, 0, 1, 0]),
+        // ZK: its count, and its tag.
+        (b"\x4f\x51\x51\x01\x20\xa6", 0, [25, 5, 0, 0]),
+        (b"\x01\x80\x51\x51\x01\x20\xa6", 0, [24, 6, 0, 0]),
+        (b"\x51\x51\x01\x20\xa6", 1, [9, 4, 0, 0]),
+        (b"\x4f\xa6", 9, [10, 1, 0, 0]),
+    ];
+    for (bytes, main, [number, offset, a, b]) in refused {
+        let (verdict, _) = marked(bytes, main, 0);
+        assert_eq!(verdict.answer, Answer { number: number as u32, offset, a, b }, "{bytes:02x?} ({main})");
+    }
+    // Dead code reads nothing.
+    assert_eq!(marked(b"\x4f\x6a\x79", 1, 0).0.answer, Answer::ACCEPTED);
+}
+
 /// Section 8, with peak and end where it names them.
 #[test]
 fn section_8() {

@@ -18,7 +18,7 @@ pub record Paper : Type 0 where
   pub alt : ℕ
   pub says : List ℕ
 
-abbrev paper : Bytes → ℕ → ℕ → List ℕ → Paper
+abbrev pub paper : Bytes → ℕ → ℕ → List ℕ → Paper
 paper fragment main alt says = record { fragment = fragment; main = main; alt = alt; says = says }
 
 -- how a verdict is written down here: number, offset, two figures; where it is accepted, the peak, and the end heights or none
@@ -29,10 +29,10 @@ ending (live s) = length (s .main) ∷ length (s .alt) ∷ []
 abbrev written : Verdict → List ℕ
 written v = v .answer .number ∷ v .answer .offset ∷ v .answer .first ∷ v .answer .second ∷ v .peak ∷ ending (v .end)
 
-abbrev accepts : ℕ → List ℕ → List ℕ
+abbrev pub accepts : ℕ → List ℕ → List ℕ
 accepts peak end = 0 ∷ 0 ∷ 0 ∷ 0 ∷ peak ∷ end
 
-abbrev refuses : ℕ → ℕ → ℕ → ℕ → List ℕ
+abbrev pub refuses : ℕ → ℕ → ℕ → ℕ → List ℕ
 refuses number offset first second = number ∷ offset ∷ first ∷ second ∷ 0 ∷ []
 
 pub markedPapers : List Paper
@@ -55,7 +55,7 @@ markedPapers =
     paper (0x6a ∷ replicate 24 0x63) 0 0 (refuses 16 24 0 0) ∷ []
 
 -- what the definitions say, with a log of 90 numbers
-pub said : Paper → List ℕ
+unfoldable pub said : Paper → List ℕ
 said p = written (analysis builtIn (p .fragment) (p .main) (p .alt) (replicate 90 0) .verdict)
 
 pub sixteen : map said markedPapers ≡ map (λ (p : Paper). p .says) markedPapers

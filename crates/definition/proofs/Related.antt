@@ -66,12 +66,12 @@ pub paired-total : {s : Stacks Item} {t : Stacks Bytes} → PairedStacks s t →
 paired-total h = rw (paired-length (h .main), paired-length (h .alt))
 
 -- what the marker keeps of a literal is true of it
+shows-picked : (b : Bool) (l : Bytes) → Shows (pick b (exact l) unknown) l
+shows-picked true l = refl
+shows-picked false l = tt
+
 shows-known : (l : Bytes) → Shows (known l) l
-shows-known l = either (leb (length l) 8)
-  where
-    either : (b : Bool) → Shows (pick b (exact l) unknown) l
-    either true = refl
-    either false = tt
+shows-known l = search shows-picked
 
 -- Outcomes
 

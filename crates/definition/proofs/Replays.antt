@@ -46,9 +46,11 @@ runs =
     run (0x93 ∷ 0xb2 ∷ []) ([] ∷ [] ∷ []) [] ((7 ∷ 8 ∷ []) ∷ (9 ∷ []) ∷ []) ∷
     -- `82`: the real length, 9
     run (0x82 ∷ []) (replicate 9 7 ∷ []) [] [] ∷
-    -- faults: `75` on no item, `79` on a negative index, `ff`
+    -- faults: `75` on no item; `79` on a negative index, on a negative zero and on nine bytes; `ff`
     run (0x75 ∷ []) [] [] [] ∷
     run (0x4f ∷ 0x79 ∷ []) ([] ∷ []) [] [] ∷
+    run (0x79 ∷ []) ((0x80 ∷ []) ∷ [] ∷ []) [] [] ∷
+    run (0x79 ∷ []) (replicate 9 0 ∷ [] ∷ []) [] [] ∷
     run (0xff ∷ []) [] [] [] ∷ []
 
 pub replays : map ran runs ≡
@@ -62,6 +64,8 @@ pub replays : map ran runs ≡
     ((0 ∷ []) ∷ (100 ∷ []) ∷ (9 ∷ []) ∷ replicate 9 7 ∷ []) ∷
     ((0 ∷ []) ∷ (102 ∷ []) ∷ []) ∷
     ((0 ∷ []) ∷ (1 ∷ []) ∷ (102 ∷ []) ∷ []) ∷
+    ((0 ∷ []) ∷ (102 ∷ []) ∷ []) ∷
+    ((0 ∷ []) ∷ (102 ∷ []) ∷ []) ∷
     ((0 ∷ []) ∷ (102 ∷ []) ∷ []) ∷ [])
 unfolding runs replayFrom step plainStep pushItem dropItems copyItems rotateItems tuckTop nipSecond moveToAlt moveFromAlt classOf classNumber decode front serialize deserialize
 replays = refl

@@ -31,7 +31,7 @@ abbrev pub LiveAs : Arm → Stacks Bytes → Type 0
 LiveAs dead u = ⊥
 LiveAs (live s) u = PairedStacks s u
 
-and-true : (a b : Bool) → (a && b) ≡ true → (a ≡ true) × (b ≡ true)
+pub and-true : (a b : Bool) → (a && b) ≡ true → (a ≡ true) × (b ≡ true)
 and-true true true h = (refl, refl)
 and-true true false h = (refl, h)
 and-true false true h = (h, refl)

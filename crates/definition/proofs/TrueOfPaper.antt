@@ -77,7 +77,7 @@ analysis-rows R fragment main alt log h =
 -- The rows of a fragment in the paper's log
 
 -- two logs with the same first n numbers have the same heights in each row within them
-within-front : (i j n : ℕ) (l : List ℕ) → i + j ≤ n → take j (drop i (take n l)) ≡ take j (drop i l)
+pub within-front : (i j n : ℕ) (l : List ℕ) → i + j ≤ n → take j (drop i (take n l)) ≡ take j (drop i l)
 within-front zero j n l h = take-take j n l (omega arith)
 within-front (suc i) j zero l h = absurd (omega arith)
 within-front (suc i) j (suc n) [] h = refl

@@ -131,7 +131,8 @@ value l = pick (ltb (last l) 0x80) (plus (number l)) (minus (number l - 0x80 * 2
 unfoldable pub deserialize : Bytes → Option Integer
 deserialize l = pick (leb (length l) 8 && minimal l) (some (value l)) none
 
--- reading an item as an index; the first three cases are one refusal, 9 (`readable` of Stacks)
+-- request L2, "the reading of an index should tell": an item read as an index. The first three cases are three refusals, 9, 24
+-- and 25 (`readable` of Stacks).
 pub data Index : Type 0 where
   notKnown : Index
   noNumber : Index

@@ -1,9 +1,10 @@
--- Section 7: the verdict numbers, with the figures of each.
+-- Section 7: the verdict numbers, with the figures of each, and those that requests add.
 use Prim.Native.Nat.{ℕ}
 
 -- the word of a refusal, with those of its figures that are not fixed
 pub data Refusal : Type 0 where
-  malformedFragment nesting altDry badIndex badTag armsDiffer strayElse secondElse strayEndif openIf badHeader tallyFull : Refusal
+  malformedFragment nesting altDry badIndex badTag armsDiffer strayElse secondElse strayEndif openIf badHeader tallyFull badSitting : Refusal
+  crookedNumber negativeIndex : Refusal
   longFragment unmodelledOpcode opcodeCount scriptSize longPaper : ℕ → Refusal
   startTooLarge shortLog stacksFull mainDry dispatchTooLarge : ℕ → ℕ → Refusal
 
@@ -19,6 +20,10 @@ maxOperations = 201
 
 abbrev pub maxPaper : ℕ
 maxPaper = 8000
+
+-- request L1, "the greatest in use": every verdict number below is at most this one. A request that adds numbers raises it.
+abbrev pub greatestNumber : ℕ
+greatestNumber = 25
 
 -- number, offset and two figures: what the limit check answers, and part of every verdict
 pub record Answer : Type 0 where
@@ -59,3 +64,6 @@ refusedAt at badHeader = answer 19 at 0 0
 refusedAt at (dispatchTooLarge sum limit) = answer 20 at sum limit
 refusedAt at (longPaper length) = answer 21 at length maxPaper
 refusedAt at tallyFull = answer 22 at 0 0
+refusedAt at badSitting = answer 23 at 0 0
+refusedAt at crookedNumber = answer 24 at 0 0
+refusedAt at negativeIndex = answer 25 at 0 0

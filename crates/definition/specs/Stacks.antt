@@ -8,7 +8,7 @@ use lib.ListN.{length, take, drop}
 use Rattle.definition.specs.Basics.{Bytes, pick}
 use Rattle.definition.specs.Decoding.{Instruction, serialize, plus, Index, notKnown, noNumber, negative, index, indexOf}
 use Rattle.definition.specs.Classes.{Class, Ordinary, unmodelled, push, nothing, TOALT, FROMALT, DEPTH, SIZE, NIP, TUCK, PICK, ROLL, ZK, copies, rotates, classOf}
-use Rattle.definition.specs.Refusals.{Refusal, stacksFull, mainDry, altDry, badIndex, badTag, unmodelledOpcode}
+use Rattle.definition.specs.Refusals.{Refusal, stacksFull, mainDry, altDry, badIndex, crookedNumber, negativeIndex, badTag, unmodelledOpcode}
 
 -- What the marker and a replay go by: the class of each opcode, and the limit of both stacks together. Document 01 has one such,
 -- `builtIn`.
@@ -138,11 +138,12 @@ module _ {A : Type 0} (I : ItemOps A) where
   sizeItem none = I .result
   sizeItem (some l) = numberItem (length l)
 
-  -- an index "readable, not negative"
+  -- an index "readable, not negative". Request L2: "9 stays for an item that is unknown. .. 24 crooked number, when the exact
+  -- bytes are no number by section 1; 25 negative index, when they are one below zero; both at the place of 9."
   abbrev pub readable : Index → (ℕ → Outcome A) → Outcome A
   readable notKnown next = refused badIndex
-  readable noNumber next = refused badIndex
-  readable negative next = refused badIndex
+  readable noNumber next = refused crookedNumber
+  readable negative next = refused negativeIndex
   readable (index n) next = next n
 
   -- pops an index and goes on with it

@@ -2,3 +2,4 @@ mod Places
 mod Parts
 mod Counters
 mod Items
+mod Sittings

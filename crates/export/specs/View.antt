@@ -7,6 +7,7 @@ use lib.ListN.{length, drop, getD}
 use Rattle.definition.specs.Basics.{Bytes, pick}
 use Rattle.definition.specs.Papers.{PaperVerdict, byMark, display}
 use Rattle.definition.specs.Refusals.{Answer}
+use Rattle.definition.specs.Sums.{SittingSums}
 use Rattle.definition.specs.Walk.{Item, Arm, dead, live, Verdict, Tally}
 use Rattle.ends.specs.View.{itemsOf, itemLength, itemNumber}
 use Rattle.stack_analysis.specs.View.{hasEnd, endMain, endAlt}
@@ -52,6 +53,10 @@ tallyFrom l = record { fragments = getD l 0 0; accepts = getD l 1 0; rows = getD
 -- the four counters of a tally
 abbrev pub tallyNumbers : Tally → List ℕ
 tallyNumbers t = t .fragments ∷ t .accepts ∷ t .rows ∷ t .peak ∷ []
+
+-- the numbers of the sums over a sitting: number, sum, count, and how often 0, 1, .. the greatest number in use occurred
+abbrev pub sumsNumbers : SittingSums → List ℕ
+sumsNumbers s = s .number ∷ s .sum ∷ s .count ∷ s .counts
 
 -- where the part that is displayed starts in its fragment: at the offset, or at the end if the offset is past it
 unfoldable pub displayStart : Bytes → Bytes → ℕ → ℕ → ℕ

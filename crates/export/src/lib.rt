@@ -1,25 +1,29 @@
 // The functions for C and Rust callers. Numbers pass as themselves, a slice as a pointer and then a length, an array as a
-// pointer. Nothing is asked of the caller beyond that: bad input is refused with a number of document 01.
+// pointer. Nothing is asked of the caller beyond that: bad input is refused with a number of document 01 or 02.
 ghost use mathlib.Core.List.{[], _∷_};
 ghost use mathlib.Core.Path.{_≡_};
-ghost use Prim.Native.Nat.{_+_, _≤_, min};
+ghost use Prim.Native.Nat.{suc, _+_, _≤_, min};
 ghost use lib.ListN.{length, take, drop};
 ghost use Rattle.definition.specs.Lines.{printed};
 ghost use Rattle.definition.specs.Papers.{limitCheck, markPaper, byMark, display};
+ghost use Rattle.definition.specs.Refusals.{greatestNumber};
 ghost use Rattle.definition.specs.Stacks.{builtIn};
+ghost use Rattle.definition.specs.Sums as Sums;
 ghost use Rattle.definition.specs.Walk.{analysis};
 ghost use Rattle.definition.specs.Walk as Walk;
 ghost use Rattle.limits.specs.View.{answerOf};
 ghost use Rattle.log_text.specs.LogText.{logText};
 ghost use Rattle.paper.specs.View.{paperOf};
 ghost use Rattle.reasons.specs.Reasons.{reason};
+ghost use Rattle.sums.specs.View.{sumsOf};
 ghost use Rattle.tally.specs.View.{tallyOf, Gives};
-ghost use Rattle.export.specs.View.{flag, written, verdictNumbers, endNumbers, answerNumbers, paperNumbers, displayStart, partNumbers, tallyFrom, tallyNumbers};
+ghost use Rattle.export.specs.View.{flag, written, verdictNumbers, endNumbers, answerNumbers, paperNumbers, sumsNumbers, displayStart, partNumbers, tallyFrom, tallyNumbers};
 ghost use Rattle.export.specs.Parts.{summaryNumbers, structNumbers};
 use ends::EndStacks;
 use limits::Answer;
 use paper::PaperVerdict;
 use stack_analysis::Summary;
+use sums::SittingSums;
 use tally::Tally;
 
 fn flag(b: bool) -> u64
@@ -32,6 +36,12 @@ fn flag(b: bool) -> u64
 }
 
 fn wide(x: u8) -> u64
+    ensures { λ r. ⌜ r ≡ x ⌝ }
+{
+    x as u64
+}
+
+fn wide_count(x: u32) -> u64
     ensures { λ r. ⌜ r ≡ x ⌝ }
 {
     x as u64
@@ -145,6 +155,26 @@ fn write_size(size: usize, out: &mut [u64])
         return;
     }
     out[0] = size as u64;
+}
+
+// The numbers of the sums over a sitting into the lent places, where there are that many of them: number, sum, count, and how
+// often each verdict number occurred.
+fn write_sums(r: SittingSums, out: &mut [u64])
+    requires { ⌜ length (r .counts) ≡ suc greatestNumber ⌝ }
+    ensures { λ _. ⌜ now (out .exit) ≡ written (sumsNumbers (sumsOf r)) (now (out .entry)) ⌝ }
+{
+    if out.len() < 3 + sums::NUMBERS {
+        return;
+    }
+    out[0] = r.number as u64;
+    out[1] = r.sum;
+    out[2] = r.count as u64;
+    let counts = r.counts;
+    let mut k: usize = 0;
+    while k < sums::NUMBERS {
+        out[3 + k] = wide_count(counts[k]);
+        k += 1;
+    }
 }
 
 // The tally of four counters: fragments, accepted, rows, greatest peak.
@@ -421,7 +451,7 @@ pub extern "C" fn listochur_log_lines(
 }
 
 // A verdict's number and figures in words, in `text` where it has room: the number, and the size of the words in `out`. A number
-// past document 01's has no words.
+// past the greatest in use has no words.
 #[no_mangle]
 pub extern "C" fn listochur_reason(
     number: u32,
@@ -469,4 +499,18 @@ pub extern "C" fn listochur_gain(counters: &mut [u32; 4], number: u32, rows: u64
         r.tally.peak,
     ];
     r.answer
+}
+
+// The sums over a sitting, verdict number and peak by turns: 0 or 23, and in `out` number, sum and count of the peaks of the
+// accepted, and how often each verdict number occurred, from 0 to the greatest in use.
+#[no_mangle]
+pub extern "C" fn listochur_sums(sitting: &[u32], out: &mut [u64]) -> u32
+    ensures number { λ r. ⌜ r ≡ Sums.sums (now (sitting .entry)) .number ⌝ }
+    ensures written { λ r.
+        ⌜ now (out .exit) ≡ written (sumsNumbers (Sums.sums (now (sitting .entry)))) (now (out .entry)) ⌝ }
+{
+    let r = sums::sums(sitting);
+    let number = r.number;
+    write_sums(r, out);
+    number
 }

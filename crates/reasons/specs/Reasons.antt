@@ -1,4 +1,4 @@
--- A refusal in words: document 01, section 7.
+-- A refusal in words: document 01, section 7, and the requests of document 02.
 use mathlib.Core.List.{List, [], _∷_, _++_}
 use Prim.Native.Nat.{ℕ}
 use Prim.Native.String.{String}
@@ -15,7 +15,8 @@ both word first and second = labelled word first ++ labelled and second
 abbrev pub ofOpcode : String → ℕ → Bytes
 ofOpcode word opcode = text word ++ hexByte opcode
 
--- the word of each number with its figures, from 0 on
+-- The word of each number with its figures, from 0 on. Request L2, "Tutors must explain which mistake a 9 was": the words of 9, 24
+-- and 25 say what was wrong with the item.
 abbrev pub reasons : ℕ → ℕ → List Bytes
 reasons first second =
     text "accepted"
@@ -27,7 +28,7 @@ reasons first second =
     ∷ both "stacks full: total wanted " first ", limit " second
     ∷ both "main dry: needed " first ", had " second
     ∷ text "alt dry"
-    ∷ text "index"
+    ∷ text "index: the item is unknown"
     ∷ text "tag"
     ∷ ofOpcode "unmodelled: opcode " first
     ∷ text "arms differ"
@@ -41,6 +42,9 @@ reasons first second =
     ∷ both "dispatch: sum " first ", limit " second
     ∷ both "long paper: length " first ", limit " second
     ∷ text "tally full"
+    ∷ text "bad sitting"
+    ∷ text "crooked number: a needless 00 (05 00) or 80 (negative zero)"
+    ∷ text "negative index: top bit of the last byte set (81 is minus 1)"
     ∷ []
 
 -- that of one number, and nothing for a number past the table

@@ -1,5 +1,5 @@
-// The words of the verdict numbers: document 01, section 7. A text is written into lent bytes from an index on; the answer is
-// the index after it.
+// The words of the verdict numbers: document 01, section 7, and document 02. A text is written into lent bytes from an index
+// on; the answer is the index after it.
 ghost use mathlib.Core.List.{_++_};
 ghost use Prim.Native.Nat.{_+_, _≤_};
 ghost use lib.ListN.{length};
@@ -37,7 +37,7 @@ fn write_opcode(out: &mut [u8], at: usize, word: &[u8], opcode: u64) -> usize
     text::write_hex(out, next, opcode)
 }
 
-// The word of a number with its figures: document 01, section 7. From 0 to 5, to 11, to 17 and to 22.
+// The word of a number with its figures: document 01, section 7, and document 02. From 0 to 5, to 11, to 17, to 23 and to 25.
 fn write_reason_0(out: &mut [u8], at: usize, number: u32, first: u64, second: u64) -> usize
     requires { ⌜ (at + 80 ≤ length (now out)) × ((0 ≤ number) × (number ≤ 5)) ⌝ }
     ensures same { λ r. ⌜ Written (now (out .entry)) at (reason number first second) (now (out .exit)) r ⌝ }
@@ -76,7 +76,7 @@ fn write_reason_6(out: &mut [u8], at: usize, number: u32, first: u64, second: u6
         ),
         7 => write_both(out, at, b"main dry: needed ", first, b", had ", second),
         8 => text::write_word(out, at, b"alt dry"),
-        9 => text::write_word(out, at, b"index"),
+        9 => text::write_word(out, at, b"index: the item is unknown"),
         10 => text::write_word(out, at, b"tag"),
         _ => write_opcode(out, at, b"unmodelled: opcode ", first),
     }
@@ -98,7 +98,7 @@ fn write_reason_12(out: &mut [u8], at: usize, number: u32, first: u64, second: u
 }
 
 fn write_reason_18(out: &mut [u8], at: usize, number: u32, first: u64, second: u64) -> usize
-    requires { ⌜ (at + 80 ≤ length (now out)) × ((18 ≤ number) × (number ≤ 22)) ⌝ }
+    requires { ⌜ (at + 80 ≤ length (now out)) × ((18 ≤ number) × (number ≤ 23)) ⌝ }
     ensures same { λ r. ⌜ Written (now (out .entry)) at (reason number first second) (now (out .exit)) r ⌝ }
     ensures short { λ r. ⌜ r ≤ at + 80 ⌝ }
 {
@@ -107,7 +107,27 @@ fn write_reason_18(out: &mut [u8], at: usize, number: u32, first: u64, second: u
         19 => text::write_word(out, at, b"header"),
         20 => write_both(out, at, b"dispatch: sum ", first, b", limit ", second),
         21 => write_both(out, at, b"long paper: length ", first, b", limit ", second),
-        _ => text::write_word(out, at, b"tally full"),
+        22 => text::write_word(out, at, b"tally full"),
+        _ => text::write_word(out, at, b"bad sitting"),
+    }
+}
+
+fn write_reason_24(out: &mut [u8], at: usize, number: u32, first: u64, second: u64) -> usize
+    requires { ⌜ (at + 80 ≤ length (now out)) × ((24 ≤ number) × (number ≤ 25)) ⌝ }
+    ensures same { λ r. ⌜ Written (now (out .entry)) at (reason number first second) (now (out .exit)) r ⌝ }
+    ensures short { λ r. ⌜ r ≤ at + 80 ⌝ }
+{
+    match number {
+        24 => text::write_word(
+            out,
+            at,
+            b"crooked number: a needless 00 (05 00) or 80 (negative zero)",
+        ),
+        _ => text::write_word(
+            out,
+            at,
+            b"negative index: top bit of the last byte set (81 is minus 1)",
+        ),
     }
 }
 
@@ -126,8 +146,11 @@ pub fn write_reason(out: &mut [u8], at: usize, number: u32, first: u64, second: 
     if number < 18 {
         return write_reason_12(out, at, number, first, second);
     }
-    if number < 23 {
+    if number < 24 {
         return write_reason_18(out, at, number, first, second);
+    }
+    if number < 26 {
+        return write_reason_24(out, at, number, first, second);
     }
     at
 }

@@ -1,5 +1,5 @@
 -- Items popped one by one: indices, counts and tags.
-use mathlib.Core.Path.{_≡_, refl, sym, _∙_}
+use mathlib.Core.Path.{_≡_, refl, sym, ap, _∙_}
 use mathlib.Core.Bool.{Bool, true, false, _&&_}
 use mathlib.Core.List.{[], _∷_}
 use mathlib.Core.Option.{none, some}
@@ -33,7 +33,7 @@ use Rattle.stack.specs.View.{slotsOf, view, Fit, Says}
 use Rattle.stack.specs.Parts.{countOf, without, Small, counted, Pops}
 use Rattle.stack.specs.declared.Stacks.{Stacks}
 use Rattle.stack.specs.declared.Refusal.{Refusal}
-use Rattle.stack.specs.declared.Refusal.the-variants.{MainDry, BadIndex}
+use Rattle.stack.specs.declared.Refusal.the-variants.{MainDry, BadIndex, CrookedNumber, NegativeIndex}
 use Rattle.stack.specs.declared.Stepped.{Stepped}
 use Rattle.stack.specs.declared.Count.{Count}
 use Rattle.stack.specs.declared.Count.the-variants as C
@@ -77,32 +77,35 @@ index-small l h n k = by (leb (length l) 8 && minimal l)
     by true i = read (ltb (last l) 128) refl i
     by false i = absurd (let z : _≡_ {A = ℕ} 0 1 = cc in omega arith)
 
--- an index of the definition, as the code's, and what follows it
-readable-at : (x : D.Index) (n : ℕ) → indexed x ≡ I.At n → x ≡ D.index n
-readable-at D.notKnown n e = cc
-readable-at D.noNumber n e = cc
-readable-at D.negative n e = cc
-readable-at (D.index m) n e = cc
+-- the definition's index for the code's, which tells each of the four apart
+abbrev told : Index → D.Index
+told I.Unknown = D.notKnown
+told I.NoNumber = D.noNumber
+told I.Negative = D.negative
+told (I.At n) = D.index n
+
+told-indexed : (x : D.Index) → told (indexed x) ≡ x
+told-indexed D.notKnown = refl
+told-indexed D.noNumber = refl
+told-indexed D.negative = refl
+told-indexed (D.index n) = refl
 
 -- the index of a value, as the code's
 module _ (v : Value) (i : Index) (e : i ≡ indexed (indexOf (bytesKnown (itemOf v)))) where
-  pub count-at : (n : ℕ) → i ≡ I.At n → C.At n ≡ countOf (indexOf (bytesKnown (itemOf v)))
-  count-at n g = let x : indexOf (bytesKnown (itemOf v)) ≡ D.index n = readable-at _ n (sym e ∙ g) in rw x
+  counts : (j : Index) → i ≡ j → countOf (told j) ≡ countOf (indexOf (bytesKnown (itemOf v)))
+  counts j g = ap (λ x. countOf (told x)) (sym g ∙ e) ∙ ap countOf (told-indexed (indexOf (bytesKnown (itemOf v))))
 
-  count-bad : (x : D.Index) → i ≡ indexed x → ((n : ℕ) → i ≡ I.At n → ⊥) → C.Refused BadIndex ≡ countOf x
-  count-bad D.notKnown e h = refl
-  count-bad D.noNumber e h = refl
-  count-bad D.negative e h = refl
-  count-bad (D.index m) e h = absurd (h m e)
+  pub count-at : (n : ℕ) → i ≡ I.At n → C.At n ≡ countOf (indexOf (bytesKnown (itemOf v)))
+  count-at n = counts (I.At n)
 
   pub count-unknown : i ≡ I.Unknown → C.Refused BadIndex ≡ countOf (indexOf (bytesKnown (itemOf v)))
-  count-unknown g = count-bad (indexOf (bytesKnown (itemOf v))) e (λ n q. let z : _≡_ {A = ℕ} 0 1 = cc in omega arith)
+  count-unknown = counts I.Unknown
 
-  pub count-no-number : i ≡ I.NoNumber → C.Refused BadIndex ≡ countOf (indexOf (bytesKnown (itemOf v)))
-  count-no-number g = count-bad (indexOf (bytesKnown (itemOf v))) e (λ n q. let z : _≡_ {A = ℕ} 0 1 = cc in omega arith)
+  pub count-no-number : i ≡ I.NoNumber → C.Refused CrookedNumber ≡ countOf (indexOf (bytesKnown (itemOf v)))
+  count-no-number = counts I.NoNumber
 
-  pub count-negative : i ≡ I.Negative → C.Refused BadIndex ≡ countOf (indexOf (bytesKnown (itemOf v)))
-  count-negative g = count-bad (indexOf (bytesKnown (itemOf v))) e (λ n q. let z : _≡_ {A = ℕ} 0 1 = cc in omega arith)
+  pub count-negative : i ≡ I.Negative → C.Refused NegativeIndex ≡ countOf (indexOf (bytesKnown (itemOf v)))
+  count-negative = counts I.Negative
 
 module _ (s : Stacks) (f : Fit s) where
   pub pops-dry : s .mains < 1 → Pops s (C.Refused (MainDry 1 (s .mains)))

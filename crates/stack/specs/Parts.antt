@@ -9,14 +9,14 @@ use Rattle.definition.specs.Walk.{Item, marking}
 use Rattle.stack.specs.View.{refusalOf, view}
 use Rattle.stack.specs.declared.Count.{Count}
 use Rattle.stack.specs.declared.Count.the-variants.{At, Refused}
-use Rattle.stack.specs.declared.Refusal.the-variants.{BadIndex}
+use Rattle.stack.specs.declared.Refusal.the-variants.{BadIndex, CrookedNumber, NegativeIndex}
 use Rattle.stack.specs.declared.Stacks.{Stacks}
 
--- an index as it is read, or the refusal
+-- an index as it is read, or which refusal
 abbrev pub countOf : D.Index → Count
 countOf D.notKnown = Refused BadIndex
-countOf D.noNumber = Refused BadIndex
-countOf D.negative = Refused BadIndex
+countOf D.noNumber = Refused CrookedNumber
+countOf D.negative = Refused NegativeIndex
 countOf (D.index n) = At n
 
 -- the stacks without the top k of main

@@ -9,7 +9,7 @@ use Rattle.definition.specs.Walk.{Item, marking, unknowns}
 use Rattle.slots.specs.View.{Slots, slots, cells, backs, tops, Sound}
 use Rattle.stack.specs.declared.Stacks.{Stacks}
 use Rattle.stack.specs.declared.Refusal.{Refusal}
-use Rattle.stack.specs.declared.Refusal.the-variants.{Nesting, StacksFull, MainDry, AltDry, BadIndex, BadTag, Unmodelled, ArmsDiffer, StrayElse, SecondElse, StrayEndif, OpenIf}
+use Rattle.stack.specs.declared.Refusal.the-variants.{Nesting, StacksFull, MainDry, AltDry, BadIndex, CrookedNumber, NegativeIndex, BadTag, Unmodelled, ArmsDiffer, StrayElse, SecondElse, StrayEndif, OpenIf}
 use Rattle.stack.specs.declared.Answer.{Answer}
 use Rattle.stack.specs.declared.Answer.the-variants.{Done, Refused}
 use Rattle.stack.specs.declared.Stepped.{Stepped}
@@ -23,6 +23,8 @@ refusalOf (StacksFull wanted limit) = D.stacksFull wanted limit
 refusalOf (MainDry needed had) = D.mainDry needed had
 refusalOf AltDry = D.altDry
 refusalOf BadIndex = D.badIndex
+refusalOf CrookedNumber = D.crookedNumber
+refusalOf NegativeIndex = D.negativeIndex
 refusalOf BadTag = D.badTag
 refusalOf (Unmodelled opcode) = D.unmodelledOpcode opcode
 refusalOf ArmsDiffer = D.armsDiffer

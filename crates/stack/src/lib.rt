@@ -37,13 +37,15 @@ pub struct Stacks {
     pub codes: [u8; 244],
 }
 
-// The refusals of a walk, 5 to 16 of section 7, with those of their figures that are not fixed.
+// The refusals of a walk, 5 to 16 of section 7 and 24 and 25 of request L2, with those of their figures that are not fixed.
 pub enum Refusal {
     Nesting,
     StacksFull { wanted: u32, limit: u32 },
     MainDry { needed: u64, had: u32 },
     AltDry,
     BadIndex,
+    CrookedNumber,
+    NegativeIndex,
     BadTag,
     Unmodelled { opcode: u8 },
     ArmsDiffer,
@@ -79,8 +81,8 @@ fn count_of(v: Value) -> Count
     match index {
         Index::At(n) => Count::At(n),
         Index::Unknown => Count::Refused(Refusal::BadIndex),
-        Index::NoNumber => Count::Refused(Refusal::BadIndex),
-        Index::Negative => Count::Refused(Refusal::BadIndex),
+        Index::NoNumber => Count::Refused(Refusal::CrookedNumber),
+        Index::Negative => Count::Refused(Refusal::NegativeIndex),
     }
 }
 
@@ -837,9 +839,9 @@ impl Stacks {
                 self.mains = m - 4;
                 self.zk_drop(n, limit)
             }
-            Count::Refused(refusal) => Stepped {
+            Count::Refused(why) => Stepped {
                 stacks: self,
-                answer: Answer::Refused(refusal),
+                answer: Answer::Refused(why),
             },
         }
     }

@@ -3,3 +3,4 @@ pub mod Conditionals
 pub mod Cycle
 pub mod Answers
 pub mod Entries
+pub mod LongData

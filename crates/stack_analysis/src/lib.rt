@@ -239,7 +239,7 @@ fn conditional(
     finish(first, start, live)
 }
 
-// The number and the figures of a refusal: section 7.
+// The number and the figures of a refusal: section 7, and request L2.
 fn figures_of(r: Refusal) -> Figures
     ensures { λ f.
         ⌜ ((at : ℕ) → refusedAt at (refusalOf r) ≡ answer (f .number) at (f .first) (f .second)) ⌝ }
@@ -267,6 +267,16 @@ fn figures_of(r: Refusal) -> Figures
         },
         Refusal::BadIndex => Figures {
             number: 9,
+            first: 0,
+            second: 0,
+        },
+        Refusal::CrookedNumber => Figures {
+            number: 24,
+            first: 0,
+            second: 0,
+        },
+        Refusal::NegativeIndex => Figures {
+            number: 25,
             first: 0,
             second: 0,
         },

@@ -9,13 +9,14 @@ use std::fs;
 use std::path::PathBuf;
 use std::process::ExitCode;
 
-use reference::Tally;
+use reference::{Tally, as_message};
 use tools::case::Case;
 use tools::generate::{Draft, Kind, case, mutate};
 use tools::model::{LENGTHS, Writer};
 use tools::rng::Rng;
 
-/// Every verdict number that the Rust, a paper's header or a tally can give occurs this often.
+/// Every verdict number that the Rust, a paper's header or a tally can give occurs this often, 24 and 25 as 9, the Rust's one
+/// message for the three.
 const AT_LEAST: usize = 30;
 const WANTED: [(&str, &[u32]); 5] = [
     ("fragment", &[0, 2, 3, 6, 7, 8, 9, 10, 11, 12, 13, 14, 15, 16]),
@@ -103,7 +104,7 @@ impl List {
 
     /// Adds a case unless it is there already.
     fn add(&mut self, case: Case) {
-        let (number, answer) = case.answer();
+        let (number, answer) = case.told_apart();
         let number = number.unwrap_or_else(|| panic!("outside the shared limits: {case}"));
         if self.seen.insert(case.to_string()) {
             self.answers.push(answer);
@@ -601,24 +602,36 @@ impl List {
         }
     }
 
+    /// How often the numbers occur that count as this one of the Rust's messages.
+    fn count(&self, word: &str, number: u32) -> usize {
+        let same = |given: u32| as_message(given.into()) == number.into();
+        self.counts.iter().filter(|((w, given), _)| *w == word && same(*given)).map(|(_, count)| count).sum()
+    }
+
     /// Prints the counts and says what is wrong with them.
     fn examine(&self) -> Result<(), String> {
         let size = self.text().len();
         println!("{} cases, {size} bytes", self.cases.len());
         for (word, numbers) in WANTED {
-            let line: Vec<String> =
-                numbers.iter().map(|&number| format!("{number}: {}", self.counts.get(&(word, number)).unwrap_or(&0))).collect();
+            let line: Vec<String> = numbers.iter().map(|&number| format!("{number}: {}", self.count(word, number))).collect();
             println!("{word}  {}", line.join(", "));
+            if numbers.contains(&9) {
+                let [unknown, crooked, negative] = [9, 24, 25].map(|number| self.counts.get(&(word, number)).unwrap_or(&0));
+                println!("  of the Rust's one message  9: {unknown}, 24: {crooked}, 25: {negative}");
+            }
         }
         for (word, numbers) in WANTED {
             for &number in numbers {
-                let count = self.counts.get(&(word, number)).copied().unwrap_or(0);
+                let count = self.count(word, number);
                 if count < AT_LEAST {
                     return Err(format!("{word} {number} occurs {count} times, not {AT_LEAST}"));
                 }
             }
         }
-        let unlisted = self.counts.keys().find(|(word, number)| !WANTED.iter().any(|(w, n)| w == word && n.contains(number)));
+        let listed = |word: &str, number: u32| {
+            WANTED.iter().any(|(w, n)| *w == word && n.iter().any(|&n| u64::from(n) == as_message(number.into())))
+        };
+        let unlisted = self.counts.keys().find(|(word, number)| !listed(word, *number));
         if let Some((word, number)) = unlisted {
             return Err(format!("{word} {number} is not a number that was thought possible"));
         }

@@ -48,11 +48,22 @@ returns-4 c =
     let w = c .before .before in
     (w .write-reason-18 .ensures .0, w .write-reason-18 .ensures .1)
 
+write-reason-24-requires : tie.Need-write-reason-24-requires
+write-reason-24-requires c κs = search needs
+
+same-length-5 : tie.Need-same-length-5
+same-length-5 c = search needs
+
 returns-5 : tie.Need-returns-5
 returns-5 c =
-    let s = c .before .before .before .before .before in (
+    let w = c .before .before in
+    (w .write-reason-24 .ensures .0, w .write-reason-24 .ensures .1)
+
+returns-6 : tie.Need-returns-6
+returns-6 c =
+    let s = c .before .before .before .before .before .before in (
       reason-past (s .args .first) (s .args .second) (s .args .out .now) (s .args .at) (s .args .number)
-          (omega (arith, c .if4 .left)),
+          (omega (arith, c .if5 .left)),
       omega arith,
     )
 
@@ -72,4 +83,7 @@ write-reason-spec =
     write-reason-18-requires
     same-length-4
     returns-4
-    returns-5)
+    write-reason-24-requires
+    same-length-5
+    returns-5
+    returns-6)

@@ -44,6 +44,12 @@ slice-aggregate-write-word-2 c = search needs
 write-word-requires-2 : tie.Need-write-word-requires-2
 write-word-requires-2 c κs = search needs
 
+slice-aggregate-write-word-3 : tie.Need-slice-aggregate-write-word-3
+slice-aggregate-write-word-3 c = search needs
+
+write-word-requires-3 : tie.Need-write-word-requires-3
+write-word-requires-3 c κs = search needs
+
 same-length : tie.Need-same-length
 same-length c = search needs
 
@@ -105,10 +111,24 @@ returns-5 c =
     let w = c .before .before in
     let m = w .before .before .before in
     let s = m .before .before in (
-      reason-at (s .args .first) (s .args .second) (s .args .number) 22
-          (omega (arith, s .pre, m .match .rest .1, m .match .rest .0 .1, m .match .rest .0 .0 .1, m .match .rest .0 .0 .0 .1))
-          (w .write-word2 .ensures),
+      reason-at (s .args .first) (s .args .second) (s .args .number) 22 (m .match .keys5) (w .write-word2 .ensures),
       omega (arith, w .write-word2 .ensures .ends),
+    )
+
+same-length-6 : tie.Need-same-length-6
+same-length-6 c = search needs
+
+returns-6 : tie.Need-returns-6
+unfolding reason
+returns-6 c =
+    let w = c .before .before in
+    let m = w .before .before .before in
+    let s = m .before .before in
+    let r = m .match .rest in (
+      reason-at (s .args .first) (s .args .second) (s .args .number) 23
+          (omega (arith, s .pre, r .1, r .0 .1, r .0 .0 .1, r .0 .0 .0 .1, r .0 .0 .0 .0 .1))
+          (w .write-word3 .ensures),
+      omega (arith, w .write-word3 .ensures .ends),
     )
 
 pub write-reason-18-spec : {M : Type 1} → statement M
@@ -128,6 +148,8 @@ write-reason-18-spec =
     write-both-requires-3
     slice-aggregate-write-word-2
     write-word-requires-2
+    slice-aggregate-write-word-3
+    write-word-requires-3
     same-length
     returns
     same-length-2
@@ -137,4 +159,6 @@ write-reason-18-spec =
     same-length-4
     returns-4
     same-length-5
-    returns-5)
+    returns-5
+    same-length-6
+    returns-6)

@@ -25,13 +25,13 @@ returns : tie.Need-returns
 returns c = search (count-at)
 
 returns-2 : tie.Need-returns-2
-returns-2 c = search (count-unknown)
+returns-2 c = count-unknown (c .before .before .before .args .v) (c .before .before .read-index .result) (c .before .before .read-index .ensures .1) (c .enum-told .given .1)
 
 returns-3 : tie.Need-returns-3
-returns-3 c = search (count-no-number)
+returns-3 c = count-no-number (c .before .before .before .args .v) (c .before .before .read-index .result) (c .before .before .read-index .ensures .1) (c .enum-told2 .given .1)
 
 returns-4 : tie.Need-returns-4
-returns-4 c = search (count-negative)
+returns-4 c = count-negative (c .before .before .before .args .v) (c .before .before .read-index .result) (c .before .before .read-index .ensures .1) (c .enum-told3 .given .1)
 
 pub count-of-spec : {M : Type 1} → statement M
 count-of-spec =

@@ -35,17 +35,17 @@ enum-told-3 c = search needs
 enum-told-4 : tie.Need-enum-told-4
 enum-told-4 c = search needs
 
-enum-known-r-3 : tie.Need-enum-known-r-3
-enum-known-r-3 c = search needs
-
-cast-t11 : tie.Need-cast-t11
-cast-t11 c = search needs
-
 enum-told-5 : tie.Need-enum-told-5
 enum-told-5 c = search needs
 
 enum-told-6 : tie.Need-enum-told-6
 enum-told-6 c = search needs
+
+enum-known-r-3 : tie.Need-enum-known-r-3
+enum-known-r-3 c = search needs
+
+cast-t11 : tie.Need-cast-t11
+cast-t11 c = search needs
 
 enum-told-7 : tie.Need-enum-told-7
 enum-told-7 c = search needs
@@ -55,6 +55,12 @@ enum-told-8 c = search needs
 
 enum-told-9 : tie.Need-enum-told-9
 enum-told-9 c = search needs
+
+enum-told-10 : tie.Need-enum-told-10
+enum-told-10 c = search needs
+
+enum-told-11 : tie.Need-enum-told-11
+enum-told-11 c = search needs
 
 returns : tie.Need-returns
 returns c = λ at. ap (λ x. refusedAt at (refusalOf x)) (c .enum-told .given .1)
@@ -75,13 +81,13 @@ returns-6 : tie.Need-returns-6
 returns-6 c = λ at. ap (λ x. refusedAt at (refusalOf x)) (c .enum-told4 .given .1)
 
 returns-7 : tie.Need-returns-7
-returns-7 c = λ at. ap (λ x. refusedAt at (refusalOf x)) (c .before .r3 .given .1)
+returns-7 c = λ at. ap (λ x. refusedAt at (refusalOf x)) (c .enum-told5 .given .1)
 
 returns-8 : tie.Need-returns-8
-returns-8 c = λ at. ap (λ x. refusedAt at (refusalOf x)) (c .enum-told5 .given .1)
+returns-8 c = λ at. ap (λ x. refusedAt at (refusalOf x)) (c .enum-told6 .given .1)
 
 returns-9 : tie.Need-returns-9
-returns-9 c = λ at. ap (λ x. refusedAt at (refusalOf x)) (c .enum-told6 .given .1)
+returns-9 c = λ at. ap (λ x. refusedAt at (refusalOf x)) (c .before .r3 .given .1)
 
 returns-10 : tie.Need-returns-10
 returns-10 c = λ at. ap (λ x. refusedAt at (refusalOf x)) (c .enum-told7 .given .1)
@@ -91,6 +97,12 @@ returns-11 c = λ at. ap (λ x. refusedAt at (refusalOf x)) (c .enum-told8 .give
 
 returns-12 : tie.Need-returns-12
 returns-12 c = λ at. ap (λ x. refusedAt at (refusalOf x)) (c .enum-told9 .given .1)
+
+returns-13 : tie.Need-returns-13
+returns-13 c = λ at. ap (λ x. refusedAt at (refusalOf x)) (c .enum-told10 .given .1)
+
+returns-14 : tie.Need-returns-14
+returns-14 c = λ at. ap (λ x. refusedAt at (refusalOf x)) (c .enum-told11 .given .1)
 
 pub figures-of-spec : {M : Type 1} → statement M
 figures-of-spec =
@@ -105,13 +117,15 @@ figures-of-spec =
     enum-told-2
     enum-told-3
     enum-told-4
-    enum-known-r-3
-    cast-t11
     enum-told-5
     enum-told-6
+    enum-known-r-3
+    cast-t11
     enum-told-7
     enum-told-8
     enum-told-9
+    enum-told-10
+    enum-told-11
     returns
     returns-2
     returns-3
@@ -123,4 +137,6 @@ figures-of-spec =
     returns-9
     returns-10
     returns-11
-    returns-12)
+    returns-12
+    returns-13
+    returns-14)

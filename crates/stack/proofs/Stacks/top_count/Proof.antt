@@ -2,6 +2,7 @@ use mathlib.Core.Path.{sym, _∙_}
 use Rattle.slots.proofs.Values.{code-alone, with-bytes}
 use Rattle.stack.proofs.Pops.{pops-dry, pops-code, pops-bytes}
 use borrow.Author.Needs.{needs}
+use native.Mathlib.Omega.{arith}
 use Rattle.stack.proofs.Stacks.top_count.Statement.{statement}
 use Rattle.stack.proofs.Stacks.top_count.Tie as tie
 use Rattle.stack.proofs.Stacks.top_count.Reads as reads
@@ -11,7 +12,7 @@ use Rattle.slots.proofs.suffices.Reads as suffices-reads
 use Rattle.stack.proofs.count_of.Reads as count-of-reads
 
 returns : tie.Need-returns
-returns c = search (pops-dry)
+returns c = pops-dry (c .before .args .self) (c .before .pre) (omega arith)
 
 cast-i : tie.Need-cast-i
 cast-i c = search needs

@@ -1,5 +1,6 @@
 use Rattle.stack.proofs.Indices.{zk-dry, zk-other, zk-r0, zk-short, zk-four, zk-at, zk-refused}
 use borrow.Author.Needs.{needs}
+use native.Mathlib.Omega.{arith}
 use Rattle.stack.proofs.Stacks.zk.Statement.{statement}
 use Rattle.stack.proofs.Stacks.zk.Tie as tie
 use Rattle.stack.proofs.Stacks.zk.Reads as reads
@@ -47,7 +48,10 @@ returns-5 : tie.Need-returns-5
 returns-5 c = search (zk-at)
 
 returns-6 : tie.Need-returns-6
-returns-6 c = search (zk-refused)
+returns-6 c =
+    let t = c .before .before .before in
+    let s = t .before .before .before .before .before .before in
+    zk-refused (s .args .self) (s .pre .0) (s .args .limit) (omega arith) (omega arith) (omega arith) (t .top-count .result) (t .top-count .ensures) (c .before .count2 .given .0 .0) (c .before .count2 .given .1)
 
 pub zk-spec : {M : Type 1} → statement M
 zk-spec =

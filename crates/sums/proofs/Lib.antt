@@ -1,0 +1,2 @@
+-- What is proved of sums for this crate's functions.
+mod Summing
