@@ -222,7 +222,7 @@ loop-again-3 : tie.Need-loop-again-3 Inv-loop μ-loop
 loop-again-3 c = met-push (met (c .before .before .before .before .before .before .before .before .before)) refl (c .push-code2 .result) (c .before .before .before .before .before .before .before .before .match3 .keys7) (push-is-code _ _ _ (c .push-code2 .result) _ _ (c .before .before .before .before .before .before .v .given .1) (met (c .before .before .before .before .before .before .before .before .before) .stands .held) _ (c .before .before .before .before .code-of .ensures) (sym (c .before .before .before .suffices .ensures) ∙ c .before .before .if2 .taken) (c .push-code2 .ensures))
 
 push-exact-requires : tie.Need-push-exact-requires Inv-loop μ-loop
-push-exact-requires c κs = (met (c .before .before .before .before .before .before .before .before) .walking .goes .fit, (held-exact _ _ _ (c .before .before .before .before .before .v .given .1) (met (c .before .before .before .before .before .before .before .before) .stands .held), (code-wants _ _ (c .before .before .before .code-of .ensures) (sym (c .before .before .suffices .ensures) ∙ c .before .if2 .left), c .before .before .before .before .before .before .before .before .before .before .before .before .before .before .before .before .before .before .before .before .before .before .before .before .before .before .before .pre .1 .1)))
+push-exact-requires c κs = (met (c .before .before .before .before .before .before .before .before) .walking .goes .fit, (held-exact _ _ _ (c .before .before .before .before .before .v .given .1) (met (c .before .before .before .before .before .before .before .before) .stands .held), (code-wants _ _ (c .before .before .before .code-of .ensures) (sym (c .before .before .suffices .ensures) ∙ c .before .if2 .left), omega (arith, c .before .before .before .before .before .before .before .before .before .before .before .before .before .before .before .before .before .before .before .before .before .before .before .before .before .before .before .pre .1 .1))))
 
 loop-less-4 : tie.Need-loop-less-4 Inv-loop μ-loop
 loop-less-4 c = nearer (met (c .before .before .before .before .before .before .before .before .before))
