@@ -1,6 +1,8 @@
 // The class of each opcode: document 01, section 2.
 ghost use mathlib.Core.Path.{_≡_};
+ghost use lib.ListN.{getD};
 ghost use Rattle.definition.specs.Classes.{classNumber};
+ghost use Rattle.opcodes.specs.View.{GoodRows, BuiltInRows};
 
 // The class numbers: unmodelled, push, nothing, then the classes of one opcode each.
 pub const UNMODELLED: u8 = 0;
@@ -383,4 +385,19 @@ pub fn class_at(opcode: u8) -> u8
     ensures { λ r. ⌜ r ≡ classNumber opcode ⌝ }
 {
     CLASSES[opcode as usize]
+}
+
+// The table, to be lent: its rows are the rules of section 2.
+pub fn table() -> [u8; 256]
+    ensures { λ r. ⌜ BuiltInRows r ⌝ }
+{
+    CLASSES
+}
+
+// The class of an opcode, out of lent rows.
+pub fn class_in(rows: &[u8], opcode: u8) -> u8
+    requires { ⌜ GoodRows (now rows) ⌝ }
+    ensures { λ r. ⌜ r ≡ getD (now (rows .entry)) opcode 0 ⌝ }
+{
+    rows[opcode as usize]
 }

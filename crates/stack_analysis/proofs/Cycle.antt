@@ -10,7 +10,7 @@ use denote.Enum.Declared.{tagOf}
 use Rattle.walk.proofs.Stop.{the-type}
 use Rattle.definition.specs.Basics.{Bytes}
 use Rattle.definition.specs.Decoding.{instructions}
-use Rattle.definition.specs.Stacks.{Rules, builtIn}
+use Rattle.definition.specs.Stacks.{Rules}
 use Rattle.definition.specs.Walk.{Arm, FirstArm, notEnded, ended, Frame}
 use Rattle.decode.specs.View.{codeAt}
 use Rattle.stack.specs.View.{Fit}
@@ -131,13 +131,13 @@ halted-ended Endif h k = tt
 halted-ended (Refused r) h k = tt
 
 -- a conditional that was met lies behind the start
-pub met-later : {s : Bytes} {u v : Walk} {l m : List ℕ} → Runs builtIn s u l v m → v .stop ≡ Conditional → u .at < v .at
+pub met-later : {R : Rules} {s : Bytes} {u v : Walk} {l m : List ℕ} → Runs R s u l v m → v .stop ≡ Conditional → u .at < v .at
 met-later r e = rw e at (r .stopped)
 
 -- The loop of the arm walker, at the head of each turn: p is where the first plain part has stopped, w where the last has.
 
-pub record Arming (s : Bytes) (depth : ℕ) (p : Walk) (before : List ℕ) (w : Walk) (now : List ℕ) : Type 0 where
-  pub goes : Goes builtIn s (Open depth) p before w now
+pub record Arming (R : Rules) (s : Bytes) (depth : ℕ) (p : Walk) (before : List ℕ) (w : Walk) (now : List ℕ) : Type 0 where
+  pub goes : Goes R s (Open depth) p before w now
   pub len : length now ≡ length before
   pub stops : Halted (w .stop)
   pub since : w .stop ≡ Conditional → p .stop ≡ Conditional
@@ -163,20 +163,20 @@ stands-later Endif h k m = omega arith
 stands-later (Refused r) h k m = omega arith
 
 -- the first plain part, from the arm's start v
-module _ {s : Bytes} {depth : ℕ} {v p : Walk} {l o : List ℕ} (r : Ready s l v) (q : Runs builtIn s v l p o) (f : length o ≡ length l) where
-  pub arming-none : Arming s depth p o p o
+module _ {R : Rules} {s : Bytes} {depth : ℕ} {v p : Walk} {l o : List ℕ} (r : Ready s l v) (q : Runs R s v l p o) (f : length o ≡ length l) where
+  pub arming-none : Arming R s depth p o p o
   arming-none = record { goes = stays (q .goes .fit) (q .goes .high); len = refl; stops = halted (v .at) (p .at) (p .stop) (q .stopped); since = λ e. e }
 
   -- where a later one stands
-  module _ {w : Walk} {n : List ℕ} (a : Arming s depth p o w n) where
-    so-far : Goes builtIn s (Open depth) v l w n
+  module _ {w : Walk} {n : List ℕ} (a : Arming R s depth p o w n) where
+    so-far : Goes R s (Open depth) v l w n
     so-far = goes-on (among (q .goes)) (a .goes)
 
     pub same-log : length n ≡ length l
     same-log = a .len ∙ f
 
     -- at the end of the arm
-    pub arm-ended : OneOf (0 ∷ 1 ∷ 3 ∷ 4 ∷ 5 ∷ []) (tagOf the-type (w .stop)) → Walks builtIn s depth v l w n
+    pub arm-ended : OneOf (0 ∷ 1 ∷ 3 ∷ 4 ∷ 5 ∷ []) (tagOf the-type (w .stop)) → Walks R s depth v l w n
     arm-ended k = record { goes = so-far; ended = halted-ended (w .stop) (a .stops) k }
 
     -- or at a conditional, which lies behind the start
@@ -186,8 +186,8 @@ module _ {s : Bytes} {depth : ℕ} {v p : Walk} {l o : List ℕ} (r : Ready s l 
     pub ready-in : Ready s n w
     ready-in = ready-on r so-far same-log
 
-    module _ {x : Walk} {m : List ℕ} (c : Closes builtIn s depth w n x m) where
-      pub arm-refused : (y : Refusal) → x .stop ≡ Refused y → Walks builtIn s depth v l x m
+    module _ {x : Walk} {m : List ℕ} (c : Closes R s depth w n x m) where
+      pub arm-refused : (y : Refusal) → x .stop ≡ Refused y → Walks R s depth v l x m
       arm-refused y e = record { goes = goes-on so-far (c .goes); ended = rw e tt }
 
       module _ (g : length m ≡ length n) where
@@ -195,8 +195,8 @@ module _ {s : Bytes} {depth : ℕ} {v p : Walk} {l o : List ℕ} (r : Ready s l 
         ready-next = ready-on ready-in (c .goes) g
 
         -- the next plain part
-        module _ (e : w .stop ≡ Conditional) {u : Walk} {j : List ℕ} (t : Runs builtIn s x m u j) where
-          pub arm-again : length j ≡ length m → Arming s depth p o u j
+        module _ (e : w .stop ≡ Conditional) {u : Walk} {j : List ℕ} (t : Runs R s x m u j) where
+          pub arm-again : length j ≡ length m → Arming R s depth p o u j
           arm-again h = record {
             goes = goes-on (a .goes) (goes-on (c .goes) (among (t .goes)));
             len = h ∙ g ∙ a .len;

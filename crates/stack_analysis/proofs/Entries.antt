@@ -11,7 +11,7 @@ use Rattle.definition.specs.Basics.{Bytes}
 use Rattle.definition.specs.Decoding.{decode, instructions, malformedAt}
 use Rattle.definition.specs.Refusals as D
 use Rattle.definition.specs.Replay.{Demand3}
-use Rattle.definition.specs.Stacks.{builtIn}
+use Rattle.definition.specs.Stacks.{Rules, builtIn}
 use Rattle.definition.specs.Walk.{Arm, dead, live, Marked, answered, begin, walk, unknowns, analysisOf, analysis, refusedEarly, refusedVerdict, tested}
 use Rattle.definition.specs.Walk as W
 use Rattle.definition.proofs.TrueOfEveryReplay.{trueOfEveryReplay}
@@ -48,14 +48,16 @@ module _ (s : Bytes) (main alt : ℕ) (log : List ℕ) where
       rw (stop, at, ← (code-start s), last, rows, peak, alive, f .same, total)
 
 -- the walk of a fragment has stopped
-pub walk-stops : (s : Bytes) (main alt : ℕ) (log new : List ℕ) (v w : Walk) → Walks builtIn s 0 v log w new
+pub walk-stops : {R : Rules} → R ≡ builtIn → (s : Bytes) (main alt : ℕ) (log new : List ℕ) (v w : Walk) → Walks R s 0 v log w new
     → v .stop ≡ Running → v .live ≡ true → v .at ≡ 0 → v .last ≡ 0 → v .rows ≡ 0 → v .peak ≡ main + alt → Fresh main alt (v .stacks)
     → Stops w new (walked s main alt log)
-walk-stops s main alt log new v w g stop alive at last rows peak f = record {
-  fit = g .goes .fit;
-  ended = g .ended;
-  same = sym (started s main alt log v stop alive at last rows peak f) ∙ g .goes .same [] refl ∙ concluded-is w builtIn s new (g .ended);
-}
+walk-stops e s main alt log new v w k stop alive at last rows peak f =
+    let g : Walks builtIn s 0 v log w new = subst (λ (Q : Rules). Walks Q s 0 v log w new) e k in
+    record {
+      fit = g .goes .fit;
+      ended = g .ended;
+      same = sym (started s main alt log v stop alive at last rows peak f) ∙ g .goes .same [] refl ∙ concluded-is w builtIn s new (g .ended);
+    }
 
 -- The tests before the walk
 

@@ -3,7 +3,7 @@ ghost use mathlib.Core.List.{List};
 ghost use mathlib.Core.Path.{_≡_};
 ghost use Prim.Native.Nat.{ℕ, _+_, _*_, _≤_};
 ghost use lib.ListN.{length};
-ghost use Rattle.definition.specs.Stacks.{builtIn};
+ghost use Rattle.definition.specs.Stacks.{Rules, builtIn};
 ghost use Rattle.stack.specs.View.{Fit};
 ghost use Rattle.definition.specs.Basics.{Bytes};
 ghost use Rattle.definition.specs.Decoding.{decode, instructions};
@@ -11,6 +11,7 @@ ghost use Rattle.definition.specs.Refusals.{answer, refusedAt};
 ghost use Rattle.definition.specs.Replay.{Demand3};
 ghost use Rattle.definition.specs.Walk.{dead, unknowns, begin, walk, answered, analysis, refusedVerdict};
 ghost use Rattle.stack.specs.View.{refusalOf};
+ghost use Rattle.opcodes.specs.View.{GoodRows, rulesBy};
 ghost use Rattle.walk.specs.Runs.{armOf, arm, stopOf, Ready};
 ghost use Rattle.stack_analysis.specs.View.{verdictOf, packedVerdict, summarized};
 ghost use Rattle.stack_analysis.specs.Entry.{Starts, Stops, withEnd};
@@ -103,7 +104,7 @@ fn turned(w: Walk, stacks: Stacks, live: bool, stop: Stop) -> Walk
 fn enter(w: Walk, depth: u32) -> Walk
     requires { ⌜ (Fit (w .stacks)) × (w .stop ≡ Stop.Conditional) ⌝ }
     requires { ⌜ depth ≤ 24 ⌝ }
-    ensures { λ r. ⌜ ((s : Bytes) → Enters builtIn s depth w r) ⌝ }
+    ensures { λ r. ⌜ ((R : Rules) (s : Bytes) → Enters R s depth w r) ⌝ }
 {
     let s = w.stacks;
     let live = w.live;
@@ -125,7 +126,7 @@ fn enter(w: Walk, depth: u32) -> Walk
 // At ENDIF the arm of w joins the other.
 fn close(w: Walk, other: Stacks, alive: bool) -> Walk
     requires { ⌜ (Fit (w .stacks)) × (Fit other) ⌝ }
-    ensures { λ r. ⌜ ((s : Bytes) → Joins builtIn s w (armOf alive other) r) ⌝ }
+    ensures { λ r. ⌜ ((R : Rules) (s : Bytes) → Joins R s w (armOf alive other) r) ⌝ }
 {
     let s = w.stacks;
     let live = w.live;
@@ -167,7 +168,7 @@ fn refused(w: Walk, r: Refusal) -> Walk
 fn finish(w: Walk, other: Stacks, alive: bool) -> Walk
     requires { ⌜ (Fit (w .stacks)) × (Fit other) ⌝ }
     requires { ⌜ Ended (w .stop) ⌝ }
-    ensures { λ r. ⌜ ((s : Bytes) → Finishes builtIn s w (armOf alive other) r) ⌝ }
+    ensures { λ r. ⌜ ((R : Rules) (s : Bytes) → Finishes R s w (armOf alive other) r) ⌝ }
 {
     let stop = w.stop;
     match stop {
@@ -182,32 +183,39 @@ fn finish(w: Walk, other: Stacks, alive: bool) -> Walk
 
 // Walks an arm from start, with depth conditionals open around it, to the end, or to the ELSE or ENDIF of the innermost:
 // "An arm may hold conditionals".
-fn arm(code: &[u8], log: &mut [u16], start: Walk, depth: u32) -> Walk
+fn arm(code: &[u8], log: &mut [u16], classes: &[u8], limit: u32, start: Walk, depth: u32) -> Walk
     requires { ⌜ (Ready (now code) (now log) start) × (start .stop ≡ Stop.Running) ⌝ }
-    requires { ⌜ depth ≤ 24 ⌝ }
+    requires { ⌜ (GoodRows (now classes)) × (limit ≤ 244) × (depth ≤ 24) ⌝ }
     ensures { λ r.
-        ⌜ Walks builtIn (now (code .entry)) depth start (now (log .entry)) r (now (log .exit)) ⌝ }
+        ⌜ Walks (rulesBy (now (classes .entry)) limit) (now (code .entry)) depth start (now (log .entry)) r (now (log .exit)) ⌝ }
 {
-    let mut w = walk::plain(code, log, start);
+    let mut w = walk::plain(code, log, classes, limit, start);
     loop {
         let met = w.stop;
         let Stop::Conditional = met else {
             return w;
         };
-        let v = conditional(code, log, w, depth);
+        let v = conditional(code, log, classes, limit, w, depth);
         let closed = v.stop;
         if let Stop::Refused(_) = closed {
             return v;
         }
-        w = walk::plain(code, log, v);
+        w = walk::plain(code, log, classes, limit, v);
     }
 }
 
 // Walks the conditional at whose IF or NOTIF w stands, up to and with its ENDIF: "each conditional holds one or two arms".
-fn conditional(code: &[u8], log: &mut [u16], w: Walk, depth: u32) -> Walk
+fn conditional(
+    code: &[u8],
+    log: &mut [u16],
+    classes: &[u8],
+    limit: u32,
+    w: Walk,
+    depth: u32,
+) -> Walk
     requires { ⌜ (Ready (now code) (now log) w) × (w .stop ≡ Stop.Conditional) ⌝ }
-    requires { ⌜ depth ≤ 24 ⌝ }
-    ensures { λ r. ⌜ Closes builtIn (now (code .entry)) depth w (now (log .entry)) r (now (log .exit)) ⌝ }
+    requires { ⌜ (GoodRows (now classes)) × (limit ≤ 244) × (depth ≤ 24) ⌝ }
+    ensures { λ r. ⌜ Closes (rulesBy (now (classes .entry)) limit) (now (code .entry)) depth w (now (log .entry)) r (now (log .exit)) ⌝ }
 {
     let mut v = enter(w, depth);
     let opened = v.stop;
@@ -216,7 +224,7 @@ fn conditional(code: &[u8], log: &mut [u16], w: Walk, depth: u32) -> Walk
     }
     let start = v.stacks;
     let live = v.live;
-    let first = arm(code, log, v, depth + 1);
+    let first = arm(code, log, classes, limit, v, depth + 1);
     let stop = first.stop;
     if let Stop::Else = stop {
         let s = first.stacks;
@@ -225,7 +233,7 @@ fn conditional(code: &[u8], log: &mut [u16], w: Walk, depth: u32) -> Walk
         v.last = first.last;
         v.rows = first.rows;
         v.peak = first.peak;
-        v = arm(code, log, v, depth + 1);
+        v = arm(code, log, classes, limit, v, depth + 1);
         return finish(v, s, first.live);
     }
     finish(first, start, live)
@@ -427,7 +435,8 @@ fn walk_all(fragment: &[u8], main: u32, alt: u32, log: &mut [u16]) -> Walk
         peak: main + alt,
         stop: Stop::Running,
     };
-    arm(fragment, log, start, 0)
+    let classes = opcodes::table();
+    arm(fragment, log, &classes, 244, start, 0)
 }
 
 // The verdict of a summary and the end stacks.

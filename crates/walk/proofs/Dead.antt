@@ -7,14 +7,13 @@ use native.Mathlib.Omega.{arith}
 use lib.ListN.{length}
 use Rattle.definition.specs.Basics.{Bytes}
 use Rattle.definition.specs.Decoding.{instructions}
-use Rattle.definition.specs.Classes.{Class, IF, NOTIF, ELSE, ENDIF, RETURN, ordinary, plain, classNumber, classAt}
+use Rattle.definition.specs.Classes.{Class, IF, NOTIF, ELSE, ENDIF, RETURN, ordinary, plain, classAt}
 use Rattle.definition.specs.Replay.{AreBytes}
-use Rattle.definition.specs.Stacks.{builtIn}
+use Rattle.definition.specs.Stacks.{Rules}
 use Rattle.definition.specs.Walk.{dead, logRow}
 use Rattle.decode.specs.View.{codeAt}
 use Rattle.decode.proofs.Codes.{InstructionAt}
 use Rattle.decode.specs.declared.Instruction.{Instruction}
-use Rattle.opcodes.proofs.Classes.{result-below}
 use Rattle.opcodes.proofs.Match.{Rest, below}
 use Rattle.stack.specs.View.{Fit}
 use Rattle.stack.specs.declared.Stacks.{Stacks}
@@ -25,18 +24,18 @@ use Rattle.walk.specs.declared.Walk.{Walk}
 use Rattle.walk.proofs.Goings.{stays, goes-on}
 use Rattle.walk.proofs.Loop.{Walking, Met, Skips, met-if, met-notif, met-else, met-endif, met-dead, none-left}
 
--- the loop's invariant: it goes so whatever stacks are left aside
-pub record Skipping (s : Bytes) (before : List ℕ) (at₀ last₀ rows₀ : ℕ) (now : List ℕ) (at last rows : ℕ) : Type 0 where
+-- the loop's invariant: it goes so at every limit and whatever stacks are left aside
+pub record Skipping (R : ℕ → Rules) (s : Bytes) (before : List ℕ) (at₀ last₀ rows₀ : ℕ) (now : List ℕ) (at last rows : ℕ) : Type 0 where
   pub bytes : AreBytes s
   pub ready : Room s before at₀ rows₀
   pub len : length now ≡ length before
   pub low : at₀ ≤ at
   pub high : at ≤ length s
   pub fewer : rows + length (instructions (codeAt s at)) ≤ rows₀ + length (instructions (codeAt s at₀))
-  pub goes : (x : Stacks) (peak : ℕ) → Fit x → Goes builtIn s Any (deadWalk x at₀ last₀ rows₀ peak Running) before (deadWalk x at last rows peak Running) now
+  pub goes : (limit : ℕ) (x : Stacks) (peak : ℕ) → Fit x → Goes (R limit) s Any (deadWalk x at₀ last₀ rows₀ peak Running) before (deadWalk x at last rows peak Running) now
 
-pub skipping-none : {s : Bytes} {log : List ℕ} {at last rows : ℕ} → AreBytes s → Room s log at rows → Skipping s log at last rows log at last rows
-skipping-none b r = record { bytes = b; ready = r; len = refl; low = omega arith; high = r .high; fewer = omega arith; goes = λ x peak f. stays f (r .high) }
+pub skipping-none : {R : ℕ → Rules} {s : Bytes} {log : List ℕ} {at last rows : ℕ} → AreBytes s → Room s log at rows → Skipping R s log at last rows log at last rows
+skipping-none b r = record { bytes = b; ready = r; len = refl; low = omega arith; high = r .high; fewer = omega arith; goes = λ limit x peak f. stays f (r .high) }
 
 -- the numbers of the conditionals' classes, and what is skipped besides
 abbrev pub conditionals : List (List ℕ)
@@ -51,28 +50,28 @@ asSkipped NOTIF = 0
 asSkipped ELSE = 0
 asSkipped ENDIF = 0
 
-is-skipped : (c : Class) → 1 ≡ asSkipped c → Skips c
-is-skipped (ordinary o) e i fs = refl
-is-skipped (plain pops pushes) e i fs = refl
-is-skipped RETURN e i fs = refl
-is-skipped IF e i fs = absurd (omega (arith, e))
-is-skipped NOTIF e i fs = absurd (omega (arith, e))
-is-skipped ELSE e i fs = absurd (omega (arith, e))
-is-skipped ENDIF e i fs = absurd (omega (arith, e))
+is-skipped : (R : Rules) (c : Class) → 1 ≡ asSkipped c → Skips R c
+is-skipped R (ordinary o) e i fs = refl
+is-skipped R (plain pops pushes) e i fs = refl
+is-skipped R RETURN e i fs = refl
+is-skipped R IF e i fs = absurd (omega (arith, e))
+is-skipped R NOTIF e i fs = absurd (omega (arith, e))
+is-skipped R ELSE e i fs = absurd (omega (arith, e))
+is-skipped R ENDIF e i fs = absurd (omega (arith, e))
 
-module _ {s : Bytes} {before : List ℕ} {at₀ last₀ rows₀ : ℕ} {old : List ℕ} {at last rows : ℕ} (k : Skipping s before at₀ last₀ rows₀ old at last rows) where
-  walking : (x : Stacks) (peak : ℕ) → Fit x → Walking s before (deadWalk x at₀ last₀ rows₀ peak Running) old (deadWalk x at last rows peak Running)
-  walking x peak f = record {
+module _ {R : ℕ → Rules} {s : Bytes} {before : List ℕ} {at₀ last₀ rows₀ : ℕ} {old : List ℕ} {at last rows : ℕ} (k : Skipping R s before at₀ last₀ rows₀ old at last rows) where
+  walking : (limit : ℕ) (x : Stacks) (peak : ℕ) → Fit x → Walking (R limit) s before (deadWalk x at₀ last₀ rows₀ peak Running) old (deadWalk x at last rows peak Running)
+  walking limit x peak f = record {
     bytes = k .bytes;
     ready = record { fit = f; high = k .ready .high; short = k .ready .short; room = k .ready .room };
     len = k .len;
-    goes = k .goes x peak f;
+    goes = k .goes limit x peak f;
   }
 
   -- no instruction stands at the offset
-  pub dead-end : instructions (codeAt s at) ≡ [] → (x : Stacks) (peak : ℕ) → Fit x
-      → Runs builtIn s (deadWalk x at₀ last₀ rows₀ peak Running) before (deadWalk x at last rows peak End) old
-  dead-end n x peak f = none-left (walking x peak f) refl (omega arith) n
+  pub dead-end : instructions (codeAt s at) ≡ [] → (limit : ℕ) (x : Stacks) (peak : ℕ) → Fit x
+      → Runs (R limit) s (deadWalk x at₀ last₀ rows₀ peak Running) before (deadWalk x at last rows peak End) old
+  dead-end n limit x peak f = none-left (walking limit x peak f) refl (omega arith) n
 
   module _ {i : Instruction} (stands : InstructionAt s at i) where
     there : length (instructions (codeAt s at)) ≡ suc (length (instructions (codeAt s (i .next))))
@@ -82,28 +81,28 @@ module _ {s : Bytes} {before : List ℕ} {at₀ last₀ rows₀ : ℕ} {old : Li
     pub dead-room : 3 * rows + 2 < length old
     dead-room = omega (arith, k .ready .room, k .fewer, k .len, there)
 
-    module _ {new : List ℕ} {class : ℕ} (len : length new ≡ length old) (row : new ≡ logRow rows at dead old) (number : class ≡ classNumber (i .opcode)) where
-      meets : (x : Stacks) (peak : ℕ) → Fit x → Met s before (deadWalk x at₀ last₀ rows₀ peak Running) old (deadWalk x at last rows peak Running) new i peak class
-      meets x peak f = record { walking = walking x peak f; run = refl; stands = stands; len = len; row = row; high = omega arith; number = number }
+    module _ {new : List ℕ} {class : ℕ} (len : length new ≡ length old) (row : new ≡ logRow rows at dead old) (kind : (limit : ℕ) → R limit .classFor (i .opcode) ≡ classAt class) (small : class < 32) where
+      meets : (limit : ℕ) (x : Stacks) (peak : ℕ) → Fit x → Met (R limit) s before (deadWalk x at₀ last₀ rows₀ peak Running) old (deadWalk x at last rows peak Running) new i peak class
+      meets limit x peak f = record { walking = walking limit x peak f; run = refl; stands = stands; len = len; row = row; high = omega arith; kind = kind limit; small = small }
 
       -- a conditional ends it
       abbrev Ends : Stop → Type 0
-      Ends stop = (x : Stacks) (peak : ℕ) → Fit x → Runs builtIn s (deadWalk x at₀ last₀ rows₀ peak Running) before (deadWalk x (i .next) at (rows + 1) peak stop) new
+      Ends stop = (limit : ℕ) (x : Stacks) (peak : ℕ) → Fit x → Runs (R limit) s (deadWalk x at₀ last₀ rows₀ peak Running) before (deadWalk x (i .next) at (rows + 1) peak stop) new
 
       pub dead-if : class ≡ 3 → Ends Conditional
-      dead-if e x peak f = met-if (meets x peak f) e
+      dead-if e limit x peak f = met-if (meets limit x peak f) e
 
       pub dead-notif : class ≡ 4 → Ends Conditional
-      dead-notif e x peak f = met-notif (meets x peak f) e
+      dead-notif e limit x peak f = met-notif (meets limit x peak f) e
 
       pub dead-else : class ≡ 5 → Ends Else
-      dead-else e x peak f = met-else (meets x peak f) e
+      dead-else e limit x peak f = met-else (meets limit x peak f) e
 
       pub dead-endif : class ≡ 6 → Ends Endif
-      dead-endif e x peak f = met-endif (meets x peak f) e
+      dead-endif e limit x peak f = met-endif (meets limit x peak f) e
 
       -- and every other instruction is skipped
-      pub dead-again : Rest conditionals class → Skipping s before at₀ last₀ rows₀ new (i .next) at (rows + 1)
+      pub dead-again : Rest conditionals class → Skipping R s before at₀ last₀ rows₀ new (i .next) at (rows + 1)
       dead-again rest = record {
         bytes = k .bytes;
         ready = k .ready;
@@ -111,7 +110,7 @@ module _ {s : Bytes} {before : List ℕ} {at₀ last₀ rows₀ : ℕ} {old : Li
         low = omega (arith, k .low, stands .onward);
         high = stands .within;
         fewer = omega (arith, k .fewer, there);
-        goes = λ x peak f. met-dead (meets x peak f) (is-skipped (classAt class) (below (λ n. asSkipped (classAt n)) conditionals class 1 32 rest (result-below (i .opcode) class number) tt)) refl .goes;
+        goes = λ limit x peak f. met-dead (meets limit x peak f) (is-skipped (R limit) (classAt class) (below (λ n. asSkipped (classAt n)) conditionals class 1 32 rest small tt)) refl .goes;
       }
 
 -- What `plain` takes from it.
@@ -125,11 +124,11 @@ further-back to Else h k = tt
 further-back to Endif h k = tt
 further-back to (Refused r) h k = tt
 
-pub then-dead : {s : Bytes} {before : List ℕ} {v : Walk} {mid : List ℕ} {u : Walk} {now : List ℕ} {w : Walk} → Walking s before v mid u → Runs builtIn s u mid w now → Runs builtIn s v before w now
+pub then-dead : {R : Rules} {s : Bytes} {before : List ℕ} {v : Walk} {mid : List ℕ} {u : Walk} {now : List ℕ} {w : Walk} → Walking R s before v mid u → Runs R s u mid w now → Runs R s v before w now
 then-dead {w = w} k r = record { goes = goes-on (k .goes) (r .goes); stopped = further-back (w .at) (w .stop) (k .goes .low) (r .stopped) }
 
 pub room-there : {s : Bytes} {log : List ℕ} {v : Walk} → Ready s log v → Room s log (v .at) (v .rows)
 room-there r = record { high = r .high; short = r .short; room = r .room }
 
-pub room-on : {s : Bytes} {before : List ℕ} {v : Walk} {now : List ℕ} {w : Walk} → Walking s before v now w → Room s now (w .at) (w .rows)
+pub room-on : {R : Rules} {s : Bytes} {before : List ℕ} {v : Walk} {now : List ℕ} {w : Walk} → Walking R s before v now w → Room s now (w .at) (w .rows)
 room-on k = record { high = k .goes .high; short = k .ready .short; room = omega (arith, k .ready .room, k .goes .fewer, k .len) }

@@ -12,7 +12,7 @@ use Rattle.definition.specs.Decoding.{instructions}
 use Rattle.definition.specs.Decoding as Decoding
 use Rattle.definition.specs.Classes.{Class, IF, NOTIF, ELSE, ENDIF, RETURN, Ordinary, ordinary, unmodelled, push, nothing, TOALT, FROMALT, NIP, TUCK, ROLL, copies, rotates, plain, classNumber, classAt}
 use Rattle.definition.specs.Replay.{AreBytes}
-use Rattle.definition.specs.Stacks.{builtIn, step, pushItem, copyItems, rotateItems, tuckTop, nipSecond, moveToAlt, moveFromAlt, popIndex, plainStep}
+use Rattle.definition.specs.Stacks.{Rules, step, pushItem, copyItems, rotateItems, tuckTop, nipSecond, moveToAlt, moveFromAlt, popIndex, plainStep}
 use Rattle.definition.specs.Walk.{Item, dead, Frame, moves, effect, marking, totalOf, logRow}
 use types.Run.{OneOf}
 use denote.Enum.Declared.{tagOf}
@@ -22,7 +22,6 @@ use Rattle.decode.specs.declared.Decoded.the-variants as D
 use Rattle.decode.specs.View.{codeAt, decodedAt, itemOf}
 use Rattle.decode.proofs.Codes.{InstructionAt, code-ends, code-malformed}
 use Rattle.decode.specs.declared.Instruction.{Instruction}
-use Rattle.opcodes.proofs.Classes.{class-at-key, result-below}
 use Rattle.opcodes.proofs.Every.{every}
 use Rattle.opcodes.proofs.Match.{Rest, gives, below}
 use Rattle.stack.specs.View.{view, Fit, Says, Steps}
@@ -43,108 +42,109 @@ abbrev pub walkOf : Stepped → ℕ → ℕ → ℕ → ℕ → Walk
 walkOf t at last rows peak = record { stacks = t .stacks; live = true; at = at; last = last; rows = rows; peak = peak; stop = stopOf (t .answer) }
 
 -- the loop's invariant
-pub record Walking (s : Bytes) (before : List ℕ) (v : Walk) (now : List ℕ) (w : Walk) : Type 0 where
+pub record Walking (R : Rules) (s : Bytes) (before : List ℕ) (v : Walk) (now : List ℕ) (w : Walk) : Type 0 where
   pub bytes : AreBytes s
   pub ready : Ready s before v
   pub len : length now ≡ length before
-  pub goes : Goes builtIn s Any v before w now
+  pub goes : Goes R s Any v before w now
 
-pub walking-none : {s : Bytes} {log : List ℕ} {v : Walk} → AreBytes s → Ready s log v → Walking s log v log v
+pub walking-none : {R : Rules} {s : Bytes} {log : List ℕ} {v : Walk} → AreBytes s → Ready s log v → Walking R s log v log v
 walking-none b r = record { bytes = b; ready = r; len = refl; goes = stays (r .fit) (r .high) }
 
 -- the walk from v is the walk from its record, where v runs
-pub runs-from : {s : Bytes} {before now : List ℕ} (v : Walk) {alive : Bool} {w : Walk} → v .live ≡ alive → v .stop ≡ Running
-    → Runs builtIn s (record { stacks = v .stacks; live = alive; at = v .at; last = v .last; rows = v .rows; peak = v .peak; stop = Running }) before w now → Runs builtIn s v before w now
-runs-from {s} {before} {now} v {alive} {w} l e r = subst (λ (u : Walk). Runs builtIn s u before w now) same r
+pub runs-from : {R : Rules} {s : Bytes} {before now : List ℕ} (v : Walk) {alive : Bool} {w : Walk} → v .live ≡ alive → v .stop ≡ Running
+    → Runs R s (record { stacks = v .stacks; live = alive; at = v .at; last = v .last; rows = v .rows; peak = v .peak; stop = Running }) before w now → Runs R s v before w now
+runs-from {R} {s} {before} {now} v {alive} {w} l e r = subst (λ (u : Walk). Runs R s u before w now) same r
   where
     same : record { stacks = v .stacks; live = alive; at = v .at; last = v .last; rows = v .rows; peak = v .peak; stop = Running } ≡ v
     same = λ i. record { stacks = v .stacks; live = sym l i; at = v .at; last = v .last; rows = v .rows; peak = v .peak; stop = sym e i }
 
 -- in a dead arm an instruction of this class is skipped
-abbrev pub Skips : Class → Type 0
-Skips k = (i : Decoding.Instruction) (fs : List Frame) → effect builtIn i k dead fs ≡ moves dead fs
+abbrev pub Skips : Rules → Class → Type 0
+Skips R k = (i : Decoding.Instruction) (fs : List Frame) → effect R i k dead fs ≡ moves dead fs
 
 -- What is known once the instruction i is met by w, its row is written, and its class number is read.
-pub record Met (s : Bytes) (before : List ℕ) (v : Walk) (old : List ℕ) (w : Walk) (new : List ℕ) (i : Instruction) (peak class : ℕ) : Type 0 where
-  pub walking : Walking s before v old w
+pub record Met (R : Rules) (s : Bytes) (before : List ℕ) (v : Walk) (old : List ℕ) (w : Walk) (new : List ℕ) (i : Instruction) (peak class : ℕ) : Type 0 where
+  pub walking : Walking R s before v old w
   pub run : w .stop ≡ Running
   pub stands : InstructionAt s (w .at) i
   pub len : length new ≡ length old
   pub row : new ≡ logRow (w .rows) (w .at) (arm w) old
   pub high : peak ≡ max (w .peak) (totalOf (arm w))
-  pub number : class ≡ classNumber (i .opcode)
+  pub kind : R .classFor (i .opcode) ≡ classAt class
+  pub small : class < 32
 
-module _ {s : Bytes} {before : List ℕ} {v : Walk} {old : List ℕ} {w : Walk} {new : List ℕ} {i : Instruction} {peak class : ℕ} (m : Met s before v old w new i peak class) where
+module _ {R : Rules} {s : Bytes} {before : List ℕ} {v : Walk} {old : List ℕ} {w : Walk} {new : List ℕ} {i : Instruction} {peak class : ℕ} (m : Met R s before v old w new i peak class) where
   -- the class of the instruction, where its number is n
-  kind : (n : ℕ) → class ≡ n → builtIn .classFor (i .opcode) ≡ classAt n
-  kind n e = class-at-key (i .opcode) class n (m .number) e
+  kind : (n : ℕ) → class ≡ n → R .classFor (i .opcode) ≡ classAt n
+  kind n e = m .kind ∙ ap classAt e
 
   fits : Fit (w .stacks)
   fits = m .walking .goes .fit
 
   -- the loop goes on
-  on : {u : Walk} → Goes builtIn s Any w old u new → Walking s before v new u
+  on : {u : Walk} → Goes R s Any w old u new → Walking R s before v new u
   on g = record { bytes = m .walking .bytes; ready = m .walking .ready; len = m .len ∙ m .walking .len; goes = goes-on (m .walking .goes) g }
 
   -- or the walk has stopped
-  stop : {u : Walk} → Goes builtIn s Any w old u new → Stopped (v .at) (u .at) (u .stop) → Runs builtIn s v before u new
+  stop : {u : Walk} → Goes R s Any w old u new → Stopped (v .at) (u .at) (u .stop) → Runs R s v before u new
   stop g h = record { goes = goes-on (m .walking .goes) g; stopped = h }
 
-  pub met-if : class ≡ 3 → Runs builtIn s v before (past w i peak (w .stacks) (w .live) Conditional) new
-  met-if e = stop (at-if builtIn s (m .stands) w (m .run) refl old (m .row) (m .high) (kind 3 e) fits) (omega (arith, m .walking .goes .low, m .stands .onward))
+  pub met-if : class ≡ 3 → Runs R s v before (past w i peak (w .stacks) (w .live) Conditional) new
+  met-if e = stop (at-if R s (m .stands) w (m .run) refl old (m .row) (m .high) (kind 3 e) fits) (omega (arith, m .walking .goes .low, m .stands .onward))
 
-  pub met-notif : class ≡ 4 → Runs builtIn s v before (past w i peak (w .stacks) (w .live) Conditional) new
-  met-notif e = stop (at-notif builtIn s (m .stands) w (m .run) refl old (m .row) (m .high) (kind 4 e) fits) (omega (arith, m .walking .goes .low, m .stands .onward))
+  pub met-notif : class ≡ 4 → Runs R s v before (past w i peak (w .stacks) (w .live) Conditional) new
+  met-notif e = stop (at-notif R s (m .stands) w (m .run) refl old (m .row) (m .high) (kind 4 e) fits) (omega (arith, m .walking .goes .low, m .stands .onward))
 
-  pub met-else : class ≡ 5 → Runs builtIn s v before (past w i peak (w .stacks) (w .live) Else) new
-  met-else e = stop (at-else builtIn s (m .stands) w (m .run) refl old (m .row) (m .high) (kind 5 e) fits) tt
+  pub met-else : class ≡ 5 → Runs R s v before (past w i peak (w .stacks) (w .live) Else) new
+  met-else e = stop (at-else R s (m .stands) w (m .run) refl old (m .row) (m .high) (kind 5 e) fits) tt
 
-  pub met-endif : class ≡ 6 → Runs builtIn s v before (past w i peak (w .stacks) (w .live) Endif) new
-  met-endif e = stop (at-endif builtIn s (m .stands) w (m .run) refl old (m .row) (m .high) (kind 6 e) fits) tt
+  pub met-endif : class ≡ 6 → Runs R s v before (past w i peak (w .stacks) (w .live) Endif) new
+  met-endif e = stop (at-endif R s (m .stands) w (m .run) refl old (m .row) (m .high) (kind 6 e) fits) tt
 
   -- the variables that the loop does not change
-  kept : {t : Stacks} {alive other : Bool} {x y : Stop} → alive ≡ other → x ≡ y → Walking s before v new (past w i peak t alive x) → Walking s before v new (past w i peak t other y)
-  kept {t} {alive} {other} {x} {y} e f k = subst (λ (z : Stop). Walking s before v new (past w i peak t other z)) f (subst (λ (z : Bool). Walking s before v new (past w i peak t z x)) e k)
+  kept : {t : Stacks} {alive other : Bool} {x y : Stop} → alive ≡ other → x ≡ y → Walking R s before v new (past w i peak t alive x) → Walking R s before v new (past w i peak t other y)
+  kept {t} {alive} {other} {x} {y} e f k = subst (λ (z : Stop). Walking R s before v new (past w i peak t other z)) f (subst (λ (z : Bool). Walking R s before v new (past w i peak t z x)) e k)
 
-  pub met-return : class ≡ 7 → Walking s before v new (past w i peak (w .stacks) false Running)
-  met-return e = on (at-return builtIn s (m .stands) w (m .run) refl old (m .row) (m .high) (kind 7 e) fits)
+  pub met-return : class ≡ 7 → Walking R s before v new (past w i peak (w .stacks) false Running)
+  met-return e = on (at-return R s (m .stands) w (m .run) refl old (m .row) (m .high) (kind 7 e) fits)
 
   -- an ordinary instruction in a dead arm
-  pub met-dead : Skips (classAt class) → w .live ≡ false → Walking s before v new (past w i peak (w .stacks) false Running)
-  met-dead k l = on (skipped builtIn s (m .stands) w (m .run) refl old (m .row) (m .high) (classAt class) (kind class refl) (k _) l fits)
+  pub met-dead : Skips R (classAt class) → w .live ≡ false → Walking R s before v new (past w i peak (w .stacks) false Running)
+  met-dead k l = on (skipped R s (m .stands) w (m .run) refl old (m .row) (m .high) (classAt class) (kind class refl) (k _) l fits)
 
   -- an ordinary instruction in a live arm
   pub met-live : (n : ℕ) (o : Ordinary) → class ≡ n → classAt n ≡ ordinary o → w .live ≡ true → (r : Stepped)
-      → Says r (step marking builtIn (record { opcode = i .opcode; offset = w .at; literal = m .stands .literal }) o (view (w .stacks)))
-      → Walking s before v new (past w i peak (r .stacks) (w .live) (stopOf (r .answer)))
-  met-live n o e k l r says = kept (sym l) refl (on (stepped builtIn s (m .stands) w (m .run) refl old (m .row) (m .high) (ordinary o) _ (kind n e ∙ k) (λ fs. refl) l r says))
+      → Says r (step marking R (record { opcode = i .opcode; offset = w .at; literal = m .stands .literal }) o (view (w .stacks)))
+      → Walking R s before v new (past w i peak (r .stacks) (w .live) (stopOf (r .answer)))
+  met-live n o e k l r says = kept (sym l) refl (on (stepped R s (m .stands) w (m .run) refl old (m .row) (m .high) (ordinary o) _ (kind n e ∙ k) (λ fs. refl) l r says))
 
   -- and one of a plain class
-  pub met-plain : (n pops pushes : ℕ) → class ≡ n → classAt n ≡ plain pops pushes → w .live ≡ true → (r : Stepped) → Says r (plainStep marking 244 pops pushes (view (w .stacks)))
-      → Walking s before v new (past w i peak (r .stacks) (w .live) (stopOf (r .answer)))
-  met-plain n pops pushes e k l r says = kept (sym l) refl (on (stepped builtIn s (m .stands) w (m .run) refl old (m .row) (m .high) (plain pops pushes) _ (kind n e ∙ k) (λ fs. refl) l r says))
+  pub met-plain : (n pops pushes : ℕ) → class ≡ n → classAt n ≡ plain pops pushes → w .live ≡ true → (r : Stepped) → Says r (plainStep marking (R .limit) pops pushes (view (w .stacks)))
+      → Walking R s before v new (past w i peak (r .stacks) (w .live) (stopOf (r .answer)))
+  met-plain n pops pushes e k l r says = kept (sym l) refl (on (stepped R s (m .stands) w (m .run) refl old (m .row) (m .high) (plain pops pushes) _ (kind n e ∙ k) (λ fs. refl) l r says))
 
-  pub met-nothing : class ≡ 2 → w .live ≡ true → Walking s before v new (past w i peak (w .stacks) (w .live) (w .stop))
+  pub met-nothing : class ≡ 2 → w .live ≡ true → Walking R s before v new (past w i peak (w .stacks) (w .live) (w .stop))
   unfolding step
   met-nothing e l = kept refl (sym (m .run)) (met-live 2 nothing e refl l (record { stacks = w .stacks; answer = A.Done }) (record { fit = fits; same = refl }))
 
 -- The other needs of the loop.
-module _ {s : Bytes} {before : List ℕ} {v : Walk} {now : List ℕ} where
+module _ {R : Rules} {s : Bytes} {before : List ℕ} {v : Walk} {now : List ℕ} where
   -- the operation before was refused
-  pub was-refused : (t : Stepped) (at last rows peak : ℕ) (r : Refusal) → Walking s before v now (walkOf t at last rows peak) → t .answer ≡ A.Refused r
-      → Runs builtIn s v before (record { stacks = t .stacks; live = true; at = at; last = last; rows = rows; peak = peak; stop = Refused r }) now
+  pub was-refused : (t : Stepped) (at last rows peak : ℕ) (r : Refusal) → Walking R s before v now (walkOf t at last rows peak) → t .answer ≡ A.Refused r
+      → Runs R s v before (record { stacks = t .stacks; live = true; at = at; last = last; rows = rows; peak = peak; stop = Refused r }) now
   was-refused t at last rows peak r w e = record {
-    goes = subst (λ (x : Stop). Goes builtIn s Any v before (record { stacks = t .stacks; live = true; at = at; last = last; rows = rows; peak = peak; stop = x }) now) (ap stopOf e) (w .goes);
+    goes = subst (λ (x : Stop). Goes R s Any v before (record { stacks = t .stacks; live = true; at = at; last = last; rows = rows; peak = peak; stop = x }) now) (ap stopOf e) (w .goes);
     stopped = tt;
   }
 
   -- no instruction stands at the offset
-  pub none-left : {w : Walk} → Walking s before v now w → w .stop ≡ Running → {peak : ℕ} → peak ≡ max (w .peak) (totalOf (arm w)) → instructions (codeAt s (w .at)) ≡ []
-      → Runs builtIn s v before (record { stacks = w .stacks; live = w .live; at = w .at; last = w .last; rows = w .rows; peak = peak; stop = End }) now
-  none-left {w} k run h n = record { goes = goes-on (k .goes) (at-end builtIn s w run n h (k .goes .fit) (k .goes .high)); stopped = tt }
+  pub none-left : {w : Walk} → Walking R s before v now w → w .stop ≡ Running → {peak : ℕ} → peak ≡ max (w .peak) (totalOf (arm w)) → instructions (codeAt s (w .at)) ≡ []
+      → Runs R s v before (record { stacks = w .stacks; live = w .live; at = w .at; last = w .last; rows = w .rows; peak = peak; stop = End }) now
+  none-left {w} k run h n = record { goes = goes-on (k .goes) (at-end R s w run n h (k .goes .fit) (k .goes .high)); stopped = tt }
 
   -- the log has room for one more row
-  pub row-room : {w : Walk} {i : Instruction} → Walking s before v now w → InstructionAt s (w .at) i → 3 * w .rows + 2 < length now
+  pub row-room : {w : Walk} {i : Instruction} → Walking R s before v now w → InstructionAt s (w .at) i → 3 * w .rows + 2 < length now
   row-room {w} {i} k at =
       let e : instructions (codeAt s (w .at)) ≡ record { opcode = i .opcode; offset = w .at; literal = at .literal } ∷ instructions (codeAt s (i .next)) = ap instructions (at .code) in
       omega (arith, k .ready .room, k .goes .fewer, k .len, ap length e)
@@ -160,19 +160,19 @@ pub ready-running : {s : Bytes} {log : List ℕ} (v : Walk) {alive : Bool} → R
 ready-running v r = record { fit = r .fit; high = r .high; short = r .short; room = r .room }
 
 -- the loop's measure falls
-pub nearer : {s : Bytes} {before : List ℕ} {v : Walk} {old : List ℕ} {w : Walk} {new : List ℕ} {i : Instruction} {peak class : ℕ} → Met s before v old w new i peak class
+pub nearer : {R : Rules} {s : Bytes} {before : List ℕ} {v : Walk} {old : List ℕ} {w : Walk} {new : List ℕ} {i : Instruction} {peak class : ℕ} → Met R s before v old w new i peak class
     → length s - i .next < length s - w .at
 nearer m = omega (arith, m .stands .onward, m .stands .within)
 
 -- Each method of the stacks is the step of its class.
-module _ {s : Bytes} {before : List ℕ} {v : Walk} {old : List ℕ} {w : Walk} {new : List ℕ} {i : Instruction} {peak class : ℕ} (m : Met s before v old w new i peak class)
+module _ {R : Rules} {s : Bytes} {before : List ℕ} {v : Walk} {old : List ℕ} {w : Walk} {new : List ℕ} {i : Instruction} {peak class : ℕ} (m : Met R s before v old w new i peak class)
     (alive : w .live ≡ true) (r : Stepped) where
   abbrev On : Type 0
-  On = Walking s before v new (past w i peak (r .stacks) (w .live) (stopOf (r .answer)))
+  On = Walking R s before v new (past w i peak (r .stacks) (w .live) (stopOf (r .answer)))
 
-  pub met-push : class ≡ 1 → Says r (pushItem 244 (itemOf (i .literal)) (view (w .stacks))) → On
+  pub met-push : class ≡ 1 → Says r (pushItem (R .limit) (itemOf (i .literal)) (view (w .stacks))) → On
   unfolding step
-  met-push e h = met-live m 1 push e refl alive r (subst (λ (x : Item). Says r (pushItem 244 x (view (w .stacks)))) (m .stands .item) h)
+  met-push e h = met-live m 1 push e refl alive r (subst (λ (x : Item). Says r (pushItem (R .limit) x (view (w .stacks)))) (m .stands .item) h)
 
   pub met-to-alt : class ≡ 8 → Says r (moveToAlt (view (w .stacks))) → On
   unfolding step
@@ -186,7 +186,7 @@ module _ {s : Bytes} {before : List ℕ} {v : Walk} {old : List ℕ} {w : Walk} 
   unfolding step
   met-nip e h = met-live m 12 NIP e refl alive r h
 
-  pub met-tuck : class ≡ 13 → Says r (tuckTop 244 (view (w .stacks))) → On
+  pub met-tuck : class ≡ 13 → Says r (tuckTop (R .limit) (view (w .stacks))) → On
   unfolding step
   met-tuck e h = met-live m 13 TUCK e refl alive r h
 
@@ -194,10 +194,10 @@ module _ {s : Bytes} {before : List ℕ} {v : Walk} {old : List ℕ} {w : Walk} 
   unfolding step
   met-roll e h = met-live m 15 ROLL e refl alive r h
 
-  pub met-steps : (n : ℕ) (o : Ordinary) → class ≡ n → classAt n ≡ ordinary o → Steps r 244 o (view (w .stacks)) → On
-  met-steps n o e k h = met-live m n o e k alive r (record { fit = h .fit; same = h .same builtIn _ refl })
+  pub met-steps : (n : ℕ) (o : Ordinary) → class ≡ n → classAt n ≡ ordinary o → Steps r (R .limit) o (view (w .stacks)) → On
+  met-steps n o e k h = met-live m n o e k alive r (record { fit = h .fit; same = h .same R _ refl })
 
-  pub met-copies : (n depth count : ℕ) → class ≡ n → classAt n ≡ ordinary (copies depth count) → Says r (copyItems 244 depth count (view (w .stacks))) → On
+  pub met-copies : (n depth count : ℕ) → class ≡ n → classAt n ≡ ordinary (copies depth count) → Says r (copyItems (R .limit) depth count (view (w .stacks))) → On
   unfolding step
   met-copies n depth count e k h = met-live m n (copies depth count) e k alive r h
 
@@ -206,8 +206,8 @@ module _ {s : Bytes} {before : List ℕ} {v : Walk} {old : List ℕ} {w : Walk} 
   met-rotates n count shift e k h = met-live m n (rotates count shift) e k alive r h
 
 -- an unmodelled opcode is refused
-pub met-unmodelled : {s : Bytes} {before : List ℕ} {v : Walk} {old : List ℕ} {w : Walk} {new : List ℕ} {i : Instruction} {peak class : ℕ} → Met s before v old w new i peak class
-    → w .live ≡ true → class ≡ 0 → Walking s before v new (past w i peak (w .stacks) (w .live) (Refused (F.Unmodelled (i .opcode))))
+pub met-unmodelled : {R : Rules} {s : Bytes} {before : List ℕ} {v : Walk} {old : List ℕ} {w : Walk} {new : List ℕ} {i : Instruction} {peak class : ℕ} → Met R s before v old w new i peak class
+    → w .live ≡ true → class ≡ 0 → Walking R s before v new (past w i peak (w .stacks) (w .live) (Refused (F.Unmodelled (i .opcode))))
 unfolding step
 met-unmodelled {w = w} {i = i} m l e =
     met-live m 0 unmodelled e refl l (record { stacks = w .stacks; answer = A.Refused (F.Unmodelled (i .opcode)) }) (record { fit = m .walking .goes .fit; same = refl })
@@ -216,6 +216,6 @@ met-unmodelled {w = w} {i = i} m l e =
 abbrev pub handled : List (List ℕ)
 handled = (31 ∷ []) ∷ (30 ∷ []) ∷ (29 ∷ []) ∷ (28 ∷ []) ∷ (27 ∷ []) ∷ (26 ∷ []) ∷ (25 ∷ []) ∷ (24 ∷ []) ∷ (23 ∷ []) ∷ (22 ∷ []) ∷ (21 ∷ []) ∷ (20 ∷ []) ∷ (19 ∷ []) ∷ (18 ∷ []) ∷ (17 ∷ []) ∷ (16 ∷ []) ∷ (15 ∷ []) ∷ (14 ∷ []) ∷ (13 ∷ []) ∷ (12 ∷ []) ∷ (11 ∷ []) ∷ (10 ∷ []) ∷ (9 ∷ []) ∷ (8 ∷ []) ∷ (1 ∷ []) ∷ (2 ∷ []) ∷ (7 ∷ []) ∷ (6 ∷ []) ∷ (5 ∷ []) ∷ (4 ∷ []) ∷ (3 ∷ []) ∷ []
 
-pub class-left : {s : Bytes} {before : List ℕ} {v : Walk} {old : List ℕ} {w : Walk} {new : List ℕ} {i : Instruction} {peak class : ℕ} → Met s before v old w new i peak class
+pub class-left : {R : Rules} {s : Bytes} {before : List ℕ} {v : Walk} {old : List ℕ} {w : Walk} {new : List ℕ} {i : Instruction} {peak class : ℕ} → Met R s before v old w new i peak class
     → Rest handled class → class ≡ 0
-class-left {i = i} {class = class} m k = sym (below (λ n. n) handled class 0 32 k (result-below (i .opcode) class (m .number)) tt)
+class-left {i = i} {class = class} m k = sym (below (λ n. n) handled class 0 32 k (m .small) tt)

@@ -2,8 +2,8 @@
 ghost use mathlib.Core.Path.{_≡_};
 ghost use Prim.Native.Nat.{ℕ, _+_, _*_, _≤_, _<_, max};
 ghost use lib.ListN.{length, set};
-ghost use Rattle.definition.specs.Stacks.{builtIn};
 ghost use Rattle.stack.specs.View.{Fit};
+ghost use Rattle.opcodes.specs.View.{GoodRows, rulesBy};
 ghost use Rattle.walk.specs.Runs.{deadWalk, Room, Ready, Runs};
 use decode::Decoded;
 use decode::Value;
@@ -11,9 +11,6 @@ use stack::Answer;
 use stack::Refusal;
 use stack::Stacks;
 use stack::Stepped;
-
-// The most items that the stacks hold together.
-const LIMIT: u32 = 244;
 
 // What the log has for a height in a dead arm.
 const DEAD: u16 = 65535;
@@ -109,14 +106,22 @@ struct Skipped {
 }
 
 // In a dead arm, the instructions up to the next IF, NOTIF, ELSE or ENDIF, whose row is written too, or to the end.
-fn skip(code: &[u8], log: &mut [u16], from: usize, met: usize, written: usize) -> Skipped
+fn skip(
+    code: &[u8],
+    log: &mut [u16],
+    classes: &[u8],
+    from: usize,
+    met: usize,
+    written: usize,
+) -> Skipped
     requires { ⌜ Room (now code) (now log) from written ⌝ }
+    requires { ⌜ GoodRows (now classes) ⌝ }
     ensures { λ r.
         ⌜
-        ((s : Stacks) (peak : ℕ)
+        ((limit : ℕ) (s : Stacks) (peak : ℕ)
         → Fit s
         → Runs
-        builtIn
+        (rulesBy (now (classes .entry)) limit)
         (now (code .entry))
         (deadWalk s from met written peak Stop.Running)
         (now (log .entry))
@@ -141,7 +146,7 @@ fn skip(code: &[u8], log: &mut [u16], from: usize, met: usize, written: usize) -
         rows += 1;
         last = at;
         at = i.next;
-        let class = opcodes::class_at(i.opcode);
+        let class = opcodes::class_in(classes, i.opcode);
         let stop = match class {
             opcodes::IF => Stop::Conditional,
             opcodes::NOTIF => Stop::Conditional,
@@ -160,10 +165,10 @@ fn skip(code: &[u8], log: &mut [u16], from: usize, met: usize, written: usize) -
 
 // The instructions up to the next IF, NOTIF, ELSE or ENDIF, whose row is written too, or to the end. It calls no walker,
 // so that the methods of the stacks are compiled into its loop.
-pub fn plain(code: &[u8], log: &mut [u16], start: Walk) -> Walk
-    requires { ⌜ Ready (now code) (now log) start ⌝ }
-    requires { ⌜ start .stop ≡ Stop.Running ⌝ }
-    ensures { λ r. ⌜ Runs builtIn (now (code .entry)) start (now (log .entry)) r (now (log .exit)) ⌝ }
+pub fn plain(code: &[u8], log: &mut [u16], classes: &[u8], limit: u32, start: Walk) -> Walk
+    requires { ⌜ (Ready (now code) (now log) start) × (start .stop ≡ Stop.Running) ⌝ }
+    requires { ⌜ (GoodRows (now classes)) × (limit ≤ 244) ⌝ }
+    ensures { λ r. ⌜ Runs (rulesBy (now (classes .entry)) limit) (now (code .entry)) start (now (log .entry)) r (now (log .exit)) ⌝ }
 {
     let s0 = start.stacks;
     let mut t = Stepped {
@@ -171,7 +176,7 @@ pub fn plain(code: &[u8], log: &mut [u16], start: Walk) -> Walk
         answer: Answer::Done,
     };
     if !start.live {
-        let k = skip(code, log, start.at, start.last, start.rows);
+        let k = skip(code, log, classes, start.at, start.last, start.rows);
         let s = t.stacks;
         let stop = k.stop;
         return stopped(s, false, k.at, k.last, k.rows, start.peak, stop);
@@ -199,7 +204,7 @@ pub fn plain(code: &[u8], log: &mut [u16], start: Walk) -> Walk
         last = at;
         at = i.next;
         let opcode = i.opcode;
-        let class = opcodes::class_of(opcode);
+        let class = opcodes::class_in(classes, opcode);
         match class {
             opcodes::IF => {
                 let s3 = t.stacks;
@@ -218,7 +223,7 @@ pub fn plain(code: &[u8], log: &mut [u16], start: Walk) -> Walk
                 return stopped(s6, true, at, last, rows, peak, Stop::Endif);
             }
             opcodes::RETURN => {
-                let k = skip(code, log, at, last, rows);
+                let k = skip(code, log, classes, at, last, rows);
                 let s7 = t.stacks;
                 let stop = k.stop;
                 return stopped(s7, false, k.at, k.last, k.rows, peak, stop);
@@ -228,17 +233,17 @@ pub fn plain(code: &[u8], log: &mut [u16], start: Walk) -> Walk
                 let v = i.literal;
                 let Value::Exact { len, bytes } = v else {
                     let s = t.stacks;
-                    t = s.push_code(9, LIMIT);
+                    t = s.push_code(9, limit);
                     continue;
                 };
                 let code = slots::code_of(len, bytes);
                 if slots::suffices(code) {
                     let s = t.stacks;
-                    t = s.push_code(code, LIMIT);
+                    t = s.push_code(code, limit);
                     continue;
                 }
                 let s = t.stacks;
-                t = s.push_exact(len, bytes, LIMIT);
+                t = s.push_exact(len, bytes, limit);
                 continue;
             }
             opcodes::TO_ALT => {
@@ -253,12 +258,12 @@ pub fn plain(code: &[u8], log: &mut [u16], start: Walk) -> Walk
             }
             opcodes::DEPTH => {
                 let s = t.stacks;
-                t = s.depth(LIMIT);
+                t = s.depth(limit);
                 continue;
             }
             opcodes::SIZE => {
                 let s = t.stacks;
-                t = s.size(LIMIT);
+                t = s.size(limit);
                 continue;
             }
             opcodes::NIP => {
@@ -268,12 +273,12 @@ pub fn plain(code: &[u8], log: &mut [u16], start: Walk) -> Walk
             }
             opcodes::TUCK => {
                 let s = t.stacks;
-                t = s.tuck(LIMIT);
+                t = s.tuck(limit);
                 continue;
             }
             opcodes::PICK => {
                 let s = t.stacks;
-                t = s.pick(LIMIT);
+                t = s.pick(limit);
                 continue;
             }
             opcodes::ROLL => {
@@ -283,32 +288,32 @@ pub fn plain(code: &[u8], log: &mut [u16], start: Walk) -> Walk
             }
             opcodes::ZK => {
                 let s = t.stacks;
-                t = s.zk(LIMIT);
+                t = s.zk(limit);
                 continue;
             }
             opcodes::DUP => {
                 let s = t.stacks;
-                t = s.extend_from_within(1, 1, LIMIT);
+                t = s.extend_from_within(1, 1, limit);
                 continue;
             }
             opcodes::TWO_DUP => {
                 let s = t.stacks;
-                t = s.extend_from_within(2, 2, LIMIT);
+                t = s.extend_from_within(2, 2, limit);
                 continue;
             }
             opcodes::THREE_DUP => {
                 let s = t.stacks;
-                t = s.extend_from_within(3, 3, LIMIT);
+                t = s.extend_from_within(3, 3, limit);
                 continue;
             }
             opcodes::OVER => {
                 let s = t.stacks;
-                t = s.extend_from_within(2, 1, LIMIT);
+                t = s.extend_from_within(2, 1, limit);
                 continue;
             }
             opcodes::TWO_OVER => {
                 let s = t.stacks;
-                t = s.extend_from_within(4, 2, LIMIT);
+                t = s.extend_from_within(4, 2, limit);
                 continue;
             }
             opcodes::ROT => {
@@ -333,32 +338,32 @@ pub fn plain(code: &[u8], log: &mut [u16], start: Walk) -> Walk
             }
             opcodes::EFFECT_1_0 => {
                 let s = t.stacks;
-                t = s.apply_effect(1, 0, LIMIT);
+                t = s.apply_effect(1, 0, limit);
                 continue;
             }
             opcodes::EFFECT_2_0 => {
                 let s = t.stacks;
-                t = s.apply_effect(2, 0, LIMIT);
+                t = s.apply_effect(2, 0, limit);
                 continue;
             }
             opcodes::EFFECT_0_1 => {
                 let s = t.stacks;
-                t = s.apply_effect(0, 1, LIMIT);
+                t = s.apply_effect(0, 1, limit);
                 continue;
             }
             opcodes::EFFECT_1_1 => {
                 let s = t.stacks;
-                t = s.apply_effect(1, 1, LIMIT);
+                t = s.apply_effect(1, 1, limit);
                 continue;
             }
             opcodes::EFFECT_3_1 => {
                 let s = t.stacks;
-                t = s.apply_effect(3, 1, LIMIT);
+                t = s.apply_effect(3, 1, limit);
                 continue;
             }
             opcodes::EFFECT_2_1 => {
                 let s = t.stacks;
-                t = s.apply_effect(2, 1, LIMIT);
+                t = s.apply_effect(2, 1, limit);
                 continue;
             }
             _ => {

@@ -1,4 +1,3 @@
-use Rattle.definition.specs.Stacks.{builtIn}
 use Rattle.walk.proofs.Rows.{not-live, is-live}
 use Rattle.stack_analysis.proofs.Conditionals.{closes-other-dead, closes-dead, closes-both}
 use borrow.Author.Needs.{needs}
@@ -16,7 +15,7 @@ turned-requires c κs = search needs
 returns : tie.Need-returns
 returns c =
     let b = c .before in
-    λ s. rw (c .turned .ensures) (closes-other-dead builtIn s _ (b .before .before .args .other) (b .before .before .args .alive) (not-live _ (b .if1 .taken)) (b .before .before .pre .0))
+    λ R s. rw (c .turned .ensures) (closes-other-dead R s _ (b .before .before .args .other) (b .before .before .args .alive) (not-live _ (b .if1 .taken)) (b .before .before .pre .0))
 
 turned-requires-2 : tie.Need-turned-requires-2
 turned-requires-2 c κs = search needs
@@ -24,7 +23,7 @@ turned-requires-2 c κs = search needs
 returns-2 : tie.Need-returns-2
 returns-2 c =
     let b = c .before in
-    λ s. rw (c .turned2 .ensures) (closes-dead builtIn s _ _ (b .before .before .before .args .alive) (is-live _ (b .before .if1 .left)) (not-live _ (b .if2 .taken)) (b .before .before .before .pre .1))
+    λ R s. rw (c .turned2 .ensures) (closes-dead R s _ _ (b .before .before .before .args .alive) (is-live _ (b .before .if1 .left)) (not-live _ (b .if2 .taken)) (b .before .before .before .pre .1))
 
 join-requires : tie.Need-join-requires
 join-requires c κs = search needs
@@ -39,7 +38,7 @@ returns-3 : tie.Need-returns-3
 returns-3 c =
     let b = c .before in
     let e = b .before .before .before in
-    λ s. rw (c .turned3 .ensures) (closes-both builtIn s _ _ (e .before .before .before .args .alive) (is-live _ (e .before .if1 .left)) (is-live _ (e .if2 .left)) (b .before .before .join .result) (b .before .before .join .ensures) _ (b .stop-of .ensures))
+    λ R s. rw (c .turned3 .ensures) (closes-both R s _ _ (e .before .before .before .args .alive) (is-live _ (e .before .if1 .left)) (is-live _ (e .if2 .left)) (b .before .before .join .result) (b .before .before .join .ensures) _ (b .stop-of .ensures))
 
 pub close-spec : {M : Type 1} → statement M
 close-spec = tie.close (tie.spec turned-requires returns turned-requires-2 returns-2 join-requires stop-of-requires turned-requires-3 returns-3)

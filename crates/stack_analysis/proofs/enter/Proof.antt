@@ -1,5 +1,4 @@
 use Rattle.walk.proofs.Rows.{not-live, is-live}
-use Rattle.definition.specs.Stacks.{builtIn}
 use Rattle.stack_analysis.proofs.Conditionals.{too-deep, enters-dead, enters-popped, stop-done, stop-refused}
 use native.Mathlib.Omega.{arith}
 use borrow.Author.Needs.{needs}
@@ -13,7 +12,7 @@ turned-requires : tie.Need-turned-requires
 turned-requires c κs = search needs
 
 returns : tie.Need-returns
-returns c = λ s. rw (c .turned .ensures) (search (too-deep builtIn s, needs))
+returns c = λ R s. rw (c .turned .ensures) (search (too-deep R s, needs))
 
 turned-requires-2 : tie.Need-turned-requires-2
 turned-requires-2 c κs = search needs
@@ -21,7 +20,7 @@ turned-requires-2 c κs = search needs
 returns-2 : tie.Need-returns-2
 returns-2 c =
     let b = c .before in
-    λ s. rw (c .turned2 .ensures) (enters-dead builtIn s _ (b .before .before .before .pre .0 .1) _ (omega arith) (not-live _ (b .if2 .taken)) (b .before .before .before .pre .0 .0))
+    λ R s. rw (c .turned2 .ensures) (enters-dead R s _ (b .before .before .before .pre .0 .1) _ (omega arith) (not-live _ (b .if2 .taken)) (b .before .before .before .pre .0 .0))
 
 drop-items-requires : tie.Need-drop-items-requires
 drop-items-requires c κs = search needs
@@ -36,7 +35,7 @@ returns-3 : tie.Need-returns-3
 returns-3 c =
     let b = c .before in
     let d = b .before .before .before .before .drop-items in
-    λ s. rw (c .turned3 .ensures) (enters-popped builtIn s _ _ (b .before .before .before .before .before .before .before .before .pre .0 .1) (omega (arith, b .before .before .before .before .before .before .before .before .pre .1, b .before .before .before .before .before .before .if1 .left)) (is-live _ (b .before .before .before .before .before .if2 .left)) (d .result) (d .ensures) _ (stop-refused (d .result .answer) _ (search needs)))
+    λ R s. rw (c .turned3 .ensures) (enters-popped R s _ _ (b .before .before .before .before .before .before .before .before .pre .0 .1) (omega (arith, b .before .before .before .before .before .before .before .before .pre .1, b .before .before .before .before .before .before .if1 .left)) (is-live _ (b .before .before .before .before .before .if2 .left)) (d .result) (d .ensures) _ (stop-refused (d .result .answer) _ (search needs)))
 
 enum-told : tie.Need-enum-told
 enum-told c = search needs
@@ -48,7 +47,7 @@ returns-4 : tie.Need-returns-4
 returns-4 c =
     let b = c .before in
     let d = b .before .before .before .drop-items in
-    λ s. rw (c .turned4 .ensures) (enters-popped builtIn s _ _ (b .before .before .before .before .before .before .before .pre .0 .1) (omega arith) (is-live _ (b .before .before .before .before .if2 .left)) (d .result) (d .ensures) _ (stop-done (d .result .answer) (search needs)))
+    λ R s. rw (c .turned4 .ensures) (enters-popped R s _ _ (b .before .before .before .before .before .before .before .pre .0 .1) (omega arith) (is-live _ (b .before .before .before .before .if2 .left)) (d .result) (d .ensures) _ (stop-done (d .result .answer) (search needs)))
 
 pub enter-spec : {M : Type 1} → statement M
 enter-spec =

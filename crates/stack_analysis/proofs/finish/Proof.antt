@@ -1,4 +1,3 @@
-use Rattle.definition.specs.Stacks.{builtIn}
 use Rattle.stack_analysis.proofs.Conditionals.{finished-endif, finished-else, finished-open, finished-refused, not-running, not-conditional}
 use borrow.Author.Needs.{needs}
 use native.Mathlib.Omega.{arith}
@@ -37,22 +36,22 @@ enum-told-6 : tie.Need-enum-told-6
 enum-told-6 c = search needs
 
 returns : tie.Need-returns
-returns c = λ s. finished-endif builtIn s _ _ (c .before .enum-told .given .1) _ (c .close .ensures s)
+returns c = λ R s. finished-endif R s _ _ (c .before .enum-told .given .1) _ (c .close .ensures R s)
 
 returns-2 : tie.Need-returns-2
-returns-2 c = λ s. finished-else builtIn s _ _ (c .before .enum-told2 .given .1) (c .before .before .before .pre .0 .0) _ (c .refused .ensures)
+returns-2 c = λ R s. finished-else R s _ _ (c .before .enum-told2 .given .1) (c .before .before .before .pre .0 .0) _ (c .refused .ensures)
 
 returns-3 : tie.Need-returns-3
-returns-3 c = λ s. finished-open builtIn s _ _ (c .before .enum-told3 .given .1) (c .before .before .before .pre .0 .0) _ (c .refused2 .ensures)
+returns-3 c = λ R s. finished-open R s _ _ (c .before .enum-told3 .given .1) (c .before .before .before .pre .0 .0) _ (c .refused2 .ensures)
 
 returns-4 : tie.Need-returns-4
-returns-4 c = λ s. finished-refused builtIn s _ _ _ (c .enum-told4 .given .1) (c .before .before .pre .0 .0)
+returns-4 c = λ R s. finished-refused R s _ _ _ (c .enum-told4 .given .1) (c .before .before .pre .0 .0)
 
 returns-5 : tie.Need-returns-5
-returns-5 c = λ s. not-running builtIn s _ _ (c .before .before .pre .1) (c .enum-told5 .given .1)
+returns-5 c = λ R s. not-running R s _ _ (c .before .before .pre .1) (c .enum-told5 .given .1)
 
 returns-6 : tie.Need-returns-6
-returns-6 c = λ s. not-conditional builtIn s _ _ (c .before .before .pre .1) (c .enum-told6 .given .1)
+returns-6 c = λ R s. not-conditional R s _ _ (c .before .before .pre .1) (c .enum-told6 .given .1)
 
 pub finish-spec : {M : Type 1} → statement M
 finish-spec =

@@ -4,6 +4,8 @@ use mathlib.Core.Path.{_≡_, refl, sym, ap, _∙_}
 use Prim.Native.Nat.{ℕ, _-_}
 use native.Mathlib.Omega.{arith}
 use lib.ListN.{length}
+use Rattle.definition.specs.Classes.{classAt}
+use Rattle.opcodes.specs.View.{rulesBy}
 use Rattle.decode.proofs.Bytes.{slice-bytes}
 use Rattle.decode.proofs.Codes.{code-instruction, code-ends, code-malformed}
 use Rattle.stack.proofs.Values.{unknown-suffices, held-exact, code-wants, push-is-unknown, push-is-code, push-is-exact}
@@ -16,7 +18,7 @@ use Rattle.walk.proofs.plain.Tie as tie
 use Rattle.walk.proofs.plain.Reads as reads
 use Rattle.walk.proofs.plain.Lts as lts
 use Rattle.decode.proofs.decode_at.Reads as decode-at-reads
-use Rattle.opcodes.proofs.class_of.Reads as class-of-reads
+use Rattle.opcodes.proofs.class_in.Reads as class-in-reads
 use Rattle.slots.proofs.code_of.Reads as code-of-reads
 use Rattle.slots.proofs.suffices.Reads as suffices-reads
 use Rattle.stack.proofs.Stacks.apply_effect.Reads as apply-effect-reads
@@ -39,15 +41,15 @@ use Rattle.walk.proofs.skip.Reads as skip-reads
 use Rattle.walk.proofs.stopped.Reads as stopped-reads
 
 abbrev Inv-loop : tie.InvT-loop
-Inv-loop code log₀ t₀ at₀ last₀ rows₀ peak₀ log t at last rows peak =
-    Walking code log₀ (walkOf t₀ at₀ last₀ rows₀ peak₀) log (walkOf t at last rows peak)
+Inv-loop code log₀ classes limit t₀ at₀ last₀ rows₀ peak₀ log t at last rows peak =
+    Walking (rulesBy classes limit) code log₀ (walkOf t₀ at₀ last₀ rows₀ peak₀) log (walkOf t at last rows peak)
 
 abbrev μ-loop : tie.MeasureT-loop
-μ-loop code log₀ t₀ at₀ last₀ rows₀ peak₀ log t at last rows peak = length code - at
+μ-loop code log₀ classes limit t₀ at₀ last₀ rows₀ peak₀ log t at last rows peak = length code - at
 
 -- what is known once an instruction is met, its row is written and its class number is read
-met : (c : lts.After-class-of (skip-reads.Asked, skip-reads.Learnt, stopped-reads.Asked, stopped-reads.Learnt, higher-reads.Asked, higher-reads.Learnt, decode-at-reads.Asked, decode-at-reads.Learnt, log-row-reads.Asked, log-row-reads.Learnt, class-of-reads.Asked, class-of-reads.Learnt, push-code-reads.Asked, push-code-reads.Learnt, code-of-reads.Asked, code-of-reads.Learnt, suffices-reads.Asked, suffices-reads.Learnt, push-exact-reads.Asked, push-exact-reads.Learnt, move-to-alt-reads.Asked, move-to-alt-reads.Learnt, move-from-alt-reads.Asked, move-from-alt-reads.Learnt, depth-reads.Asked, depth-reads.Learnt, size-reads.Asked, size-reads.Learnt, nip-reads.Asked, nip-reads.Learnt, tuck-reads.Asked, tuck-reads.Learnt, pick-reads.Asked, pick-reads.Learnt, roll-reads.Asked, roll-reads.Learnt, zk-reads.Asked, zk-reads.Learnt, extend-from-within-reads.Asked, extend-from-within-reads.Learnt, rotate-left-reads.Asked, rotate-left-reads.Learnt, apply-effect-reads.Asked, apply-effect-reads.Learnt) reads.Pre reads.Post Inv-loop μ-loop)
-    → Met (c .before .before .before .before .before .before .before .before .before .before .before .before .before .before .before .before .before .before .args .code .now) (c .before .before .before .before .before .before .before .before .before .before .before .before .before .before .before .before .before .before .args .log .now) (record { stacks = c .before .before .before .before .before .before .before .before .before .before .before .before .before .before .before .before .before .before .args .start .stacks; live = true; at = c .before .before .before .before .before .before .before .before .before .before .before .before .before .before .before .before .before .before .args .start .at; last = c .before .before .before .before .before .before .before .before .before .before .before .before .before .before .before .before .before .before .args .start .last; rows = c .before .before .before .before .before .before .before .before .before .before .before .before .before .before .before .before .before .before .args .start .rows; peak = c .before .before .before .before .before .before .before .before .before .before .before .before .before .before .before .before .before .before .args .start .peak; stop = Running }) (c .before .before .before .before .before .before .before .before .before .before .before .before .loop .log) (walkOf (c .before .before .before .before .before .before .before .before .before .before .before .before .loop .t) (c .before .before .before .before .before .before .before .before .before .before .before .before .loop .at) (c .before .before .before .before .before .before .before .before .before .before .before .before .loop .last) (c .before .before .before .before .before .before .before .before .before .before .before .before .loop .rows) (c .before .before .before .before .before .before .before .before .before .before .before .before .loop .peak)) (c .before .before .before .log-row .last .0) (c .before .before .before .before .before .before .d .given .0 .0) (c .before .before .before .before .before .before .before .before .before .higher .result) (c .class-of .result)
+met : (c : lts.After-class-in (skip-reads.Asked, skip-reads.Learnt, stopped-reads.Asked, stopped-reads.Learnt, higher-reads.Asked, higher-reads.Learnt, decode-at-reads.Asked, decode-at-reads.Learnt, log-row-reads.Asked, log-row-reads.Learnt, class-in-reads.Asked, class-in-reads.Learnt, push-code-reads.Asked, push-code-reads.Learnt, code-of-reads.Asked, code-of-reads.Learnt, suffices-reads.Asked, suffices-reads.Learnt, push-exact-reads.Asked, push-exact-reads.Learnt, move-to-alt-reads.Asked, move-to-alt-reads.Learnt, move-from-alt-reads.Asked, move-from-alt-reads.Learnt, depth-reads.Asked, depth-reads.Learnt, size-reads.Asked, size-reads.Learnt, nip-reads.Asked, nip-reads.Learnt, tuck-reads.Asked, tuck-reads.Learnt, pick-reads.Asked, pick-reads.Learnt, roll-reads.Asked, roll-reads.Learnt, zk-reads.Asked, zk-reads.Learnt, extend-from-within-reads.Asked, extend-from-within-reads.Learnt, rotate-left-reads.Asked, rotate-left-reads.Learnt, apply-effect-reads.Asked, apply-effect-reads.Learnt) reads.Pre reads.Post Inv-loop μ-loop)
+    → Met (rulesBy (c .before .before .before .before .before .before .before .before .before .before .before .before .before .before .before .before .before .before .before .args .classes .now) (c .before .before .before .before .before .before .before .before .before .before .before .before .before .before .before .before .before .before .before .args .limit)) (c .before .before .before .before .before .before .before .before .before .before .before .before .before .before .before .before .before .before .before .args .code .now) (c .before .before .before .before .before .before .before .before .before .before .before .before .before .before .before .before .before .before .before .args .log .now) (record { stacks = c .before .before .before .before .before .before .before .before .before .before .before .before .before .before .before .before .before .before .before .args .start .stacks; live = true; at = c .before .before .before .before .before .before .before .before .before .before .before .before .before .before .before .before .before .before .before .args .start .at; last = c .before .before .before .before .before .before .before .before .before .before .before .before .before .before .before .before .before .before .before .args .start .last; rows = c .before .before .before .before .before .before .before .before .before .before .before .before .before .before .before .before .before .before .before .args .start .rows; peak = c .before .before .before .before .before .before .before .before .before .before .before .before .before .before .before .before .before .before .before .args .start .peak; stop = Running }) (c .before .before .before .before .before .before .before .before .before .before .before .before .loop .log) (walkOf (c .before .before .before .before .before .before .before .before .before .before .before .before .loop .t) (c .before .before .before .before .before .before .before .before .before .before .before .before .loop .at) (c .before .before .before .before .before .before .before .before .before .before .before .before .loop .last) (c .before .before .before .before .before .before .before .before .before .before .before .before .loop .rows) (c .before .before .before .before .before .before .before .before .before .before .before .before .loop .peak)) (c .before .before .before .log-row .last .0) (c .before .before .before .before .before .before .d .given .0 .0) (c .before .before .before .before .before .before .before .before .before .higher .result) (c .class-in .result)
 met c =
     let l = c .before .before .before in
     let d = c .before .before .before .before .before .before in
@@ -62,11 +64,12 @@ met c =
       len = l .log-row .kept .0;
       row = row-written (q .rows) (q .at) (q .t .stacks .mains) (q .t .stacks .alts) true (q .t .stacks) (q .log) (l .log-row .last .0) (l .log-row .ensures) refl refl;
       high = high-of (q .peak) (h .higher .result) true (q .t .stacks) (h .higher .ensures);
-      number = c .class-of .ensures;
+      kind = ap classAt (sym (c .class-in .ensures));
+      small = rw (c .class-in .ensures) (c .before .before .before .before .before .before .before .before .before .before .before .before .before .before .before .before .before .before .before .pre .1 .0 .below _);
     }
 
 skip-requires : tie.Need-skip-requires Inv-loop μ-loop
-skip-requires c κs = room-there (c .before .before .before .before .before .before .pre .0)
+skip-requires c κs = (room-there (c .before .before .before .before .before .before .before .pre .0 .0), c .before .before .before .before .before .before .before .pre .1 .0)
 
 stopped-requires : tie.Need-stopped-requires Inv-loop μ-loop
 stopped-requires c κs = tt
@@ -75,10 +78,10 @@ same-length : tie.Need-same-length Inv-loop μ-loop
 same-length c = c .before .before .before .before .skip .kept .1 .0
 
 returns : tie.Need-returns Inv-loop μ-loop
-returns c = rw (c .stopped .ensures) (runs-from (c .before .before .before .before .before .before .before .before .before .before .before .args .start) (not-live _ (c .before .before .before .before .before .before .if1 .taken)) (c .before .before .before .before .before .before .before .before .before .before .before .pre .1) (c .before .before .before .before .skip .ensures (c .before .before .before .before .before .before .before .before .before .before .before .args .start .stacks) (c .before .before .before .before .before .before .before .before .before .before .before .args .start .peak) (c .before .before .before .before .before .before .before .before .before .before .before .pre .0 .fit)))
+returns c = rw (c .stopped .ensures) (runs-from (c .before .before .before .before .before .before .before .before .before .before .before .before .args .start) (not-live _ (c .before .before .before .before .before .before .if1 .taken)) (c .before .before .before .before .before .before .before .before .before .before .before .before .pre .0 .1) (c .before .before .before .before .skip .ensures _ (c .before .before .before .before .before .before .before .before .before .before .before .before .args .start .stacks) (c .before .before .before .before .before .before .before .before .before .before .before .before .args .start .peak) (c .before .before .before .before .before .before .before .before .before .before .before .before .pre .0 .0 .fit)))
 
 loop-holds : tie.Need-loop-holds Inv-loop μ-loop
-loop-holds c = walking-none (slice-bytes (c .before .before .before .before .before .args .code .now) (c .before .before .before .before .shared-slice-known .given)) (ready-running (c .before .before .before .before .before .args .start) (c .before .before .before .before .before .pre .0))
+loop-holds c = walking-none (slice-bytes (c .before .before .before .before .before .before .args .code .now) (c .before .before .before .before .before .shared-slice-known .given)) (ready-running (c .before .before .before .before .before .before .args .start) (c .before .before .before .before .before .before .pre .0 .0))
 
 enum-known-answer : tie.Need-enum-known-answer Inv-loop μ-loop
 enum-known-answer c = search needs
@@ -90,7 +93,7 @@ same-length-2 : tie.Need-same-length-2 Inv-loop μ-loop
 same-length-2 c = search needs
 
 returns-2 : tie.Need-returns-2 Inv-loop μ-loop
-returns-2 c = rw (c .stopped2 .ensures) (runs-from (c .before .before .before .before .before .before .before .before .before .before .before .args .start) (is-live _ (c .before .before .before .before .before .before .if1 .left)) (c .before .before .before .before .before .before .before .before .before .before .before .pre .1) (was-refused _ _ _ _ _ _ (c .before .before .before .before .before .loop .inv) (c .before .before .before .answer .given .1)))
+returns-2 c = rw (c .stopped2 .ensures) (runs-from (c .before .before .before .before .before .before .before .before .before .before .before .before .args .start) (is-live _ (c .before .before .before .before .before .before .if1 .left)) (c .before .before .before .before .before .before .before .before .before .before .before .before .pre .0 .1) (was-refused _ _ _ _ _ _ (c .before .before .before .before .before .loop .inv) (c .before .before .before .answer .given .1)))
 
 enum-told : tie.Need-enum-told Inv-loop μ-loop
 enum-told c = search needs
@@ -114,7 +117,7 @@ same-length-3 : tie.Need-same-length-3 Inv-loop μ-loop
 same-length-3 c = search needs
 
 returns-3 : tie.Need-returns-3 Inv-loop μ-loop
-returns-3 c = rw (c .stopped3 .ensures) (runs-from (c .before .before .before .before .before .before .before .before .before .before .before .before .before .args .start) (is-live _ (c .before .before .before .before .before .before .before .before .if1 .left)) (c .before .before .before .before .before .before .before .before .before .before .before .before .before .pre .1) (none-left (c .before .before .before .before .before .before .before .loop .inv) (rw (c .before .before .before .before .before .enum-told .given .1)) (high-of (c .before .before .before .before .before .before .before .loop .peak) (c .before .before .before .before .higher .result) true (c .before .before .before .before .before .before .before .loop .t .stacks) (c .before .before .before .before .higher .ensures)) (no-instruction _ _ (c .before .before .before .decode-at .result) (c .before .before .before .decode-at .ensures .1) (c .before .before .match2 .keys2))))
+returns-3 c = rw (c .stopped3 .ensures) (runs-from (c .before .before .before .before .before .before .before .before .before .before .before .before .before .before .args .start) (is-live _ (c .before .before .before .before .before .before .before .before .if1 .left)) (c .before .before .before .before .before .before .before .before .before .before .before .before .before .before .pre .0 .1) (none-left (c .before .before .before .before .before .before .before .loop .inv) (rw (c .before .before .before .before .before .enum-told .given .1)) (high-of (c .before .before .before .before .before .before .before .loop .peak) (c .before .before .before .before .higher .result) true (c .before .before .before .before .before .before .before .loop .t .stacks) (c .before .before .before .before .higher .ensures)) (no-instruction _ _ (c .before .before .before .decode-at .result) (c .before .before .before .decode-at .ensures .1) (c .before .before .match2 .keys2))))
 
 cast-log-row : tie.Need-cast-log-row Inv-loop μ-loop
 cast-log-row c = search needs
@@ -131,8 +134,8 @@ log-row-requires c κs = omega (arith, row-room (c .before .before .before .befo
 add-rows : tie.Need-add-rows Inv-loop μ-loop
 add-rows c = search needs
 
-class-of-requires : tie.Need-class-of-requires Inv-loop μ-loop
-class-of-requires c κs = search needs
+class-in-requires : tie.Need-class-in-requires Inv-loop μ-loop
+class-in-requires c κs = search needs
 
 stopped-requires-4 : tie.Need-stopped-requires-4 Inv-loop μ-loop
 stopped-requires-4 c κs = search needs
@@ -141,7 +144,7 @@ same-length-4 : tie.Need-same-length-4 Inv-loop μ-loop
 same-length-4 c = let m = met (c .before .before .before) in m .len ∙ m .walking .len
 
 returns-4 : tie.Need-returns-4 Inv-loop μ-loop
-returns-4 c = rw (c .stopped4 .ensures) (runs-from (c .before .before .before .before .before .before .before .before .before .before .before .before .before .before .before .before .before .before .before .before .before .args .start) (is-live _ (c .before .before .before .before .before .before .before .before .before .before .before .before .before .before .before .before .if1 .left)) (c .before .before .before .before .before .before .before .before .before .before .before .before .before .before .before .before .before .before .before .before .before .pre .1) (met-if (met (c .before .before .before)) (c .before .before .match3 .keys1)))
+returns-4 c = rw (c .stopped4 .ensures) (runs-from (c .before .before .before .before .before .before .before .before .before .before .before .before .before .before .before .before .before .before .before .before .before .before .args .start) (is-live _ (c .before .before .before .before .before .before .before .before .before .before .before .before .before .before .before .before .if1 .left)) (c .before .before .before .before .before .before .before .before .before .before .before .before .before .before .before .before .before .before .before .before .before .before .pre .0 .1) (met-if (met (c .before .before .before)) (c .before .before .match3 .keys1)))
 
 stopped-requires-5 : tie.Need-stopped-requires-5 Inv-loop μ-loop
 stopped-requires-5 c κs = search needs
@@ -150,7 +153,7 @@ same-length-5 : tie.Need-same-length-5 Inv-loop μ-loop
 same-length-5 c = let m = met (c .before .before .before) in m .len ∙ m .walking .len
 
 returns-5 : tie.Need-returns-5 Inv-loop μ-loop
-returns-5 c = rw (c .stopped5 .ensures) (runs-from (c .before .before .before .before .before .before .before .before .before .before .before .before .before .before .before .before .before .before .before .before .before .args .start) (is-live _ (c .before .before .before .before .before .before .before .before .before .before .before .before .before .before .before .before .if1 .left)) (c .before .before .before .before .before .before .before .before .before .before .before .before .before .before .before .before .before .before .before .before .before .pre .1) (met-notif (met (c .before .before .before)) (c .before .before .match3 .keys2)))
+returns-5 c = rw (c .stopped5 .ensures) (runs-from (c .before .before .before .before .before .before .before .before .before .before .before .before .before .before .before .before .before .before .before .before .before .before .args .start) (is-live _ (c .before .before .before .before .before .before .before .before .before .before .before .before .before .before .before .before .if1 .left)) (c .before .before .before .before .before .before .before .before .before .before .before .before .before .before .before .before .before .before .before .before .before .before .pre .0 .1) (met-notif (met (c .before .before .before)) (c .before .before .match3 .keys2)))
 
 stopped-requires-6 : tie.Need-stopped-requires-6 Inv-loop μ-loop
 stopped-requires-6 c κs = search needs
@@ -159,7 +162,7 @@ same-length-6 : tie.Need-same-length-6 Inv-loop μ-loop
 same-length-6 c = let m = met (c .before .before .before) in m .len ∙ m .walking .len
 
 returns-6 : tie.Need-returns-6 Inv-loop μ-loop
-returns-6 c = rw (c .stopped6 .ensures) (runs-from (c .before .before .before .before .before .before .before .before .before .before .before .before .before .before .before .before .before .before .before .before .before .args .start) (is-live _ (c .before .before .before .before .before .before .before .before .before .before .before .before .before .before .before .before .if1 .left)) (c .before .before .before .before .before .before .before .before .before .before .before .before .before .before .before .before .before .before .before .before .before .pre .1) (met-else (met (c .before .before .before)) (c .before .before .match3 .keys3)))
+returns-6 c = rw (c .stopped6 .ensures) (runs-from (c .before .before .before .before .before .before .before .before .before .before .before .before .before .before .before .before .before .before .before .before .before .before .args .start) (is-live _ (c .before .before .before .before .before .before .before .before .before .before .before .before .before .before .before .before .if1 .left)) (c .before .before .before .before .before .before .before .before .before .before .before .before .before .before .before .before .before .before .before .before .before .before .pre .0 .1) (met-else (met (c .before .before .before)) (c .before .before .match3 .keys3)))
 
 stopped-requires-7 : tie.Need-stopped-requires-7 Inv-loop μ-loop
 stopped-requires-7 c κs = search needs
@@ -168,10 +171,10 @@ same-length-7 : tie.Need-same-length-7 Inv-loop μ-loop
 same-length-7 c = let m = met (c .before .before .before) in m .len ∙ m .walking .len
 
 returns-7 : tie.Need-returns-7 Inv-loop μ-loop
-returns-7 c = rw (c .stopped7 .ensures) (runs-from (c .before .before .before .before .before .before .before .before .before .before .before .before .before .before .before .before .before .before .before .before .before .args .start) (is-live _ (c .before .before .before .before .before .before .before .before .before .before .before .before .before .before .before .before .if1 .left)) (c .before .before .before .before .before .before .before .before .before .before .before .before .before .before .before .before .before .before .before .before .before .pre .1) (met-endif (met (c .before .before .before)) (c .before .before .match3 .keys4)))
+returns-7 c = rw (c .stopped7 .ensures) (runs-from (c .before .before .before .before .before .before .before .before .before .before .before .before .before .before .before .before .before .before .before .before .before .before .args .start) (is-live _ (c .before .before .before .before .before .before .before .before .before .before .before .before .before .before .before .before .if1 .left)) (c .before .before .before .before .before .before .before .before .before .before .before .before .before .before .before .before .before .before .before .before .before .before .pre .0 .1) (met-endif (met (c .before .before .before)) (c .before .before .match3 .keys4)))
 
 skip-requires-2 : tie.Need-skip-requires-2 Inv-loop μ-loop
-skip-requires-2 c κs = room-on (met-return (met (c .before .before)) (c .before .match3 .keys5))
+skip-requires-2 c κs = (room-on (met-return (met (c .before .before)) (c .before .match3 .keys5)), c .before .before .before .before .before .before .before .before .before .before .before .before .before .before .before .before .before .before .before .before .before .pre .1 .0)
 
 stopped-requires-8 : tie.Need-stopped-requires-8 Inv-loop μ-loop
 stopped-requires-8 c κs = tt
@@ -180,7 +183,7 @@ same-length-8 : tie.Need-same-length-8 Inv-loop μ-loop
 same-length-8 c = c .before .before .before .before .skip2 .kept .1 .0 ∙ (let m = met (c .before .before .before .before .before .before .before) in m .len ∙ m .walking .len)
 
 returns-8 : tie.Need-returns-8 Inv-loop μ-loop
-returns-8 c = rw (c .stopped8 .ensures) (runs-from (c .before .before .before .before .before .before .before .before .before .before .before .before .before .before .before .before .before .before .before .before .before .before .before .before .before .args .start) (is-live _ (c .before .before .before .before .before .before .before .before .before .before .before .before .before .before .before .before .before .before .before .before .if1 .left)) (c .before .before .before .before .before .before .before .before .before .before .before .before .before .before .before .before .before .before .before .before .before .before .before .before .before .pre .1) (let w = met-return (met (c .before .before .before .before .before .before .before)) (c .before .before .before .before .before .before .match3 .keys5) in then-dead w (c .before .before .before .before .skip2 .ensures _ _ (w .goes .fit))))
+returns-8 c = rw (c .stopped8 .ensures) (runs-from (c .before .before .before .before .before .before .before .before .before .before .before .before .before .before .before .before .before .before .before .before .before .before .before .before .before .before .args .start) (is-live _ (c .before .before .before .before .before .before .before .before .before .before .before .before .before .before .before .before .before .before .before .before .if1 .left)) (c .before .before .before .before .before .before .before .before .before .before .before .before .before .before .before .before .before .before .before .before .before .before .before .before .before .before .pre .0 .1) (let w = met-return (met (c .before .before .before .before .before .before .before)) (c .before .before .before .before .before .before .match3 .keys5) in then-dead w (c .before .before .before .before .skip2 .ensures _ _ _ (w .goes .fit))))
 
 loop-less : tie.Need-loop-less Inv-loop μ-loop
 loop-less c = nearer (met (c .before))
@@ -195,7 +198,7 @@ enum-told-2 : tie.Need-enum-told-2 Inv-loop μ-loop
 enum-told-2 c = search needs
 
 push-code-requires : tie.Need-push-code-requires Inv-loop μ-loop
-push-code-requires c κs = (search needs, (unknown-suffices, search needs))
+push-code-requires c κs = (search needs, (unknown-suffices, c .before .before .before .before .before .before .before .before .before .before .before .before .before .before .before .before .before .before .before .before .before .before .before .pre .1 .1))
 
 loop-less-2 : tie.Need-loop-less-2 Inv-loop μ-loop
 loop-less-2 c = nearer (met (c .before .before .before .before .before))
@@ -210,7 +213,7 @@ suffices-requires : tie.Need-suffices-requires Inv-loop μ-loop
 suffices-requires c κs = search needs
 
 push-code-requires-2 : tie.Need-push-code-requires-2 Inv-loop μ-loop
-push-code-requires-2 c κs = (met (c .before .before .before .before .before .before .before .before) .walking .goes .fit, (sym (c .before .before .suffices .ensures) ∙ c .before .if2 .taken, omega arith))
+push-code-requires-2 c κs = (met (c .before .before .before .before .before .before .before .before) .walking .goes .fit, (sym (c .before .before .suffices .ensures) ∙ c .before .if2 .taken, c .before .before .before .before .before .before .before .before .before .before .before .before .before .before .before .before .before .before .before .before .before .before .before .before .before .before .before .pre .1 .1))
 
 loop-less-3 : tie.Need-loop-less-3 Inv-loop μ-loop
 loop-less-3 c = nearer (met (c .before .before .before .before .before .before .before .before .before))
@@ -219,7 +222,7 @@ loop-again-3 : tie.Need-loop-again-3 Inv-loop μ-loop
 loop-again-3 c = met-push (met (c .before .before .before .before .before .before .before .before .before)) refl (c .push-code2 .result) (c .before .before .before .before .before .before .before .before .match3 .keys7) (push-is-code _ _ _ (c .push-code2 .result) _ _ (c .before .before .before .before .before .before .v .given .1) (met (c .before .before .before .before .before .before .before .before .before) .stands .held) _ (c .before .before .before .before .code-of .ensures) (sym (c .before .before .before .suffices .ensures) ∙ c .before .before .if2 .taken) (c .push-code2 .ensures))
 
 push-exact-requires : tie.Need-push-exact-requires Inv-loop μ-loop
-push-exact-requires c κs = (met (c .before .before .before .before .before .before .before .before) .walking .goes .fit, (held-exact _ _ _ (c .before .before .before .before .before .v .given .1) (met (c .before .before .before .before .before .before .before .before) .stands .held), (code-wants _ _ (c .before .before .before .code-of .ensures) (sym (c .before .before .suffices .ensures) ∙ c .before .if2 .left), omega arith)))
+push-exact-requires c κs = (met (c .before .before .before .before .before .before .before .before) .walking .goes .fit, (held-exact _ _ _ (c .before .before .before .before .before .v .given .1) (met (c .before .before .before .before .before .before .before .before) .stands .held), (code-wants _ _ (c .before .before .before .code-of .ensures) (sym (c .before .before .suffices .ensures) ∙ c .before .if2 .left), omega (arith, c .before .before .before .before .before .before .before .before .before .before .before .before .before .before .before .before .before .before .before .before .before .before .before .before .before .before .before .pre .1 .1))))
 
 loop-less-4 : tie.Need-loop-less-4 Inv-loop μ-loop
 loop-less-4 c = nearer (met (c .before .before .before .before .before .before .before .before .before))
@@ -477,7 +480,7 @@ plain-spec =
     cast-log-row-3
     log-row-requires
     add-rows
-    class-of-requires
+    class-in-requires
     stopped-requires-4
     same-length-4
     returns-4
