@@ -8,5 +8,6 @@ pub mod Complete
 pub mod TrueOfEveryReplay
 pub mod TrueOfPaper
 pub mod Witnesses
+pub mod Listings
 pub mod PrintedPapers
 pub mod NumberForm

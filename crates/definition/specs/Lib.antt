@@ -8,3 +8,6 @@ pub mod Walk
 pub mod Replay
 pub mod Papers
 pub mod Lines
+pub mod Hex
+pub mod OpcodeNames
+pub mod Listing
