@@ -1,0 +1,50 @@
+-- What the answers of this crate stand for in the definitions of listings.
+use mathlib.Core.Bool.{Bool, true, false, _&&_}
+use mathlib.Core.List.{List, [], _∷_, _++_}
+use mathlib.Core.Option.{Option, none, some}
+use mathlib.Core.Path.{_≡_}
+use Prim.Native.Nat.{ℕ, zero, suc, _+_, _-_, _*_, _≤_}
+use lib.Dec.{eqb}
+use lib.ListN.{length, take, drop}
+use Rattle.definition.specs.Basics.{Bytes, pick}
+use Rattle.definition.specs.Listing.{Assembly, gives, strange, digitRead, hexRead, pushOf, wordRead, inForm}
+use Rattle.listing.specs.declared.Word.{Word}
+use Rattle.listing.specs.declared.Word.the-variants.{Strange, Code, Data}
+
+-- what is read of a name
+abbrev pub codeWord : Option Bytes → Word
+codeWord none = Strange
+codeWord (some []) = Strange
+codeWord (some (c ∷ l)) = Code c
+
+-- a digit, 16 for what is none
+abbrev pub digitOr : Option ℕ → ℕ
+digitOr none = 16
+digitOr (some d) = d
+
+-- letters that are all digits
+abbrev pub isDigit : Option ℕ → Bool
+isDigit none = false
+isDigit (some d) = true
+
+abbrev pub allDigits : Bytes → Bool
+allDigits [] = true
+allDigits (c ∷ l) = isDigit (digitRead c) && allDigits l
+
+-- the letters of n bytes behind the `<` of a word
+abbrev pub dataLetters : Bytes → ℕ → Bytes
+dataLetters w n = take (2 * n) (drop 1 w)
+
+-- w is `<`, n bytes in hexadecimal, and `>`
+pub record DataWord (w : Bytes) (n : ℕ) : Type 0 where
+  pub bytes : hexRead (dataLetters w n) ≡ some (inForm (hexRead (dataLetters w n)))
+  pub letters : length w ≡ 2 * n + 2
+  pub least : 1 ≤ n
+  pub most : n ≤ 4294967295
+  pub word : wordRead w ≡ pushOf (inForm (hexRead (dataLetters w n)))
+
+-- what was read of a word is what the definition reads
+abbrev pub Reads : Word → Bytes → Type 0
+Reads Strange w = wordRead w ≡ none
+Reads (Code c) w = wordRead w ≡ some (c ∷ [])
+Reads (Data n) w = DataWord w n
