@@ -1,2 +1,3 @@
 -- The laws behind the functions.
 pub mod Names
+pub mod Words

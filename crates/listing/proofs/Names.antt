@@ -28,6 +28,10 @@ is-true false t = absurd t
 pub holds : (b : Bool) → b ≡ true → T b
 holds b e = subst T (sym e) tt
 
+-- 0 is not 1; `cc` finds that equation where two constructors would be equal
+pub never : {A : Type 0} → _≡_ {A = ℕ} 0 1 → A
+never z = absurd (omega arith)
+
 pub true-or-false : (b : Bool) → b ≡ true → b ≡ false → ⊥
 true-or-false true e f = let z : _≡_ {A = ℕ} 0 1 = cc in omega arith
 true-or-false false e f = let z : _≡_ {A = ℕ} 0 1 = cc in omega arith

@@ -7,9 +7,17 @@ use Prim.Native.Nat.{ℕ, zero, suc, _+_, _-_, _*_, _≤_}
 use lib.Dec.{eqb}
 use lib.ListN.{length, take, drop}
 use Rattle.definition.specs.Basics.{Bytes, pick}
-use Rattle.definition.specs.Listing.{Assembly, gives, strange, digitRead, hexRead, pushOf, wordRead, inForm}
+use Rattle.definition.specs.Lines.{text}
+use Rattle.definition.specs.Listing.{Assembly, gives, strange, same, digitRead, hexRead, pushOf, wordRead, inForm}
 use Rattle.listing.specs.declared.Word.{Word}
 use Rattle.listing.specs.declared.Word.the-variants.{Strange, Code, Data}
+
+-- the two ways in which a word that is no name begins
+abbrev pub opens : Bytes → Bool
+opens w = same (take 1 w) (text "<")
+
+abbrev pub hexCode : Bytes → Bool
+hexCode w = same (take 2 w) (text "0x")
 
 -- what is read of a name
 abbrev pub codeWord : Option Bytes → Word

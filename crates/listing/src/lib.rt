@@ -1,4 +1,5 @@
 // Listings: words as people write them, assembled into a fragment, and a fragment listed (document 02, L4).
+ghost use mathlib.Core.Bool.{true, false};
 ghost use mathlib.Core.Path.{_≡_};
 ghost use Prim.Native.Nat.{_+_, _≤_, _<_};
 ghost use lib.Dec.{T};
@@ -6,7 +7,7 @@ ghost use lib.ListN.{length, getD};
 ghost use Rattle.definition.specs.Listing as Listing;
 ghost use Rattle.definition.specs.OpcodeNames.{nameTable};
 ghost use Rattle.listing.specs.Tables.{allLetters, startsRight, placeOf, codesRight};
-ghost use Rattle.listing.specs.View.{codeWord, Reads};
+ghost use Rattle.listing.specs.View.{opens, hexCode, codeWord, digitOr, allDigits, Reads};
 
 // The names of the codes one after another, in the order of the codes.
 const LETTERS: [u8; 1242] =
@@ -888,4 +889,131 @@ fn name_read(word: &[u8], letters: &[u8], starts: &[u16], codes: &[u8]) -> Word
         return Word::Code(code);
     }
     Word::Strange
+}
+
+// A hexadecimal digit, 16 for any other letter.
+fn digit(c: u8) -> u8
+    ensures same { λ r. ⌜ r ≡ digitOr (Listing.digitRead c) ⌝ }
+    ensures short { λ r. ⌜ r ≤ 16 ⌝ }
+{
+    if c < 48 {
+        return 16;
+    }
+    if c <= 57 {
+        return c - 48;
+    }
+    if c < 97 {
+        return 16;
+    }
+    if c <= 102 {
+        return c - 87;
+    }
+    16
+}
+
+// Whether all letters are hexadecimal digits.
+fn all_digits(letters: &[u8]) -> bool
+    ensures { λ r. ⌜ r ≡ allDigits (now (letters .entry)) ⌝ }
+{
+    let mut j = 0;
+    while j < letters.len() {
+        if digit(letters[j]) > 15 {
+            return false;
+        }
+        j += 1;
+    }
+    true
+}
+
+// Whether a word begins with `<`.
+fn is_data(word: &[u8]) -> bool
+    ensures { λ r. ⌜ r ≡ opens (now (word .entry)) ⌝ }
+{
+    if word.len() == 0 {
+        return false;
+    }
+    if word[0] == b'<' {
+        return true;
+    }
+    false
+}
+
+// Whether a word begins with `0x`.
+fn is_hex_code(word: &[u8]) -> bool
+    ensures { λ r. ⌜ r ≡ hexCode (now (word .entry)) ⌝ }
+{
+    if word.len() < 2 {
+        return false;
+    }
+    if word[0] != b'0' {
+        return false;
+    }
+    if word[1] != b'x' {
+        return false;
+    }
+    true
+}
+
+// A word that begins with `<`: bytes in hexadecimal, one at least, and `>`.
+fn data_read(word: &[u8]) -> Word
+    requires { ⌜ opens (now word) ≡ true ⌝ }
+    ensures { λ r. ⌜ Reads r (now (word .entry)) ⌝ }
+{
+    let n = word.len();
+    if n % 2 != 0 {
+        return Word::Strange;
+    }
+    if n < 4 {
+        return Word::Strange;
+    }
+    if word[n - 1] != b'>' {
+        return Word::Strange;
+    }
+    if !all_digits(&word[1..n - 1]) {
+        return Word::Strange;
+    }
+    let size = n / 2 - 1;
+    if size > 4294967295 {
+        return Word::Strange;
+    }
+    Word::Data(size)
+}
+
+// A word that begins with `0x`: an unmodelled code in two digits.
+fn unmodelled_read(word: &[u8]) -> Word
+    requires { ⌜ (opens (now word) ≡ false) × (hexCode (now word) ≡ true) ⌝ }
+    ensures { λ r. ⌜ Reads r (now (word .entry)) ⌝ }
+{
+    if word.len() != 4 {
+        return Word::Strange;
+    }
+    let high = digit(word[2]);
+    if high > 15 {
+        return Word::Strange;
+    }
+    let low = digit(word[3]);
+    if low > 15 {
+        return Word::Strange;
+    }
+    let code = 16 * high + low;
+    if opcodes::class_of(code) != 0 {
+        return Word::Strange;
+    }
+    Word::Code(code)
+}
+
+// A word.
+fn word_read(word: &[u8], letters: &[u8], starts: &[u16], codes: &[u8]) -> Word
+    requires { ⌜ now letters ≡ allLetters ⌝ }
+    requires { ⌜ T (startsRight (now starts)) ⌝ }
+    requires { ⌜ T (codesRight (now codes)) ⌝ }
+    ensures { λ r. ⌜ Reads r (now (word .entry)) ⌝ }
+{
+    if is_data(word) {
+        return data_read(word);
+    }
+    if is_hex_code(word) {
+        return unmodelled_read(word);
+    }
+    name_read(word, letters, starts, codes)
 }
