@@ -1,3 +1,5 @@
 -- The laws behind the functions.
 pub mod Names
 pub mod Words
+pub mod Sizes
+pub mod Judging

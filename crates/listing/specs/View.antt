@@ -3,12 +3,14 @@ use mathlib.Core.Bool.{Bool, true, false, _&&_}
 use mathlib.Core.List.{List, [], _∷_, _++_}
 use mathlib.Core.Option.{Option, none, some}
 use mathlib.Core.Path.{_≡_}
-use Prim.Native.Nat.{ℕ, zero, suc, _+_, _-_, _*_, _≤_}
-use lib.Dec.{eqb}
+use Prim.Native.Nat.{ℕ, zero, suc, _+_, _-_, _*_, _≤_, _<_}
+use lib.Dec.{leb, eqb}
 use lib.ListN.{length, take, drop}
 use Rattle.definition.specs.Basics.{Bytes, pick}
 use Rattle.definition.specs.Lines.{text}
-use Rattle.definition.specs.Listing.{Assembly, gives, strange, same, digitRead, hexRead, pushOf, wordRead, inForm}
+use Rattle.definition.specs.Listing.{lowestFirst, Assembly, gives, strange, same, digitRead, hexRead, pushOf, wordRead, inForm}
+use Rattle.listing.specs.declared.Judged.{Judged}
+use Rattle.listing.specs.declared.Judged.the-variants.{Gives, Strays}
 use Rattle.listing.specs.declared.Word.{Word}
 use Rattle.listing.specs.declared.Word.the-variants.{Strange, Code, Data}
 
@@ -56,3 +58,36 @@ abbrev pub Reads : Word → Bytes → Type 0
 Reads Strange w = wordRead w ≡ none
 Reads (Code c) w = wordRead w ≡ some (c ∷ [])
 Reads (Data n) w = DataWord w n
+
+-- the opcode and the length bytes in front of n bytes of data
+abbrev pub headOf : ℕ → Bytes
+headOf n =
+    pick (leb n 0x4b) (n ∷ [])
+    (pick (leb n 255) (0x4c ∷ lowestFirst 1 n)
+    (pick (leb n 65535) (0x4d ∷ lowestFirst 2 n) (0x4e ∷ lowestFirst 4 n)))
+
+-- the bytes of a word, none of a strange one
+abbrev pub bytesOf : Bytes → Bytes
+bytesOf w = inForm (wordRead w)
+
+-- r is how many bytes a word has, 0 for a strange one
+pub record Sized (w : Bytes) (r : ℕ) : Type 0 where
+  pub size : r ≡ length (bytesOf w)
+  pub good : 0 < r → wordRead w ≡ some (bytesOf w)
+  pub strange : r ≡ 0 → wordRead w ≡ none
+  pub most : r ≤ length w
+
+-- how many letters stand before the first space
+abbrev pub lettersBefore : Bytes → ℕ
+lettersBefore [] = 0
+lettersBefore (c ∷ l) = pick (eqb c 32) 0 (suc (lettersBefore l))
+
+-- an answer of `judge`: how many bytes a listing gives, or where its first strange word is
+abbrev pub judgedOf : Assembly → Judged
+judgedOf (gives l) = Gives (length l)
+judgedOf (strange offset) = Strays offset
+
+-- the bytes that a listing gives
+abbrev pub givenBy : Assembly → Bytes
+givenBy (gives l) = l
+givenBy (strange offset) = []

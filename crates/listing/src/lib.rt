@@ -3,11 +3,11 @@ ghost use mathlib.Core.Bool.{true, false};
 ghost use mathlib.Core.Path.{_≡_};
 ghost use Prim.Native.Nat.{_+_, _≤_, _<_};
 ghost use lib.Dec.{T};
-ghost use lib.ListN.{length, getD};
+ghost use lib.ListN.{length, drop, getD};
 ghost use Rattle.definition.specs.Listing as Listing;
 ghost use Rattle.definition.specs.OpcodeNames.{nameTable};
 ghost use Rattle.listing.specs.Tables.{allLetters, startsRight, placeOf, codesRight};
-ghost use Rattle.listing.specs.View.{opens, hexCode, codeWord, digitOr, allDigits, Reads};
+ghost use Rattle.listing.specs.View.{opens, hexCode, codeWord, digitOr, allDigits, Reads, headOf, Sized, lettersBefore, judgedOf};
 
 // The names of the codes one after another, in the order of the codes.
 const LETTERS: [u8; 1242] =
@@ -1016,4 +1016,83 @@ fn word_read(word: &[u8], letters: &[u8], starts: &[u16], codes: &[u8]) -> Word
         return unmodelled_read(word);
     }
     name_read(word, letters, starts, codes)
+}
+
+// How many bytes a push of so many bytes of data has, in its shortest form.
+fn push_size(n: usize) -> usize
+    requires { ⌜ n ≤ 4294967295 ⌝ }
+    ensures { λ r. ⌜ r ≡ length (headOf n) + n ⌝ }
+{
+    if n <= 0x4b {
+        return 1 + n;
+    }
+    if n <= 255 {
+        return 2 + n;
+    }
+    if n <= 65535 {
+        return 3 + n;
+    }
+    5 + n
+}
+
+// How many bytes a word has, 0 for a strange one.
+fn word_size(word: &[u8], letters: &[u8], starts: &[u16], codes: &[u8]) -> usize
+    requires { ⌜ now letters ≡ allLetters ⌝ }
+    requires { ⌜ T (startsRight (now starts)) ⌝ }
+    requires { ⌜ T (codesRight (now codes)) ⌝ }
+    ensures { λ r. ⌜ Sized (now (word .entry)) r ⌝ }
+{
+    match word_read(word, letters, starts, codes) {
+        Word::Strange => 0,
+        Word::Code(_) => 1,
+        Word::Data(n) => push_size(n),
+    }
+}
+
+// Where the word that starts at an index ends: at the next space, or with the listing.
+fn word_end(listing: &[u8], start: usize) -> usize
+    requires { ⌜ start ≤ length (now listing) ⌝ }
+    ensures same { λ r. ⌜ r ≡ start + lettersBefore (drop start (now (listing .entry))) ⌝ }
+    ensures within { λ r. ⌜ (start ≤ r) × (r ≤ length (now (listing .entry))) ⌝ }
+{
+    let mut j = start;
+    while j < listing.len() {
+        if listing[j] == b' ' {
+            return j;
+        }
+        j += 1;
+    }
+    j
+}
+
+// How many bytes a listing gives, or where its first strange word is.
+enum Judged {
+    Gives(usize),
+    Strays(usize),
+}
+
+// A listing that is not empty, word by word.
+fn judge(listing: &[u8], letters: &[u8], starts: &[u16], codes: &[u8]) -> Judged
+    requires { ⌜ now letters ≡ allLetters ⌝ }
+    requires { ⌜ T (startsRight (now starts)) ⌝ }
+    requires { ⌜ T (codesRight (now codes)) ⌝ }
+    ensures { λ r. ⌜ r ≡ judgedOf (Listing.assembly 0 (Listing.words (now (listing .entry)))) ⌝ }
+{
+    if listing.len() == 0 {
+        return Judged::Gives(0);
+    }
+    let mut at = 0;
+    let mut size = 0;
+    loop {
+        let end = word_end(listing, at);
+        let n = word_size(&listing[at..end], letters, starts, codes);
+        if n == 0 {
+            return Judged::Strays(at);
+        }
+        size += n;
+        if end == listing.len() {
+            return Judged::Gives(size);
+        }
+        at = end + 1;
+    }
 }
