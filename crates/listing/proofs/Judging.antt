@@ -5,7 +5,7 @@ use mathlib.Core.Option.{Option, none, some}
 use mathlib.Core.Path.{_≡_, refl, sym, ap, subst, _∙_}
 use Prim.Native.Nat.{ℕ, zero, suc, _+_, _-_, _*_, _≤_, _<_}
 use native.Mathlib.Omega.{arith}
-use borrow.Author.Tests.{eq-eqb, ne-eqb}
+use borrow.Author.Tests.{eq-eqb, ne-eqb, eqb-true, eqb-false}
 use lib.Dec.{leb, eqb}
 use lib.ListN.{length, take, drop, getD, length-append, length-take, length-drop, drop-of-length-le}
 use lib.Seq.{drop-cons, drop-drop, take-all}
@@ -107,3 +107,103 @@ module _ (l : Bytes) (at end : ℕ) (ends : end ≡ at + lettersBefore (drop at 
       ∙ ap (λ m. assembly at (take m (drop at l) ∷ wordsFrom (drop (suc (lettersBefore (drop at l))) (drop at l)))) letters
       ∙ ap (λ (x : Bytes). assembly at (wordAt ∷ wordsFrom x)) d
       ∙ ap (λ m. onWord (wordRead wordAt) at (assembly m (wordsFrom (drop (end + 1) l)))) m
+
+-- Bytes in front of what becomes of the words behind them
+
+abbrev pub onto : Bytes → Assembly → Assembly
+onto d (gives l) = gives (d ++ l)
+onto d (strange offset) = strange offset
+
+onto-none : (a : Assembly) → a ≡ onto [] a
+onto-none (gives l) = refl
+onto-none (strange offset) = refl
+
+onto-onto : (d b : Bytes) (a : Assembly) → onto d (onto b a) ≡ onto (d ++ b) a
+onto-onto d b (gives l) = ap gives (sym (append-assoc d b l))
+onto-onto d b (strange offset) = refl
+
+on-good : (b : Bytes) (at : ℕ) (a : Assembly) → onWord (some b) at a ≡ onto b a
+on-good b at (gives l) = refl
+on-good b at (strange offset) = refl
+
+-- The words before an index are good, and give `done`.
+pub record Done (l : Bytes) (at : ℕ) (done : Bytes) : Type 0 where
+  pub within : at ≤ length l
+  pub is : assembly 0 (words l) ≡ onto done (assembly at (wordsFrom (drop at l)))
+
+pub done-none : (l : Bytes) → (length l ≡ 0 → ⊥) → Done l 0 []
+done-none [] n = absurd (n refl)
+done-none (c ∷ l) n = record { within = omega arith; is = onto-none (assembly 0 (wordsFrom (c ∷ l))) }
+
+module _ (l : Bytes) (at : ℕ) (done : Bytes) (d : Done l at done) (end : ℕ) (ends : end ≡ at + lettersBefore (drop at l)) (most : end ≤ length l) where
+  abbrev word : Bytes
+  word = take (end - at) (drop at l)
+
+  -- a strange word
+  pub done-strange : wordRead word ≡ none → assembly 0 (words l) ≡ strange at
+  done-strange e = d .is ∙ ap (onto done) (by (eqb end (length l)) refl)
+    where
+      by : (b : Bool) → eqb end (length l) ≡ b → assembly at (wordsFrom (drop at l)) ≡ strange at
+      by true q = at-last l at end ends (d .within) (eqb-true end (length l) q) ∙ ap (λ (r : Option Bytes). onWord r at (gives [])) e
+      by false q =
+          at-word l at end ends (d .within) (eqb-false end (length l) q) most
+          ∙ ap (λ (r : Option Bytes). onWord r at (assembly (end + 1) (wordsFrom (drop (end + 1) l)))) e
+
+  module _ (b : Bytes) (good : wordRead word ≡ some b) where
+    -- a good word that is the last
+    pub done-last : end ≡ length l → assembly 0 (words l) ≡ gives (done ++ b)
+    done-last h =
+        d .is
+        ∙ ap (onto done) (at-last l at end ends (d .within) h ∙ ap (λ (r : Option Bytes). onWord r at (gives [])) good)
+        ∙ ap (λ (x : Bytes). gives (done ++ x)) (append-nil b)
+
+    -- and one that is not
+    pub done-more : (end ≡ length l → ⊥) → Done l (end + 1) (done ++ b)
+    done-more n =
+        let rest = assembly (end + 1) (wordsFrom (drop (end + 1) l)) in
+        record {
+          within = omega arith;
+          is = d .is
+              ∙ ap (onto done) (at-word l at end ends (d .within) n most ∙ ap (λ (r : Option Bytes). onWord r at rest) good ∙ on-good b at rest)
+              ∙ onto-onto done b rest;
+        }
+
+-- The first pass: so many bytes are counted.
+pub record Judging (l : Bytes) (at size : ℕ) : Type 0 where
+  pub bytes : Bytes
+  pub done : Done l at bytes
+  pub count : length bytes ≡ size
+  pub least : size ≤ at
+
+pub judged-empty : (l : Bytes) → length l ≡ 0 → Gives 0 ≡ judgedOf (assembly 0 (words l))
+judged-empty [] e = refl
+judged-empty (c ∷ l) e = absurd (omega arith)
+
+pub judging-none : (l : Bytes) → (length l ≡ 0 → ⊥) → Judging l 0 0
+judging-none l n = record { bytes = []; done = done-none l n; count = refl; least = omega arith }
+
+module _ (l : Bytes) (at size : ℕ) (j : Judging l at size) (end : ℕ) (ends : end ≡ at + lettersBefore (drop at l)) (most : end ≤ length l)
+    (n : ℕ) (sized : Sized (take (end - at) (drop at l)) n) where
+  abbrev word-here : Bytes
+  word-here = take (end - at) (drop at l)
+
+  pub judging-strange : n ≡ 0 → Strays at ≡ judgedOf (assembly 0 (words l))
+  judging-strange z = ap judgedOf (sym (done-strange l at (j .bytes) (j .done) end ends most (sized .strange z)))
+
+  pub size-fits : size + n ≤ end
+  size-fits = omega (arith, j .least, sized .most, length-take (end - at) (drop at l))
+
+  counted : length (j .bytes ++ bytesOf word-here) ≡ size + n
+  counted = length-append (j .bytes) (bytesOf word-here) ∙ omega (arith, j .count, sized .size)
+
+  pub judging-last : (n ≡ 0 → ⊥) → end ≡ length l → Gives (size + n) ≡ judgedOf (assembly 0 (words l))
+  judging-last z h =
+      sym (ap judgedOf (done-last l at (j .bytes) (j .done) end ends most (bytesOf word-here) (sized .good (omega arith)) h) ∙ ap Gives counted)
+
+  pub judging-more : (n ≡ 0 → ⊥) → (end ≡ length l → ⊥) → Judging l (end + 1) (size + n)
+  judging-more z h = record {
+    bytes = j .bytes ++ bytesOf word-here;
+    done = done-more l at (j .bytes) (j .done) end ends most (bytesOf word-here) (sized .good (omega arith)) h;
+    count = counted;
+    least = omega (arith, size-fits);
+  }
