@@ -3,3 +3,4 @@ pub mod Names
 pub mod Words
 pub mod Sizes
 pub mod Judging
+pub mod Writing

@@ -214,7 +214,7 @@ module _ (c : ℕ) where
   pub digit-above : 102 < c → 16 ≡ digitOr (digitRead c)
   digit-above h = rw (le-leb 48 c (omega arith), lt-leb c 57 (omega arith), le-leb 97 c (omega arith), lt-leb c 102 h)
 
-  digit-bound : (d : ℕ) → digitRead c ≡ some d → d < 16
+  pub digit-bound : (d : ℕ) → digitRead c ≡ some d → d < 16
   digit-bound d e = number (leb 48 c && leb c 57) refl e
     where
       letter : (b : Bool) → leb 97 c && leb c 102 ≡ b → pick b (some (c - 87)) none ≡ some d → d < 16

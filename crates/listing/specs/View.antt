@@ -8,7 +8,7 @@ use lib.Dec.{leb, eqb}
 use lib.ListN.{length, take, drop}
 use Rattle.definition.specs.Basics.{Bytes, pick}
 use Rattle.definition.specs.Lines.{text}
-use Rattle.definition.specs.Listing.{lowestFirst, Assembly, gives, strange, same, digitRead, hexRead, pushOf, wordRead, inForm}
+use Rattle.definition.specs.Listing.{lowestFirst, Assembly, gives, strange, same, digitRead, hexRead, pushOf, wordRead, inForm, words, assembly}
 use Rattle.listing.specs.declared.Judged.{Judged}
 use Rattle.listing.specs.declared.Judged.the-variants.{Gives, Strays}
 use Rattle.listing.specs.declared.Word.{Word}
@@ -91,3 +91,11 @@ judgedOf (strange offset) = Strays offset
 abbrev pub givenBy : Assembly → Bytes
 givenBy (gives l) = l
 givenBy (strange offset) = []
+
+-- what a listing gives
+abbrev pub assemblyOf : Bytes → Assembly
+assemblyOf l = assembly 0 (words l)
+
+-- no word of a listing is strange
+abbrev pub Good : Bytes → Type 0
+Good l = assemblyOf l ≡ gives (givenBy (assemblyOf l))

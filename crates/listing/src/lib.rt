@@ -1,5 +1,6 @@
 // Listings: words as people write them, assembled into a fragment, and a fragment listed (document 02, L4).
 ghost use mathlib.Core.Bool.{true, false};
+ghost use mathlib.Core.List.{[], _∷_};
 ghost use mathlib.Core.Path.{_≡_};
 ghost use Prim.Native.Nat.{_+_, _≤_, _<_};
 ghost use lib.Dec.{T};
@@ -8,6 +9,8 @@ ghost use Rattle.definition.specs.Listing as Listing;
 ghost use Rattle.definition.specs.OpcodeNames.{nameTable};
 ghost use Rattle.listing.specs.Tables.{allLetters, startsRight, placeOf, codesRight};
 ghost use Rattle.listing.specs.View.{opens, hexCode, codeWord, digitOr, allDigits, Reads, headOf, Sized, lettersBefore, judgedOf};
+ghost use Rattle.listing.specs.View.{dataLetters, DataWord, bytesOf, givenBy, assemblyOf, Good};
+ghost use Rattle.text.specs.View.{Written};
 
 // The names of the codes one after another, in the order of the codes.
 const LETTERS: [u8; 1242] =
@@ -1076,7 +1079,7 @@ fn judge(listing: &[u8], letters: &[u8], starts: &[u16], codes: &[u8]) -> Judged
     requires { ⌜ now letters ≡ allLetters ⌝ }
     requires { ⌜ T (startsRight (now starts)) ⌝ }
     requires { ⌜ T (codesRight (now codes)) ⌝ }
-    ensures { λ r. ⌜ r ≡ judgedOf (Listing.assembly 0 (Listing.words (now (listing .entry)))) ⌝ }
+    ensures { λ r. ⌜ r ≡ judgedOf (assemblyOf (now (listing .entry))) ⌝ }
 {
     if listing.len() == 0 {
         return Judged::Gives(0);
@@ -1092,6 +1095,128 @@ fn judge(listing: &[u8], letters: &[u8], starts: &[u16], codes: &[u8]) -> Judged
         size += n;
         if end == listing.len() {
             return Judged::Gives(size);
+        }
+        at = end + 1;
+    }
+}
+
+// A number in so many bytes, lowest first.
+fn write_lowest(out: &mut [u8], at: usize, count: usize, n: usize) -> usize
+    requires { ⌜ at + count ≤ length (now out) ⌝ }
+    ensures { λ r. ⌜ Written (now (out .entry)) at (Listing.lowestFirst count n) (now (out .exit)) r ⌝ }
+{
+    let mut left = n;
+    let mut j = 0;
+    while j < count {
+        out[at + j] = (left % 256) as u8;
+        left /= 256;
+        j += 1;
+    }
+    at + j
+}
+
+// One byte.
+fn write_byte(out: &mut [u8], at: usize, byte: u8) -> usize
+    requires { ⌜ at < length (now out) ⌝ }
+    ensures { λ r. ⌜ Written (now (out .entry)) at (byte ∷ []) (now (out .exit)) r ⌝ }
+{
+    out[at] = byte;
+    at + 1
+}
+
+// The opcode and the length bytes in front of so many bytes of data.
+fn write_head(out: &mut [u8], at: usize, n: usize) -> usize
+    requires { ⌜ at + length (headOf n) ≤ length (now out) ⌝ }
+    ensures { λ r. ⌜ Written (now (out .entry)) at (headOf n) (now (out .exit)) r ⌝ }
+{
+    if n <= 0x4b {
+        return write_byte(out, at, n as u8);
+    }
+    if n <= 255 {
+        let next = write_byte(out, at, 0x4c);
+        return write_lowest(out, next, 1, n);
+    }
+    if n <= 65535 {
+        let next = write_byte(out, at, 0x4d);
+        return write_lowest(out, next, 2, n);
+    }
+    let next = write_byte(out, at, 0x4e);
+    write_lowest(out, next, 4, n)
+}
+
+// The bytes of a word of data.
+fn write_data(out: &mut [u8], at: usize, word: &[u8], n: usize) -> usize
+    requires { ⌜ DataWord (now word) n ⌝ }
+    requires { ⌜ at + n ≤ length (now out) ⌝ }
+    ensures { λ r. ⌜ Written (now (out .entry)) at (Listing.inForm (Listing.hexRead (dataLetters (now (word .entry)) n))) (now (out .exit)) r ⌝ }
+{
+    let mut j = 0;
+    while j < n {
+        let high = digit(word[2 * j + 1]);
+        let low = digit(word[2 * j + 2]);
+        out[at + j] = 16 * high + low;
+        j += 1;
+    }
+    at + j
+}
+
+// The push of a word of data.
+fn write_push(out: &mut [u8], at: usize, word: &[u8], n: usize) -> usize
+    requires { ⌜ DataWord (now word) n ⌝ }
+    requires { ⌜ at + length (bytesOf (now word)) ≤ length (now out) ⌝ }
+    ensures { λ r. ⌜ Written (now (out .entry)) at (bytesOf (now (word .entry))) (now (out .exit)) r ⌝ }
+{
+    let next = write_head(out, at, n);
+    write_data(out, next, word, n)
+}
+
+// The bytes of a word.
+fn write_bytes(
+    out: &mut [u8],
+    at: usize,
+    word: &[u8],
+    letters: &[u8],
+    starts: &[u16],
+    codes: &[u8],
+) -> usize
+    requires { ⌜ now letters ≡ allLetters ⌝ }
+    requires { ⌜ T (startsRight (now starts)) ⌝ }
+    requires { ⌜ T (codesRight (now codes)) ⌝ }
+    requires { ⌜ at + length (bytesOf (now word)) ≤ length (now out) ⌝ }
+    ensures { λ r. ⌜ Written (now (out .entry)) at (bytesOf (now (word .entry))) (now (out .exit)) r ⌝ }
+{
+    match word_read(word, letters, starts, codes) {
+        Word::Strange => at,
+        Word::Code(code) => write_byte(out, at, code),
+        Word::Data(n) => write_push(out, at, word, n),
+    }
+}
+
+// The bytes of all words of a listing that is not empty.
+fn write_words(
+    out: &mut [u8],
+    listing: &[u8],
+    letters: &[u8],
+    starts: &[u16],
+    codes: &[u8],
+) -> usize
+    requires { ⌜ now letters ≡ allLetters ⌝ }
+    requires { ⌜ T (startsRight (now starts)) ⌝ }
+    requires { ⌜ T (codesRight (now codes)) ⌝ }
+    requires { ⌜ Good (now listing) ⌝ }
+    requires { ⌜ length (givenBy (assemblyOf (now listing))) ≤ length (now out) ⌝ }
+    ensures { λ r. ⌜ Written (now (out .entry)) 0 (givenBy (assemblyOf (now (listing .entry)))) (now (out .exit)) r ⌝ }
+{
+    if listing.len() == 0 {
+        return 0;
+    }
+    let mut at = 0;
+    let mut next = 0;
+    loop {
+        let end = word_end(listing, at);
+        next = write_bytes(out, next, &listing[at..end], letters, starts, codes);
+        if end == listing.len() {
+            return next;
         }
         at = end + 1;
     }
