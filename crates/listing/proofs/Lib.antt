@@ -4,3 +4,4 @@ pub mod Words
 pub mod Sizes
 pub mod Judging
 pub mod Writing
+pub mod Assembling
