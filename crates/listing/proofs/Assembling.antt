@@ -5,14 +5,16 @@ use mathlib.Core.Option.{Option, none, some}
 use mathlib.Core.Path.{_≡_, refl, sym, ap, subst, _∙_}
 use Prim.Native.Nat.{ℕ, zero, suc, _+_, _-_, _*_, _≤_, _<_}
 use native.Mathlib.Omega.{arith}
-use borrow.Author.Tests.{eqb-true, eqb-false}
+use borrow.Author.Tests.{eqb-true, eqb-false, lt-leb, le-leb}
 use lib.Dec.{leb, eqb}
 use lib.ListN.{length, take, drop, length-append}
 use Rattle.definition.specs.Basics.{Bytes, pick}
-use Rattle.definition.specs.Listing.{wordRead, inForm, wordsFrom, Assembly, gives, strange, assembly}
+use Rattle.definition.specs.Listing.{wordRead, inForm, wordsFrom, Assembly, gives, strange, assembly, Converted, unwritten, put, onAssembly, assembled}
 use Rattle.text.specs.View.{Written}
 use Rattle.text.proofs.Texts.{written-as, then-written}
-use Rattle.listing.specs.View.{bytesOf, lettersBefore, givenBy, assemblyOf, Good}
+use Rattle.listing.specs.declared.Judged.{Judged}
+use Rattle.listing.specs.declared.Judged.the-variants.{Gives, Strays}
+use Rattle.listing.specs.View.{bytesOf, lettersBefore, judgedOf, givenBy, assemblyOf, Good}
 use Rattle.listing.proofs.Names.{never}
 use Rattle.listing.proofs.Judging.{onto, Done, done-none, done-strange, done-last, done-more}
 use Rattle.listing.proofs.Writing.{none-written}
@@ -65,8 +67,12 @@ module _ (lent l out : Bytes) (at next : ℕ) (to : WordsTo lent l out at next) 
       by : (b : Bool) → eqb end (length l) ≡ b → next + length (bytesOf word-here) ≤ length out
       by true e = front (omega (arith, ap length (whole-last (eqb-true end (length l) e)), length-append (to .bytes) (bytesOf word-here)))
       by false e =
-          front (omega (arith, length-append (to .bytes) (bytesOf word-here), front-of l (end + 1) (to .bytes ++ bytesOf word-here) good
-          (done-more l at (to .bytes) (to .done) end ends most (bytesOf word-here) word-good (eqb-false end (length l) e))))
+          front (omega (
+            arith,
+            length-append (to .bytes) (bytesOf word-here),
+            front-of l (end + 1) (to .bytes ++ bytesOf word-here) good
+                (done-more l at (to .bytes) (to .done) end ends most (bytesOf word-here) word-good (eqb-false end (length l) e)),
+          ))
 
   module _ (new : Bytes) (then : ℕ) (w : Written out next (bytesOf word-here) new then) where
     written-more : Written lent 0 (to .bytes ++ bytesOf word-here) new then
@@ -82,3 +88,57 @@ module _ (lent l out : Bytes) (at next : ℕ) (to : WordsTo lent l out at next) 
       written = written-more;
       same = s ∙ to .same;
     }
+
+-- The answers
+
+-- a text from the start on
+pub from-start : {lent g new : Bytes} {next : ℕ} → Written lent 0 g new next → new ≡ g ++ drop (length g) lent
+from-start {lent} {g} w =
+    let n : 0 + length g ≡ length g = omega arith in
+    w .holds ∙ ap (λ m. g ++ drop m lent) n
+
+module _ (l out : Bytes) (j : Judged) (is : j ≡ judgedOf (assemblyOf l)) where
+  strays : (offset : ℕ) → j ≡ Strays offset → assemblyOf l ≡ strange offset
+  strays offset e = by (assemblyOf l) (sym is ∙ e)
+    where
+      by : (a : Assembly) → judgedOf a ≡ Strays offset → a ≡ strange offset
+      by (gives b) e = never (cc)
+      by (strange o) e = let i : o ≡ offset = cc in ap strange i
+
+  pub gives-good : (size : ℕ) → j ≡ Gives size → Good l
+  gives-good size e = by (assemblyOf l) (sym is ∙ e)
+    where
+      by : (a : Assembly) → judgedOf a ≡ Gives size → a ≡ gives (givenBy a)
+      by (gives b) e = refl
+      by (strange o) e = never (cc)
+
+  pub gives-size : (size : ℕ) → j ≡ Gives size → length (givenBy (assemblyOf l)) ≡ size
+  gives-size size e = by (assemblyOf l) (sym is ∙ e)
+    where
+      by : (a : Assembly) → judgedOf a ≡ Gives size → length (givenBy a) ≡ size
+      by (gives b) e = cc
+      by (strange o) e = never (cc)
+
+  pub assembled-strange : (offset : ℕ) → j ≡ Strays offset → unwritten 26 offset out ≡ assembled l out
+  unfolding assembled
+  assembled-strange offset e = sym (ap (λ (a : Assembly). onAssembly a out) (strays offset e))
+
+  module _ (size : ℕ) (e : j ≡ Gives size) where
+    by-size : assembled l out ≡ put (givenBy (assemblyOf l)) out
+    unfolding assembled
+    by-size = ap (λ (a : Assembly). onAssembly a out) (gives-good size e)
+
+    pub assembled-short : length out < size → unwritten 27 0 out ≡ assembled l out
+    assembled-short h = sym (by-size ∙ rw (lt-leb (length (givenBy (assemblyOf l))) (length out) (omega (arith, gives-size size e))))
+
+    pub assembled-room : size ≤ length out → length (givenBy (assemblyOf l)) ≤ length out
+    assembled-room h = omega (arith, gives-size size e)
+
+    pub assembled-done : (new : Bytes) (next : ℕ) → size ≤ length out → Written out 0 (givenBy (assemblyOf l)) new next
+        → record { number = 0; offset = 0; size = size; out = new } ≡ assembled l out
+    assembled-done new next h w =
+        let g = givenBy (assemblyOf l) in
+        sym (by-size
+        ∙ rw (le-leb (length g) (length out) (assembled-room h))
+        (ap (λ n. record { number = 0; offset = 0; size = n; out = g ++ drop (length g) out }) (gives-size size e)
+        ∙ ap (λ (x : Bytes). record { number = 0; offset = 0; size = size; out = x }) (sym (from-start w))))

@@ -9,10 +9,16 @@ use lib.ListN.{length, take, drop}
 use Rattle.definition.specs.Basics.{Bytes, pick}
 use Rattle.definition.specs.Lines.{text}
 use Rattle.definition.specs.Listing.{lowestFirst, Assembly, gives, strange, same, digitRead, hexRead, pushOf, wordRead, inForm, words, assembly}
+use Rattle.definition.specs.Listing as L
+use Rattle.listing.specs.declared.Converted.{Converted}
 use Rattle.listing.specs.declared.Judged.{Judged}
 use Rattle.listing.specs.declared.Judged.the-variants.{Gives, Strays}
 use Rattle.listing.specs.declared.Word.{Word}
 use Rattle.listing.specs.declared.Word.the-variants.{Strange, Code, Data}
+
+-- an answer, with the output afterwards
+abbrev pub convertedOf : Converted → Bytes → L.Converted
+convertedOf r out = record { number = r .number; offset = r .offset; size = r .size; out = out }
 
 -- the two ways in which a word that is no name begins
 abbrev pub opens : Bytes → Bool

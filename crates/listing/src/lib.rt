@@ -10,7 +10,15 @@ ghost use Rattle.definition.specs.OpcodeNames.{nameTable};
 ghost use Rattle.listing.specs.Tables.{allLetters, startsRight, placeOf, codesRight};
 ghost use Rattle.listing.specs.View.{opens, hexCode, codeWord, digitOr, allDigits, Reads, headOf, Sized, lettersBefore, judgedOf};
 ghost use Rattle.listing.specs.View.{dataLetters, DataWord, bytesOf, givenBy, assemblyOf, Good};
+ghost use Rattle.listing.specs.View.{convertedOf};
 ghost use Rattle.text.specs.View.{Written};
+
+// An answer: the number, 0 where all went well, the offset of what was refused, and how many bytes were written.
+pub struct Converted {
+    pub number: u32,
+    pub offset: usize,
+    pub size: usize,
+}
 
 // The names of the codes one after another, in the order of the codes.
 const LETTERS: [u8; 1242] =
@@ -793,19 +801,19 @@ const CODES: [u8; 512] = [
     157,
 ];
 
-fn letters() -> [u8; 1242]
+fn all_letters() -> [u8; 1242]
     ensures { λ r. ⌜ r ≡ allLetters ⌝ }
 {
     LETTERS
 }
 
-fn starts() -> [u16; 257]
+fn all_starts() -> [u16; 257]
     ensures { λ r. ⌜ T (startsRight r) ⌝ }
 {
     STARTS
 }
 
-fn codes() -> [u8; 512]
+fn all_codes() -> [u8; 512]
     ensures { λ r. ⌜ T (codesRight r) ⌝ }
 {
     CODES
@@ -1219,5 +1227,40 @@ fn write_words(
             return next;
         }
         at = end + 1;
+    }
+}
+
+// The assembler: a listing into a lent output.
+pub fn assemble(listing: &[u8], out: &mut [u8]) -> Converted
+    ensures { λ r.
+        ⌜
+        convertedOf r (now (out .exit))
+        ≡ Listing.assembled (now (listing .entry)) (now (out .entry))
+        ⌝ }
+{
+    let letters = all_letters();
+    let starts = all_starts();
+    let codes = all_codes();
+    match judge(listing, &letters, &starts, &codes) {
+        Judged::Strays(offset) => Converted {
+            number: 26,
+            offset,
+            size: 0,
+        },
+        Judged::Gives(size) => {
+            if out.len() < size {
+                return Converted {
+                    number: 27,
+                    offset: 0,
+                    size: 0,
+                };
+            }
+            write_words(out, listing, &letters, &starts, &codes);
+            Converted {
+                number: 0,
+                offset: 0,
+                size,
+            }
+        }
     }
 }

@@ -31,7 +31,7 @@ part-write-bytes-end : tie.Need-part-write-bytes-end Inv-loop μ-loop
 part-write-bytes-end c = search needs
 
 write-bytes-requires : tie.Need-write-bytes-requires Inv-loop μ-loop
-write-bytes-requires c κs = 
+write-bytes-requires c κs =
     let w = c .before .before in
     let l = w .before in
     let s = l .before .before .before .before .before .before .before in
