@@ -5,3 +5,6 @@ pub mod Sizes
 pub mod Judging
 pub mod Writing
 pub mod Assembling
+pub mod Lengths
+pub mod Decoded
+pub mod Listed

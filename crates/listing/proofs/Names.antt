@@ -17,7 +17,7 @@ use Rattle.definition.specs.Listing.{same, codeIn}
 use Rattle.definition.specs.OpcodeNames.{Named, nameTable, nameOf}
 use Rattle.opcodes.proofs.Every.{every, at}
 use Rattle.listing.specs.declared.Word.the-variants.{Strange, Code}
-use Rattle.listing.specs.View.{codeWord}
+use Rattle.listing.specs.View.{nameWord}
 use Rattle.listing.specs.Tables.{allLetters, nameAt, nameRight, namesRight, startsRight, placeOf, namesPlaced, codesRight}
 
 -- a test that holds, and one that is true
@@ -227,15 +227,15 @@ module _ (w letters : Bytes) (starts codes : List ℕ) (l : letters ≡ allLette
       ap (λ n. same (nameOf n) w) (sym j) ∙ ap (λ (x : Bytes). same x w) (sym (name-between letters starts i from to l s h f t)) ∙ sym q ∙ e
 
   pub named-code : (code i from to : ℕ) (r : Bool) → i ≡ code → i < 256 → from ≡ getD starts i 0 → to ≡ getD starts (i + 1) 0
-      → r ≡ same (take (to - from) (drop from letters)) w → r ≡ true → 0 < length w → Code code ≡ codeWord (codeIn nameTable w)
+      → r ≡ same (take (to - from) (drop from letters)) w → r ≡ true → 0 < length w → Code code ≡ nameWord (codeIn nameTable w)
   named-code code i from to r j h f t q e n = rw (name-read code w (omega arith) n (named code i from to r true j h f t q e))
 
   pub named-none : (place i from to : ℕ) (r : Bool) → place ≡ placeOf w → i ≡ getD codes place 0 → i < 256 → from ≡ getD starts i 0 → to ≡ getD starts (i + 1) 0
-      → r ≡ same (take (to - from) (drop from letters)) w → r ≡ false → Strange ≡ codeWord (codeIn nameTable w)
+      → r ≡ same (take (to - from) (drop from letters)) w → r ≡ false → Strange ≡ nameWord (codeIn nameTable w)
   named-none place i from to r p j h f t q e =
       rw (no-name codes c w (named (getD codes (placeOf w) 0) i from to r false (j ∙ ap (λ n. getD codes n 0) p) h f t q e))
 
-pub named-empty : (w : Bytes) → length w ≡ 0 → Strange ≡ codeWord (codeIn nameTable w)
+pub named-empty : (w : Bytes) → length w ≡ 0 → Strange ≡ nameWord (codeIn nameTable w)
 unfolding nameTable
 named-empty [] e = refl
 named-empty (c ∷ w) e = absurd (omega arith)

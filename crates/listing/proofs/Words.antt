@@ -16,7 +16,7 @@ use Rattle.definition.specs.Listing.{same, onRead, digitRead, hexRead, beforeEn
 use Rattle.definition.specs.OpcodeNames.{Named, nameTable}
 use Rattle.listing.specs.declared.Word.{Word}
 use Rattle.listing.specs.declared.Word.the-variants.{Strange, Code, Data}
-use Rattle.listing.specs.View.{opens, hexCode, codeWord, digitOr, isDigit, allDigits, dataLetters, DataWord, Reads}
+use Rattle.listing.specs.View.{opens, hexCode, nameWord, digitOr, isDigit, allDigits, dataLetters, DataWord, Reads}
 use Rattle.listing.proofs.Names.{never, holds, same-equal, true-or-false}
 
 -- Hexadecimal
@@ -388,11 +388,11 @@ read-name w o h =
     ap (λ b. pick b (dataRead (drop 1 w)) (pick (hexCode w) (onRead (hexRead (drop 2 w)) unmodelledRead) (codeIn nameTable w))) o
     ∙ ap (λ b. pick b (onRead (hexRead (drop 2 w)) unmodelledRead) (codeIn nameTable w)) h
 
-pub word-name : (w : Bytes) (r : Word) (d h : Bool) → d ≡ opens w → d ≡ false → h ≡ hexCode w → h ≡ false → r ≡ codeWord (codeIn nameTable w) → Reads r w
+pub word-name : (w : Bytes) (r : Word) (d h : Bool) → d ≡ opens w → d ≡ false → h ≡ hexCode w → h ≡ false → r ≡ nameWord (codeIn nameTable w) → Reads r w
 word-name w r d h p o q k e =
     subst (λ (x : Word). Reads x w) (sym e) (by (codeIn nameTable w) (read-name w (sym p ∙ o) (sym q ∙ k)) (code-single nameTable w))
   where
-    by : (o : Option Bytes) → wordRead w ≡ o → Single o → Reads (codeWord o) w
+    by : (o : Option Bytes) → wordRead w ≡ o → Single o → Reads (nameWord o) w
     by none e s = e
     by (some []) e s = absurd s
     by (some (c ∷ [])) e s = e

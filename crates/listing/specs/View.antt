@@ -7,12 +7,15 @@ use Prim.Native.Nat.{ℕ, zero, suc, _+_, _-_, _*_, _≤_, _<_}
 use lib.Dec.{leb, eqb}
 use lib.ListN.{length, take, drop}
 use Rattle.definition.specs.Basics.{Bytes, pick}
+use Rattle.definition.specs.Decoding.{decode, instructions, malformedAt}
 use Rattle.definition.specs.Lines.{text}
-use Rattle.definition.specs.Listing.{lowestFirst, Assembly, gives, strange, same, digitRead, hexRead, pushOf, wordRead, inForm, words, assembly}
+use Rattle.definition.specs.Listing.{lowestFirst, Assembly, gives, strange, same, digitRead, hexRead, pushOf, wordRead, inForm, words, assembly, dataWord, codeWord, parted}
 use Rattle.definition.specs.Listing as L
 use Rattle.listing.specs.declared.Converted.{Converted}
 use Rattle.listing.specs.declared.Judged.{Judged}
 use Rattle.listing.specs.declared.Judged.the-variants.{Gives, Strays}
+use Rattle.listing.specs.declared.Measured.{Measured}
+use Rattle.listing.specs.declared.Measured.the-variants.{Fits, Short, Malformed}
 use Rattle.listing.specs.declared.Word.{Word}
 use Rattle.listing.specs.declared.Word.the-variants.{Strange, Code, Data}
 
@@ -28,10 +31,10 @@ abbrev pub hexCode : Bytes → Bool
 hexCode w = same (take 2 w) (text "0x")
 
 -- what is read of a name
-abbrev pub codeWord : Option Bytes → Word
-codeWord none = Strange
-codeWord (some []) = Strange
-codeWord (some (c ∷ l)) = Code c
+abbrev pub nameWord : Option Bytes → Word
+nameWord none = Strange
+nameWord (some []) = Strange
+nameWord (some (c ∷ l)) = Code c
 
 -- a digit, 16 for what is none
 abbrev pub digitOr : Option ℕ → ℕ
@@ -105,3 +108,35 @@ assemblyOf l = assembly 0 (words l)
 -- no word of a listing is strange
 abbrev pub Good : Bytes → Type 0
 Good l = assemblyOf l ≡ gives (givenBy (assemblyOf l))
+
+-- how many bytes of length follow an opcode up to 4e
+abbrev pub lengthBytes : ℕ → ℕ
+lengthBytes opcode = pick (leb opcode 0x4b) 0 (pick (eqb opcode 0x4c) 1 (pick (eqb opcode 0x4d) 2 4))
+
+-- where the data of a push begins
+abbrev pub dataStart : ℕ → ℕ → ℕ
+dataStart opcode offset = offset + 1 + lengthBytes opcode
+
+-- how many letters the word of n bytes of data has
+abbrev pub dataLength : ℕ → ℕ
+dataLength n = pick (eqb n 0) 3 (2 * n + 2)
+
+-- the word of the instruction of a fragment with this opcode, its offset and that of the next
+abbrev pub wordAt : Bytes → ℕ → ℕ → ℕ → Bytes
+wordAt f opcode offset next =
+    pick (leb opcode 0x4e) (dataWord (take (next - dataStart opcode offset) (drop (dataStart opcode offset) f))) (codeWord opcode)
+
+-- and its length
+abbrev pub wordLength : ℕ → ℕ → ℕ → ℕ
+wordLength opcode offset next = pick (leb opcode 0x4e) (dataLength (next - dataStart opcode offset)) (length (codeWord opcode))
+
+-- the listing of a fragment
+abbrev pub listingOf : Bytes → Bytes
+listingOf f = parted (instructions (decode f))
+
+-- an answer of `measure`: the listing's length, which is within the room; that it is over the room, unless the fragment is
+-- malformed; or where the fragment is malformed
+abbrev pub Measures : Measured → Bytes → ℕ → Type 0
+Measures (Fits n) f room = (malformedAt (decode f) ≡ none) × ((length (listingOf f) ≡ n) × (n ≤ room))
+Measures Short f room = malformedAt (decode f) ≡ none → room < length (listingOf f)
+Measures (Malformed offset) f room = malformedAt (decode f) ≡ some offset

@@ -2,15 +2,15 @@
 ghost use mathlib.Core.Bool.{true, false};
 ghost use mathlib.Core.List.{[], _∷_};
 ghost use mathlib.Core.Path.{_≡_};
-ghost use Prim.Native.Nat.{_+_, _≤_, _<_};
+ghost use Prim.Native.Nat.{_+_, _^_, _≤_, _<_};
 ghost use lib.Dec.{T};
 ghost use lib.ListN.{length, drop, getD};
 ghost use Rattle.definition.specs.Listing as Listing;
 ghost use Rattle.definition.specs.OpcodeNames.{nameTable};
 ghost use Rattle.listing.specs.Tables.{allLetters, startsRight, placeOf, codesRight};
-ghost use Rattle.listing.specs.View.{opens, hexCode, codeWord, digitOr, allDigits, Reads, headOf, Sized, lettersBefore, judgedOf};
+ghost use Rattle.listing.specs.View.{opens, hexCode, nameWord, digitOr, allDigits, Reads, headOf, Sized, lettersBefore, judgedOf};
 ghost use Rattle.listing.specs.View.{dataLetters, DataWord, bytesOf, givenBy, assemblyOf, Good};
-ghost use Rattle.listing.specs.View.{convertedOf};
+ghost use Rattle.listing.specs.View.{convertedOf, lengthBytes, dataStart, dataLength, wordAt, wordLength, listingOf, Measures};
 ghost use Rattle.text.specs.View.{Written};
 
 // An answer: the number, 0 where all went well, the offset of what was refused, and how many bytes were written.
@@ -886,7 +886,7 @@ fn name_read(word: &[u8], letters: &[u8], starts: &[u16], codes: &[u8]) -> Word
     requires { ⌜ now letters ≡ allLetters ⌝ }
     requires { ⌜ T (startsRight (now starts)) ⌝ }
     requires { ⌜ T (codesRight (now codes)) ⌝ }
-    ensures { λ r. ⌜ r ≡ codeWord (Listing.codeIn nameTable (now (word .entry))) ⌝ }
+    ensures { λ r. ⌜ r ≡ nameWord (Listing.codeIn nameTable (now (word .entry))) ⌝ }
 {
     if word.len() == 0 {
         return Word::Strange;
@@ -1260,6 +1260,105 @@ pub fn assemble(listing: &[u8], out: &mut [u8]) -> Converted
                 number: 0,
                 offset: 0,
                 size,
+            }
+        }
+    }
+}
+
+// How many bytes of length follow an opcode up to 4e.
+fn length_bytes(opcode: u8) -> usize
+    ensures same { λ r. ⌜ r ≡ lengthBytes opcode ⌝ }
+    ensures short { λ r. ⌜ r ≤ 4 ⌝ }
+{
+    if opcode <= 0x4b {
+        return 0;
+    }
+    if opcode == 0x4c {
+        return 1;
+    }
+    if opcode == 0x4d {
+        return 2;
+    }
+    4
+}
+
+// How many letters the word of so many bytes of data has.
+fn data_length(n: usize) -> usize
+    requires { ⌜ n + 1 < 2 ^ 63 ⌝ }
+    ensures { λ r. ⌜ r ≡ dataLength n ⌝ }
+{
+    if n == 0 {
+        return 3;
+    }
+    2 * n + 2
+}
+
+// How many letters the word of a code that is no data push has.
+fn code_length(opcode: u8, starts: &[u16]) -> usize
+    requires { ⌜ T (startsRight (now starts)) ⌝ }
+    ensures { λ r. ⌜ r ≡ length (Listing.codeWord opcode) ⌝ }
+{
+    if opcodes::class_of(opcode) == 0 {
+        return 4;
+    }
+    let code = index(opcode);
+    let from = start_of(starts, code);
+    let to = start_of(starts, code + 1);
+    to - from
+}
+
+// How many letters the word of an instruction has.
+fn word_length(opcode: u8, offset: usize, next: usize, starts: &[u16]) -> usize
+    requires { ⌜ T (startsRight (now starts)) ⌝ }
+    requires { ⌜ (offset < next) × (next < 2 ^ 63) ⌝ }
+    requires { ⌜ (opcode ≤ 0x4e → dataStart opcode offset ≤ next) ⌝ }
+    ensures { λ r. ⌜ r ≡ wordLength opcode offset next ⌝ }
+{
+    if opcode > 0x4e {
+        return code_length(opcode, starts);
+    }
+    let start = offset + 1 + length_bytes(opcode);
+    data_length(next - start)
+}
+
+// How many letters a listing has, where they are within the room that is lent.
+enum Measured {
+    Fits(usize),
+    Short,
+    Malformed(usize),
+}
+
+// The length of a fragment's listing.
+fn measure(fragment: &[u8], starts: &[u16], room: usize) -> Measured
+    requires { ⌜ T (startsRight (now starts)) ⌝ }
+    ensures { λ r. ⌜ Measures r (now (fragment .entry)) room ⌝ }
+{
+    let mut offset: usize = 0;
+    let mut size: usize = 0;
+    loop {
+        match decode::decode_at(fragment, offset) {
+            decode::Decoded::At(i) => {
+                let next = i.next;
+                let n = word_length(i.opcode, offset, next, starts);
+                if room - size < n {
+                    return Measured::Short;
+                }
+                size += n;
+                if next == fragment.len() {
+                    return Measured::Fits(size);
+                }
+                if size == room {
+                    return Measured::Short;
+                }
+                size += 1;
+                offset = next;
+                continue;
+            }
+            decode::Decoded::End => {
+                return Measured::Fits(size);
+            }
+            decode::Decoded::Malformed(_) => {
+                return Measured::Malformed(offset);
             }
         }
     }
