@@ -78,7 +78,7 @@ module _ (opcode offset next : ℕ) where
       q ∙ ap (λ m. dataLength (next - (offset + 1 + m))) e ∙ ap (λ t. pick t (dataLength (next - dataStart opcode offset)) (length (codeWord opcode))) (sym (le-leb opcode 0x4e h))
 
 -- the length of a word of data
-hex-length : (l : Bytes) → length (hexBytes l) ≡ 2 * length l
+pub hex-length : (l : Bytes) → length (hexBytes l) ≡ 2 * length l
 hex-length [] = refl
 hex-length (b ∷ l) = omega (arith, hex-length l)
 

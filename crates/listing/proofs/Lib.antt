@@ -8,3 +8,4 @@ pub mod Assembling
 pub mod Lengths
 pub mod Decoded
 pub mod Listed
+pub mod Listings

@@ -47,13 +47,13 @@ module _ (f : Bytes) (p : ℕ) (bytes : AreBytes f) (r : Decoded) (is : r ≡ de
   word-length = length-word f (i .opcode) p (i .next) data-within (stands .within)
 
   module _ (done : Bytes) (b : Before f p done) where
-    abbrev word : Bytes
+    abbrev pub word : Bytes
     word = wordAt f (i .opcode) p (i .next)
 
     behind : malformedAt (decode f) ≡ malformedAt (codeAt f (i .next))
     behind = b .code ∙ ap malformedAt (stands .code)
 
-    with-word : malformedAt (decode f) ≡ none → listingOf f ≡ (done ++ word) ++ after (instructions (codeAt f (i .next)))
+    pub with-word : malformedAt (decode f) ≡ none → listingOf f ≡ (done ++ word) ++ after (instructions (codeAt f (i .next)))
     with-word m =
         let is' = instructions (codeAt f (i .next)) in
         b .is m
@@ -70,7 +70,7 @@ module _ (f : Bytes) (p : ℕ) (bytes : AreBytes f) (r : Decoded) (is : r ≡ de
         with-word (last-none h) ∙ ap (λ (c : Code). (done ++ word) ++ after (instructions c)) (after-end f (i .next) h) ∙ append-nil (done ++ word)
 
     -- one before the last
-    more-word : (i .next ≡ length f → ⊥) → malformedAt (decode f) ≡ none → listingOf f ≡ (done ++ word ++ (32 ∷ [])) ++ parted (instructions (codeAt f (i .next)))
+    pub more-word : (i .next ≡ length f → ⊥) → malformedAt (decode f) ≡ none → listingOf f ≡ (done ++ word ++ (32 ∷ [])) ++ parted (instructions (codeAt f (i .next)))
     more-word n m =
         with-word m
         ∙ ap (λ (x : Bytes). (done ++ word) ++ x) (goes-on f (i .next) (omega (arith, stands .within)) (sym behind ∙ m))

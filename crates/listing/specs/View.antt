@@ -140,3 +140,8 @@ abbrev pub Measures : Measured → Bytes → ℕ → Type 0
 Measures (Fits n) f room = (malformedAt (decode f) ≡ none) × ((length (listingOf f) ≡ n) × (n ≤ room))
 Measures Short f room = malformedAt (decode f) ≡ none → room < length (listingOf f)
 Measures (Malformed offset) f room = malformedAt (decode f) ≡ some offset
+
+-- the answer where the room is short: 3, or else 27
+abbrev pub shortOf : Option ℕ → Converted
+shortOf none = record { number = 27; offset = 0; size = 0 }
+shortOf (some offset) = record { number = 3; offset = offset; size = 0 }

@@ -1,16 +1,19 @@
 // Listings: words as people write them, assembled into a fragment, and a fragment listed (document 02, L4).
 ghost use mathlib.Core.Bool.{true, false};
 ghost use mathlib.Core.List.{[], _∷_};
+ghost use mathlib.Core.Option.{none};
 ghost use mathlib.Core.Path.{_≡_};
 ghost use Prim.Native.Nat.{_+_, _^_, _≤_, _<_};
 ghost use lib.Dec.{T};
 ghost use lib.ListN.{length, drop, getD};
+ghost use Rattle.definition.specs.Decoding as Decoding;
+ghost use Rattle.definition.specs.Decoding.{malformedAt};
 ghost use Rattle.definition.specs.Listing as Listing;
 ghost use Rattle.definition.specs.OpcodeNames.{nameTable};
 ghost use Rattle.listing.specs.Tables.{allLetters, startsRight, placeOf, codesRight};
 ghost use Rattle.listing.specs.View.{opens, hexCode, nameWord, digitOr, allDigits, Reads, headOf, Sized, lettersBefore, judgedOf};
 ghost use Rattle.listing.specs.View.{dataLetters, DataWord, bytesOf, givenBy, assemblyOf, Good};
-ghost use Rattle.listing.specs.View.{convertedOf, lengthBytes, dataStart, dataLength, wordAt, wordLength, listingOf, Measures};
+ghost use Rattle.listing.specs.View.{convertedOf, lengthBytes, dataStart, dataLength, wordAt, wordLength, listingOf, Measures, shortOf};
 ghost use Rattle.text.specs.View.{Written};
 
 // An answer: the number, 0 where all went well, the offset of what was refused, and how many bytes were written.
@@ -1359,6 +1362,153 @@ fn measure(fragment: &[u8], starts: &[u16], room: usize) -> Measured
             }
             decode::Decoded::Malformed(_) => {
                 return Measured::Malformed(offset);
+            }
+        }
+    }
+}
+
+// Bytes in hexadecimal.
+fn write_hex_bytes(out: &mut [u8], at: usize, bytes: &[u8]) -> usize
+    requires { ⌜ at + length (Listing.hexBytes (now bytes)) ≤ length (now out) ⌝ }
+    ensures { λ r. ⌜ Written (now (out .entry)) at (Listing.hexBytes (now (bytes .entry))) (now (out .exit)) r ⌝ }
+{
+    let mut next = at;
+    let mut j = 0;
+    while j < bytes.len() {
+        next = text::write_hex(out, next, wide(bytes[j]));
+        j += 1;
+    }
+    next
+}
+
+// A word of data.
+fn write_data_word(out: &mut [u8], at: usize, bytes: &[u8]) -> usize
+    requires { ⌜ at + length (Listing.dataWord (now bytes)) ≤ length (now out) ⌝ }
+    ensures { λ r. ⌜ Written (now (out .entry)) at (Listing.dataWord (now (bytes .entry))) (now (out .exit)) r ⌝ }
+{
+    if bytes.len() == 0 {
+        return text::write_word(out, at, b"Op0");
+    }
+    let a = write_byte(out, at, b'<');
+    let b = write_hex_bytes(out, a, bytes);
+    write_byte(out, b, b'>')
+}
+
+// The word of a code that is no data push.
+fn write_code_word(out: &mut [u8], at: usize, opcode: u8, letters: &[u8], starts: &[u16]) -> usize
+    requires { ⌜ now letters ≡ allLetters ⌝ }
+    requires { ⌜ T (startsRight (now starts)) ⌝ }
+    requires { ⌜ at + length (Listing.codeWord opcode) ≤ length (now out) ⌝ }
+    ensures { λ r. ⌜ Written (now (out .entry)) at (Listing.codeWord opcode) (now (out .exit)) r ⌝ }
+{
+    if opcodes::class_of(opcode) == 0 {
+        let next = text::write_word(out, at, b"0x");
+        return text::write_hex(out, next, wide(opcode));
+    }
+    let code = index(opcode);
+    let from = start_of(starts, code);
+    let to = start_of(starts, code + 1);
+    text::write_word(out, at, &letters[from..to])
+}
+
+// The word of an instruction.
+fn write_instruction(
+    out: &mut [u8],
+    at: usize,
+    fragment: &[u8],
+    opcode: u8,
+    offset: usize,
+    next: usize,
+    letters: &[u8],
+    starts: &[u16],
+) -> usize
+    requires { ⌜ now letters ≡ allLetters ⌝ }
+    requires { ⌜ T (startsRight (now starts)) ⌝ }
+    requires { ⌜ (offset < next) × (next ≤ length (now fragment)) ⌝ }
+    requires { ⌜ (opcode ≤ 0x4e → dataStart opcode offset ≤ next) ⌝ }
+    requires { ⌜ at + length (wordAt (now fragment) opcode offset next) ≤ length (now out) ⌝ }
+    ensures { λ r. ⌜ Written (now (out .entry)) at (wordAt (now (fragment .entry)) opcode offset next) (now (out .exit)) r ⌝ }
+{
+    if opcode > 0x4e {
+        return write_code_word(out, at, opcode, letters, starts);
+    }
+    let start = offset + 1 + length_bytes(opcode);
+    write_data_word(out, at, &fragment[start..next])
+}
+
+// The words of all instructions.
+fn write_listing(out: &mut [u8], fragment: &[u8], letters: &[u8], starts: &[u16]) -> usize
+    requires { ⌜ now letters ≡ allLetters ⌝ }
+    requires { ⌜ T (startsRight (now starts)) ⌝ }
+    requires { ⌜ malformedAt (Decoding.decode (now fragment)) ≡ none ⌝ }
+    requires { ⌜ length (listingOf (now fragment)) ≤ length (now out) ⌝ }
+    ensures { λ r. ⌜ Written (now (out .entry)) 0 (listingOf (now (fragment .entry))) (now (out .exit)) r ⌝ }
+{
+    let mut offset: usize = 0;
+    let mut at: usize = 0;
+    loop {
+        match decode::decode_at(fragment, offset) {
+            decode::Decoded::At(i) => {
+                let next = i.next;
+                at = write_instruction(out, at, fragment, i.opcode, offset, next, letters, starts);
+                if next == fragment.len() {
+                    return at;
+                }
+                at = write_byte(out, at, b' ');
+                offset = next;
+                continue;
+            }
+            decode::Decoded::End => {
+                return at;
+            }
+            decode::Decoded::Malformed(_) => {
+                return at;
+            }
+        }
+    }
+}
+
+// The answer where a listing is over the room: 3 comes before 27.
+fn short_output(fragment: &[u8]) -> Converted
+    ensures { λ r. ⌜ r ≡ shortOf (malformedAt (Decoding.decode (now (fragment .entry)))) ⌝ }
+{
+    match decode::count_instructions(fragment) {
+        decode::Counted::Whole(_) => Converted {
+            number: 27,
+            offset: 0,
+            size: 0,
+        },
+        decode::Counted::Malformed(offset) => Converted {
+            number: 3,
+            offset,
+            size: 0,
+        },
+    }
+}
+
+// The lister: a fragment into a lent output.
+pub fn list(fragment: &[u8], out: &mut [u8]) -> Converted
+    ensures { λ r.
+        ⌜
+        convertedOf r (now (out .exit))
+        ≡ Listing.listed (now (fragment .entry)) (now (out .entry))
+        ⌝ }
+{
+    let letters = all_letters();
+    let starts = all_starts();
+    match measure(fragment, &starts, out.len()) {
+        Measured::Malformed(offset) => Converted {
+            number: 3,
+            offset,
+            size: 0,
+        },
+        Measured::Short => short_output(fragment),
+        Measured::Fits(size) => {
+            write_listing(out, fragment, &letters, &starts);
+            Converted {
+                number: 0,
+                offset: 0,
+                size,
             }
         }
     }
