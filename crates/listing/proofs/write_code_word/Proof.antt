@@ -16,7 +16,7 @@ slice-aggregate-write-word : tie.Need-slice-aggregate-write-word
 slice-aggregate-write-word c = search needs
 
 write-word-requires : tie.Need-write-word-requires
-write-word-requires c κs = 
+write-word-requires c κs =
     let k = c .before .before .before in
     let s = k .before .before .before .before in
     omega (arith, code-room (s .args .opcode) (k .class-of .result) (k .class-of .ensures) (c .before .before .if1 .taken) (s .args .at) _ (s .pre .1 .1))
@@ -25,7 +25,7 @@ wide-requires : tie.Need-wide-requires
 wide-requires c κs = search needs
 
 write-hex-requires : tie.Need-write-hex-requires
-write-hex-requires c κs = 
+write-hex-requires c κs =
     let k = c .before .before .before .before .before .before .before .before in
     let s = k .before .before .before .before in
     omega (arith, code-room (s .args .opcode) (k .class-of .result) (k .class-of .ensures) (c .before .before .before .before .before .before .before .if1 .taken) (s .args .at) _ (s .pre .1 .1), c .before .before .before .before .write-word .ensures .ends)
@@ -34,7 +34,7 @@ same-length : tie.Need-same-length
 same-length c = search needs
 
 returns : tie.Need-returns
-returns c = 
+returns c =
     let k = c .before .before .before .before .before .before .before .before .before .before .before in
     let s = k .before .before .before .before in
     code-written (s .args .opcode) (k .class-of .result) (k .class-of .ensures) (c .before .before .before .before .before .before .before .before .before .before .if1 .taken) (c .before .before .before .wide .result) (c .before .before .before .wide .ensures .0) (omega arith) (c .before .before .before .before .before .before .before .write-word .ensures) (c .before .before .write-hex .ensures .0)
@@ -52,7 +52,7 @@ start-of-requires-2 : tie.Need-start-of-requires-2
 start-of-requires-2 c κs = search needs
 
 sub-write-word : tie.Need-sub-write-word
-sub-write-word c = 
+sub-write-word c =
     let t = c .before in
     let f = t .before in
     let n = f .before in
@@ -62,7 +62,7 @@ sub-write-word c =
     between (s .args .letters .now) (s .args .starts .now) (n .index .result) (f .start-of .result) (t .start-of2 .result) (s .pre .0) (s .pre .1 .0) (n .index .ensures .1) (f .start-of .ensures) (t .start-of2 .ensures) .0
 
 part-write-word-start : tie.Need-part-write-word-start
-part-write-word-start c = 
+part-write-word-start c =
     let t = c .before in
     let f = t .before in
     let n = f .before in
@@ -72,7 +72,7 @@ part-write-word-start c =
     between (s .args .letters .now) (s .args .starts .now) (n .index .result) (f .start-of .result) (t .start-of2 .result) (s .pre .0) (s .pre .1 .0) (n .index .ensures .1) (f .start-of .ensures) (t .start-of2 .ensures) .0
 
 part-write-word-end : tie.Need-part-write-word-end
-part-write-word-end c = 
+part-write-word-end c =
     let t = c .before in
     let f = t .before in
     let n = f .before in
@@ -82,7 +82,7 @@ part-write-word-end c =
     between (s .args .letters .now) (s .args .starts .now) (n .index .result) (f .start-of .result) (t .start-of2 .result) (s .pre .0) (s .pre .1 .0) (n .index .ensures .1) (f .start-of .ensures) (t .start-of2 .ensures) .1
 
 write-word-requires-2 : tie.Need-write-word-requires-2
-write-word-requires-2 c κs = 
+write-word-requires-2 c κs =
     let t = c .before .before in
     let f = t .before in
     let n = f .before in
@@ -95,7 +95,7 @@ same-length-2 : tie.Need-same-length-2
 same-length-2 c = search needs
 
 returns-2 : tie.Need-returns-2
-returns-2 c = 
+returns-2 c =
     let t = c .before .before .before .before .before in
     let f = t .before in
     let n = f .before in
