@@ -119,17 +119,18 @@ module _ (l out : Bytes) (j : Judged) (is : j ≡ judgedOf (assemblyOf l)) where
       by (gives b) e = cc
       by (strange o) e = never (cc)
 
-  pub assembled-strange : (offset : ℕ) → j ≡ Strays offset → unwritten 26 offset out ≡ assembled l out
+  pub assembled-strange : (offset : ℕ) (a : Converted) → j ≡ Strays offset → a ≡ unwritten 26 offset out → a ≡ assembled l out
   unfolding assembled
-  assembled-strange offset e = sym (ap (λ (a : Assembly). onAssembly a out) (strays offset e))
+  assembled-strange offset a e u = u ∙ sym (ap (λ (a : Assembly). onAssembly a out) (strays offset e))
 
   module _ (size : ℕ) (e : j ≡ Gives size) where
     by-size : assembled l out ≡ put (givenBy (assemblyOf l)) out
     unfolding assembled
     by-size = ap (λ (a : Assembly). onAssembly a out) (gives-good size e)
 
-    pub assembled-short : length out < size → unwritten 27 0 out ≡ assembled l out
-    assembled-short h = sym (by-size ∙ rw (lt-leb (length (givenBy (assemblyOf l))) (length out) (omega (arith, gives-size size e))))
+    pub assembled-short : (a : Converted) → length out < size → a ≡ unwritten 27 0 out → a ≡ assembled l out
+    assembled-short a h u =
+        u ∙ sym (by-size ∙ rw (lt-leb (length (givenBy (assemblyOf l))) (length out) (omega (arith, gives-size size e))))
 
     pub assembled-room : size ≤ length out → length (givenBy (assemblyOf l)) ≤ length out
     assembled-room h = omega (arith, gives-size size e)

@@ -25,10 +25,9 @@ use Rattle.decode.specs.declared.Counted.the-variants as C
 use Rattle.decode.proofs.Codes.{InstructionAt, code-ends, code-malformed}
 use Rattle.text.specs.View.{Written}
 use Rattle.text.proofs.Texts.{written-as, then-written}
-use Rattle.listing.specs.declared.Converted as A
 use Rattle.listing.specs.declared.Measured.{Measured}
 use Rattle.listing.specs.declared.Measured.the-variants as M
-use Rattle.listing.specs.View.{dataStart, lengthBytes, wordAt, wordLength, listingOf, Measures, shortOf, convertedOf}
+use Rattle.listing.specs.View.{dataStart, lengthBytes, wordAt, wordLength, listingOf, Measures, shortOf}
 use Rattle.listing.proofs.Names.{never}
 use Rattle.listing.proofs.Writing.{none-written}
 use Rattle.listing.proofs.Assembling.{from-start}
@@ -171,41 +170,41 @@ module _ (lent f out : Bytes) (p at : ℕ) (to : ListedTo lent f out p at) (whol
 
 -- The answers
 
-pub short-whole : (f : Bytes) (c : Counted) (n : ℕ) → countedOf c ≡ countIn (decode f) → c ≡ C.Whole n → record { number = 27; offset = 0; size = 0 } ≡ shortOf (malformedAt (decode f))
-short-whole f c n e q = by (malformedAt (decode f)) (sym (ap countedOf q) ∙ e)
-  where
-    by : (m : Option ℕ) → countedOf (C.Whole n) ≡ countBy m (length (instructions (decode f))) → record { number = 27; offset = 0; size = 0 } ≡ shortOf m
-    by none e = refl
-    by (some o) e =
-        let z : _≡_ {A = ℕ} 0 3 = ap (λ (c : Count). c .answer .number) e in
-        absurd (omega arith)
+module _ (f out : Bytes) (c : Counted) (is : countedOf c ≡ countIn (decode f)) where
+  pub short-whole : (n : ℕ) (a : Converted) → c ≡ C.Whole n → a ≡ unwritten 27 0 out → a ≡ shortOf (malformedAt (decode f)) out
+  short-whole n a q u = u ∙ by (malformedAt (decode f)) (sym (ap countedOf q) ∙ is)
+    where
+      by : (m : Option ℕ) → countedOf (C.Whole n) ≡ countBy m (length (instructions (decode f))) → unwritten 27 0 out ≡ shortOf m out
+      by none e = refl
+      by (some o) e =
+          let z : _≡_ {A = ℕ} 0 3 = ap (λ (c : Count). c .answer .number) e in
+          absurd (omega arith)
 
-pub short-malformed : (f : Bytes) (c : Counted) (at : ℕ) → countedOf c ≡ countIn (decode f) → c ≡ C.Malformed at → record { number = 3; offset = at; size = 0 } ≡ shortOf (malformedAt (decode f))
-short-malformed f c at e q = by (malformedAt (decode f)) (sym (ap countedOf q) ∙ e)
-  where
-    by : (m : Option ℕ) → countedOf (C.Malformed at) ≡ countBy m (length (instructions (decode f))) → record { number = 3; offset = at; size = 0 } ≡ shortOf m
-    by none e =
-        let z : _≡_ {A = ℕ} 3 0 = ap (λ (c : Count). c .answer .number) e in
-        absurd (omega arith)
-    by (some o) e = let i : at ≡ o = ap (λ (c : Count). c .answer .offset) e in ap (λ n. record { number = 3; offset = n; size = 0 }) i
+  pub short-malformed : (at : ℕ) (a : Converted) → c ≡ C.Malformed at → a ≡ unwritten 3 at out → a ≡ shortOf (malformedAt (decode f)) out
+  short-malformed at a q u = u ∙ by (malformedAt (decode f)) (sym (ap countedOf q) ∙ is)
+    where
+      by : (m : Option ℕ) → countedOf (C.Malformed at) ≡ countBy m (length (instructions (decode f))) → unwritten 3 at out ≡ shortOf m out
+      by none e =
+          let z : _≡_ {A = ℕ} 3 0 = ap (λ (c : Count). c .answer .number) e in
+          absurd (omega arith)
+      by (some o) e =
+          let i : at ≡ o = ap (λ (c : Count). c .answer .offset) e in
+          ap (λ n. unwritten 3 n out) i
 
 module _ (f out : Bytes) (r : Measured) (is : Measures r f (length out)) where
-  pub listed-refused : (offset : ℕ) → r ≡ M.Malformed offset → unwritten 3 offset out ≡ listed f out
+  pub listed-refused : (offset : ℕ) (a : Converted) → r ≡ M.Malformed offset → a ≡ unwritten 3 offset out → a ≡ listed f out
   unfolding listed
-  listed-refused offset e =
+  listed-refused offset a e u =
       let m : malformedAt (decode f) ≡ some offset = subst (λ (x : Measured). Measures x f (length out)) e is in
-      sym (ap (λ (o : Option ℕ). onDecoded o (listingOf f) out) m)
+      u ∙ sym (ap (λ (o : Option ℕ). onDecoded o (listingOf f) out) m)
 
-  pub listed-short : r ≡ M.Short → convertedOf (shortOf (malformedAt (decode f))) out ≡ listed f out
+  pub listed-short : (a : Converted) → r ≡ M.Short → a ≡ shortOf (malformedAt (decode f)) out → a ≡ listed f out
   unfolding listed
-  listed-short e = by (malformedAt (decode f)) (subst (λ (x : Measured). Measures x f (length out)) e is)
+  listed-short a e u = u ∙ by (malformedAt (decode f)) (subst (λ (x : Measured). Measures x f (length out)) e is)
     where
-      by : (o : Option ℕ) → (o ≡ none → length out < length (listingOf f)) → convertedOf (shortOf o) out ≡ onDecoded o (listingOf f) out
+      by : (o : Option ℕ) → (o ≡ none → length out < length (listingOf f)) → shortOf o out ≡ onDecoded o (listingOf f) out
       by none h = rw (lt-leb (length (listingOf f)) (length out) (h refl)) refl
       by (some o) h = refl
-
-  pub short-answer : (a : A.Converted) → a ≡ shortOf (malformedAt (decode f)) → r ≡ M.Short → convertedOf a out ≡ listed f out
-  short-answer a q e = ap (λ (x : A.Converted). convertedOf x out) q ∙ listed-short e
 
   module _ (size : ℕ) (e : r ≡ M.Fits size) where
     fits : (malformedAt (decode f) ≡ none) × ((length (listingOf f) ≡ size) × (size ≤ length out))

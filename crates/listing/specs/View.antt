@@ -9,7 +9,7 @@ use lib.ListN.{length, take, drop}
 use Rattle.definition.specs.Basics.{Bytes, pick}
 use Rattle.definition.specs.Decoding.{decode, instructions, malformedAt}
 use Rattle.definition.specs.Lines.{text}
-use Rattle.definition.specs.Listing.{lowestFirst, Assembly, gives, strange, same, digitRead, hexRead, pushOf, wordRead, inForm, words, assembly, dataWord, codeWord, parted}
+use Rattle.definition.specs.Listing.{lowestFirst, Assembly, gives, strange, same, digitRead, hexRead, pushOf, wordRead, inForm, words, assembly, dataWord, codeWord, parted, unwritten}
 use Rattle.definition.specs.Listing as L
 use Rattle.listing.specs.declared.Converted.{Converted}
 use Rattle.listing.specs.declared.Judged.{Judged}
@@ -142,6 +142,6 @@ Measures Short f room = malformedAt (decode f) ≡ none → room < length (listi
 Measures (Malformed offset) f room = malformedAt (decode f) ≡ some offset
 
 -- the answer where the room is short: 3, or else 27
-abbrev pub shortOf : Option ℕ → Converted
-shortOf none = record { number = 27; offset = 0; size = 0 }
-shortOf (some offset) = record { number = 3; offset = offset; size = 0 }
+abbrev pub shortOf : Option ℕ → Bytes → L.Converted
+shortOf none out = unwritten 27 0 out
+shortOf (some offset) out = unwritten 3 offset out

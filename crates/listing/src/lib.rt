@@ -29,266 +29,267 @@ const LETTERS: [u8; 1242] =
 
 // Where the name of each code begins; it ends where that of the next code begins, at once where the code has none.
 const STARTS: [u16; 257] = [
-    0,
-    3,
-    3,
-    3,
-    3,
-    3,
-    3,
-    3,
-    3,
-    3,
-    3,
-    3,
-    3,
-    3,
-    3,
-    3,
-    3,
-    3,
-    3,
-    3,
-    3,
-    3,
-    3,
-    3,
-    3,
-    3,
-    3,
-    3,
-    3,
-    3,
-    3,
-    3,
-    3,
-    3,
-    3,
-    3,
-    3,
-    3,
-    3,
-    3,
-    3,
-    3,
-    3,
-    3,
-    3,
-    3,
-    3,
-    3,
-    3,
-    3,
-    3,
-    3,
-    3,
-    3,
-    3,
-    3,
-    3,
-    3,
-    3,
-    3,
-    3,
-    3,
-    3,
-    3,
-    3,
-    3,
-    3,
-    3,
-    3,
-    3,
-    3,
-    3,
-    3,
-    3,
-    3,
-    3,
-    3,
-    3,
-    3,
-    3,
-    12,
-    12,
-    15,
-    18,
-    21,
-    24,
-    27,
-    30,
-    33,
-    36,
-    39,
-    43,
-    47,
-    51,
-    55,
-    59,
-    63,
-    67,
-    72,
-    72,
-    76,
-    83,
-    83,
-    83,
-    89,
-    96,
-    104,
-    112,
-    124,
-    138,
-    145,
-    151,
-    157,
-    164,
-    170,
-    177,
-    177,
-    184,
-    190,
-    195,
-    200,
-    206,
-    212,
-    218,
-    223,
-    229,
-    235,
-    240,
-    248,
-    248,
-    248,
-    254,
-    262,
-    267,
-    271,
-    276,
-    283,
-    296,
-    296,
-    296,
-    302,
-    308,
-    308,
-    308,
-    316,
-    321,
-    326,
-    337,
-    342,
-    347,
-    352,
-    357,
-    362,
-    362,
-    362,
-    371,
-    379,
-    389,
-    405,
-    418,
-    428,
-    441,
-    458,
-    478,
-    483,
-    488,
-    496,
-    510,
-    526,
-    534,
-    534,
-    543,
-    558,
-    568,
-    584,
-    584,
-    584,
-    605,
-    626,
-    637,
-    651,
-    666,
-    678,
-    690,
-    697,
-    711,
-    725,
-    733,
-    742,
-    756,
-    771,
-    783,
-    798,
-    810,
-    827,
-    846,
-    862,
-    875,
-    890,
-    906,
-    927,
-    944,
-    961,
-    976,
-    992,
-    1013,
-    1031,
-    1055,
-    1070,
-    1087,
-    1102,
-    1111,
-    1124,
-    1138,
-    1162,
-    1180,
-    1199,
-    1218,
-    1242,
-    1242,
-    1242,
-    1242,
-    1242,
-    1242,
-    1242,
-    1242,
-    1242,
-    1242,
-    1242,
-    1242,
-    1242,
-    1242,
-    1242,
-    1242,
-    1242,
-    1242,
-    1242,
-    1242,
-    1242,
-    1242,
-    1242,
-    1242,
-    1242,
-    1242,
-    1242,
-    1242,
-    1242,
-    1242,
-    1242,
-    1242,
-    1242,
-    1242,
-    1242,
-    1242,
-    1242,
-    1242,
-    1242,
+    0, // 00
+    3, // 01
+    3, // 02
+    3, // 03
+    3, // 04
+    3, // 05
+    3, // 06
+    3, // 07
+    3, // 08
+    3, // 09
+    3, // 0a
+    3, // 0b
+    3, // 0c
+    3, // 0d
+    3, // 0e
+    3, // 0f
+    3, // 10
+    3, // 11
+    3, // 12
+    3, // 13
+    3, // 14
+    3, // 15
+    3, // 16
+    3, // 17
+    3, // 18
+    3, // 19
+    3, // 1a
+    3, // 1b
+    3, // 1c
+    3, // 1d
+    3, // 1e
+    3, // 1f
+    3, // 20
+    3, // 21
+    3, // 22
+    3, // 23
+    3, // 24
+    3, // 25
+    3, // 26
+    3, // 27
+    3, // 28
+    3, // 29
+    3, // 2a
+    3, // 2b
+    3, // 2c
+    3, // 2d
+    3, // 2e
+    3, // 2f
+    3, // 30
+    3, // 31
+    3, // 32
+    3, // 33
+    3, // 34
+    3, // 35
+    3, // 36
+    3, // 37
+    3, // 38
+    3, // 39
+    3, // 3a
+    3, // 3b
+    3, // 3c
+    3, // 3d
+    3, // 3e
+    3, // 3f
+    3, // 40
+    3, // 41
+    3, // 42
+    3, // 43
+    3, // 44
+    3, // 45
+    3, // 46
+    3, // 47
+    3, // 48
+    3, // 49
+    3, // 4a
+    3, // 4b
+    3, // 4c
+    3, // 4d
+    3, // 4e
+    3, // 4f
+    12, // 50
+    12, // 51
+    15, // 52
+    18, // 53
+    21, // 54
+    24, // 55
+    27, // 56
+    30, // 57
+    33, // 58
+    36, // 59
+    39, // 5a
+    43, // 5b
+    47, // 5c
+    51, // 5d
+    55, // 5e
+    59, // 5f
+    63, // 60
+    67, // 61
+    72, // 62
+    72, // 63
+    76, // 64
+    83, // 65
+    83, // 66
+    83, // 67
+    89, // 68
+    96, // 69
+    104, // 6a
+    112, // 6b
+    124, // 6c
+    138, // 6d
+    145, // 6e
+    151, // 6f
+    157, // 70
+    164, // 71
+    170, // 72
+    177, // 73
+    177, // 74
+    184, // 75
+    190, // 76
+    195, // 77
+    200, // 78
+    206, // 79
+    212, // 7a
+    218, // 7b
+    223, // 7c
+    229, // 7d
+    235, // 7e
+    240, // 7f
+    248, // 80
+    248, // 81
+    248, // 82
+    254, // 83
+    262, // 84
+    267, // 85
+    271, // 86
+    276, // 87
+    283, // 88
+    296, // 89
+    296, // 8a
+    296, // 8b
+    302, // 8c
+    308, // 8d
+    308, // 8e
+    308, // 8f
+    316, // 90
+    321, // 91
+    326, // 92
+    337, // 93
+    342, // 94
+    347, // 95
+    352, // 96
+    357, // 97
+    362, // 98
+    362, // 99
+    362, // 9a
+    371, // 9b
+    379, // 9c
+    389, // 9d
+    405, // 9e
+    418, // 9f
+    428, // a0
+    441, // a1
+    458, // a2
+    478, // a3
+    483, // a4
+    488, // a5
+    496, // a6
+    510, // a7
+    526, // a8
+    534, // a9
+    534, // aa
+    543, // ab
+    558, // ac
+    568, // ad
+    584, // ae
+    584, // af
+    584, // b0
+    605, // b1
+    626, // b2
+    637, // b3
+    651, // b4
+    666, // b5
+    678, // b6
+    690, // b7
+    697, // b8
+    711, // b9
+    725, // ba
+    733, // bb
+    742, // bc
+    756, // bd
+    771, // be
+    783, // bf
+    798, // c0
+    810, // c1
+    827, // c2
+    846, // c3
+    862, // c4
+    875, // c5
+    890, // c6
+    906, // c7
+    927, // c8
+    944, // c9
+    961, // ca
+    976, // cb
+    992, // cc
+    1013, // cd
+    1031, // ce
+    1055, // cf
+    1070, // d0
+    1087, // d1
+    1102, // d2
+    1111, // d3
+    1124, // d4
+    1138, // d5
+    1162, // d6
+    1180, // d7
+    1199, // d8
+    1218, // d9
+    1242, // da
+    1242, // db
+    1242, // dc
+    1242, // dd
+    1242, // de
+    1242, // df
+    1242, // e0
+    1242, // e1
+    1242, // e2
+    1242, // e3
+    1242, // e4
+    1242, // e5
+    1242, // e6
+    1242, // e7
+    1242, // e8
+    1242, // e9
+    1242, // ea
+    1242, // eb
+    1242, // ec
+    1242, // ed
+    1242, // ee
+    1242, // ef
+    1242, // f0
+    1242, // f1
+    1242, // f2
+    1242, // f3
+    1242, // f4
+    1242, // f5
+    1242, // f6
+    1242, // f7
+    1242, // f8
+    1242, // f9
+    1242, // fa
+    1242, // fb
+    1242, // fc
+    1242, // fd
+    1242, // fe
+    1242, // ff
+    1242, // the end
 ];
 
-// At the place of each name its code.
+// The code of a word, by its place (`place_of`): at the place of each name its code, and 0 elsewhere. A word is a name exactly if
+// the code at its place has that name.
 const CODES: [u8; 512] = [
     0,
     0,
@@ -296,35 +297,36 @@ const CODES: [u8; 512] = [
     0,
     0,
     0,
-    85,
+    85, // Op5
+    0, // Op0
     0,
     0,
     0,
     0,
     0,
+    123, // OpRot
     0,
-    123,
     0,
     0,
     0,
     0,
+    158, // OpNumNotEqual
     0,
-    158,
     0,
     0,
     0,
+    170, // OpBlake2b
+    79, // Op1Negate
+    198, // OpTxOutputSpkLen
     0,
-    170,
-    79,
-    198,
     0,
     0,
+    192, // OpTxInputSpk
     0,
-    192,
+    189, // OpOutpointIndex
+    210, // OpNum2Bin
+    184, // OpTxInputIndex
     0,
-    189,
-    210,
-    184,
     0,
     0,
     0,
@@ -334,11 +336,11 @@ const CODES: [u8; 512] = [
     0,
     0,
     0,
+    200, // OpAuthOutputCount
     0,
-    200,
     0,
+    114, // Op2Swap
     0,
-    114,
     0,
     0,
     0,
@@ -347,8 +349,8 @@ const CODES: [u8; 512] = [
     0,
     0,
     0,
+    167, // OpBlake2bWithKey
     0,
-    167,
     0,
     0,
     0,
@@ -357,87 +359,87 @@ const CODES: [u8; 512] = [
     0,
     0,
     0,
+    103, // OpElse
     0,
-    103,
     0,
     0,
     0,
     0,
     0,
     0,
+    190, // OpTxInputSeq
     0,
-    190,
+    124, // OpSwap
     0,
-    124,
     0,
     0,
+    117, // OpDrop
     0,
-    117,
+    139, // Op1Add
     0,
-    139,
     0,
     0,
+    163, // OpMin
     0,
-    163,
     0,
     0,
     0,
     0,
+    125, // OpTuck
     0,
-    125,
     0,
+    90, // Op10
     0,
-    90,
     0,
     0,
+    154, // OpBoolAnd
     0,
-    154,
     0,
     0,
     0,
     0,
     0,
+    87, // Op7
+    82, // Op2
     0,
-    87,
-    82,
     0,
     0,
+    145, // OpNot
     0,
-    145,
     0,
     0,
+    176, // OpCheckLockTimeVerify
     0,
-    176,
     0,
+    93, // Op13
     0,
-    93,
     0,
     0,
     0,
+    188, // OpOutpointTxId
+    181, // OpTxLockTime
+    165, // OpWithin
     0,
-    188,
-    181,
-    165,
+    133, // OpOr
     0,
-    133,
+    105, // OpVerify
+    202, // OpCovInputCount
+    182, // OpTxSubnetId
     0,
-    105,
-    202,
-    182,
     0,
     0,
     0,
+    143, // OpNegate
+    214, // OpTxInputSpkSubstr
     0,
-    143,
-    214,
     0,
     0,
+    96, // Op16
+    177, // OpCheckSequenceVerify
+    194, // OpTxInputIsCoinbase
     0,
-    96,
-    177,
-    194,
+    130, // OpSize
     0,
-    130,
     0,
     0,
     0,
@@ -450,13 +452,13 @@ const CODES: [u8; 512] = [
     0,
     0,
     0,
+    111, // Op3Dup
+    178, // OpTxVersion
     0,
-    111,
-    178,
+    100, // OpNotIf
     0,
-    100,
+    207, // OpBlake3WithKey
     0,
-    207,
     0,
     0,
     0,
@@ -465,27 +467,27 @@ const CODES: [u8; 512] = [
     0,
     0,
     0,
+    113, // Op2Rot
     0,
-    113,
     0,
     0,
+    147, // OpAdd
     0,
-    147,
+    204, // OpChainblockSeqCommit
     0,
-    204,
     0,
     0,
     0,
     0,
     0,
+    134, // OpXor
+    162, // OpGreaterThanOrEqual
     0,
-    134,
-    162,
     0,
     0,
+    216, // OpCheckSigFromStack
+    211, // OpCovInputIdx
     0,
-    216,
-    211,
     0,
     0,
     0,
@@ -493,15 +495,15 @@ const CODES: [u8; 512] = [
     0,
     0,
     0,
+    171, // OpCheckSigECDSA
     0,
-    171,
     0,
+    131, // OpInvert
+    126, // OpCat
+    122, // OpRoll
+    89, // Op9
+    84, // Op4
     0,
-    131,
-    126,
-    122,
-    89,
-    84,
     0,
     0,
     0,
@@ -515,71 +517,71 @@ const CODES: [u8; 512] = [
     0,
     0,
     0,
+    116, // OpDepth
     0,
-    116,
     0,
     0,
+    197, // OpTxInputSpkLen
     0,
-    197,
     0,
     0,
+    193, // OpTxInputDaaScore
     0,
-    193,
     0,
     0,
     0,
     0,
     0,
     0,
+    168, // OpSHA256
     0,
-    168,
     0,
     0,
+    156, // OpNumEqual
     0,
-    156,
     0,
     0,
     0,
+    118, // OpDup
     0,
-    118,
+    97, // OpNop
     0,
-    97,
+    196, // OpTxOutputSpk
     0,
-    196,
     0,
     0,
+    213, // OpTxInputScriptSigSubstr
     0,
-    213,
     0,
     0,
     0,
+    180, // OpTxOutputCount
     0,
-    180,
     0,
     0,
+    172, // OpCheckSig
     0,
-    172,
+    140, // Op1Sub
     0,
-    140,
+    132, // OpAnd
     0,
-    132,
     0,
     0,
     0,
     0,
     0,
     0,
+    108, // OpFromAltStack
     0,
-    108,
     0,
+    92, // Op12
     0,
-    92,
     0,
     0,
     0,
     0,
+    150, // OpDiv
     0,
-    150,
     0,
     0,
     0,
@@ -587,44 +589,44 @@ const CODES: [u8; 512] = [
     0,
     0,
     0,
+    166, // OpZkPrecompile
     0,
-    166,
     0,
     0,
+    186, // OpBlake3
     0,
-    186,
     0,
     0,
+    95, // Op15
     0,
-    95,
     0,
     0,
     0,
     0,
     0,
+    86, // Op6
+    81, // Op1
     0,
-    86,
-    81,
+    195, // OpTxOutputAmount
     0,
-    195,
     0,
     0,
     0,
     0,
+    104, // OpEndIf
+    199, // OpTxInputScriptSigLen
     0,
-    104,
-    199,
+    208, // OpTxPayloadSubstr
     0,
-    208,
+    146, // Op0NotEqual
     0,
-    146,
     0,
+    164, // OpMax
     0,
-    164,
     0,
     0,
+    106, // OpReturn
     0,
-    106,
     0,
     0,
     0,
@@ -635,9 +637,9 @@ const CODES: [u8; 512] = [
     0,
     0,
     0,
+    205, // OpOutputCovenantId
+    135, // OpEqual
     0,
-    205,
-    135,
     0,
     0,
     0,
@@ -654,9 +656,9 @@ const CODES: [u8; 512] = [
     0,
     0,
     0,
+    120, // OpOver
+    148, // OpSub
     0,
-    120,
-    148,
     0,
     0,
     0,
@@ -665,37 +667,37 @@ const CODES: [u8; 512] = [
     0,
     0,
     0,
+    112, // Op2Over
+    109, // Op2Drop
     0,
-    112,
-    109,
+    144, // OpAbs
     0,
-    144,
     0,
+    121, // OpPick
     0,
-    121,
     0,
     0,
     0,
     0,
     0,
     0,
+    185, // OpTxPayloadLen
     0,
-    185,
     0,
+    155, // OpBoolOr
+    212, // OpCovOutputIdx
     0,
-    155,
-    212,
     0,
     0,
+    206, // OpOutputAuthorizingInput
+    187, // OpBin2Num
     0,
-    206,
-    187,
+    173, // OpCheckSigVerify
+    191, // OpTxInputAmount
     0,
-    173,
-    191,
     0,
+    161, // OpLessThanOrEqual
     0,
-    161,
     0,
     0,
     0,
@@ -703,20 +705,20 @@ const CODES: [u8; 512] = [
     0,
     0,
     0,
+    110, // Op2Dup
+    88, // Op8
+    83, // Op3
     0,
-    110,
-    88,
-    83,
+    107, // OpToAltStack
     0,
-    107,
+    209, // OpAuthOutputIdx
     0,
-    209,
+    149, // OpMul
     0,
-    149,
     0,
     0,
+    179, // OpTxInputCount
     0,
-    179,
     0,
     0,
     0,
@@ -728,44 +730,44 @@ const CODES: [u8; 512] = [
     0,
     0,
     0,
+    99, // OpIf
     0,
-    99,
     0,
+    151, // OpMod
     0,
-    151,
     0,
     0,
+    91, // Op11
     0,
-    91,
     0,
     0,
     0,
     0,
+    159, // OpLessThan
     0,
-    159,
     0,
     0,
     0,
     0,
     0,
+    215, // OpTxOutputSpkSubstr
     0,
-    215,
     0,
     0,
+    217, // OpCheckSigFromStackECDSA
     0,
-    217,
     0,
     0,
     0,
     0,
+    94, // Op14
+    160, // OpGreaterThan
     0,
-    94,
-    160,
     0,
     0,
     0,
+    127, // OpSubstr
     0,
-    127,
     0,
     0,
     0,
@@ -778,15 +780,15 @@ const CODES: [u8; 512] = [
     0,
     0,
     0,
+    203, // OpCovOutputCount
     0,
-    203,
     0,
     0,
     0,
     0,
+    136, // OpEqualVerify
+    183, // OpTxGas
     0,
-    136,
-    183,
     0,
     0,
     0,
@@ -794,14 +796,13 @@ const CODES: [u8; 512] = [
     0,
     0,
     0,
+    119, // OpNip
     0,
-    119,
     0,
     0,
+    201, // OpInputCovenantId
     0,
-    201,
-    0,
-    157,
+    157, // OpNumEqualVerify
 ];
 
 fn all_letters() -> [u8; 1242]
@@ -1233,30 +1234,29 @@ fn write_words(
     }
 }
 
-// The assembler: a listing into a lent output.
+// A refusal: nothing is written.
+fn refused(out: &mut [u8], number: u32, offset: usize) -> Converted
+    ensures { λ r. ⌜ convertedOf r (now (out .exit)) ≡ Listing.unwritten number offset (now (out .entry)) ⌝ }
+{
+    Converted {
+        number,
+        offset,
+        size: 0,
+    }
+}
+
+// The assembler: a listing into a lent output. Nothing is written before all words are judged.
 pub fn assemble(listing: &[u8], out: &mut [u8]) -> Converted
-    ensures { λ r.
-        ⌜
-        convertedOf r (now (out .exit))
-        ≡ Listing.assembled (now (listing .entry)) (now (out .entry))
-        ⌝ }
+    ensures { λ r. ⌜ convertedOf r (now (out .exit)) ≡ Listing.assembled (now (listing .entry)) (now (out .entry)) ⌝ }
 {
     let letters = all_letters();
     let starts = all_starts();
     let codes = all_codes();
     match judge(listing, &letters, &starts, &codes) {
-        Judged::Strays(offset) => Converted {
-            number: 26,
-            offset,
-            size: 0,
-        },
+        Judged::Strays(offset) => refused(out, 26, offset),
         Judged::Gives(size) => {
             if out.len() < size {
-                return Converted {
-                    number: 27,
-                    offset: 0,
-                    size: 0,
-                };
+                return refused(out, 27, 0);
             }
             write_words(out, listing, &letters, &starts, &codes);
             Converted {
@@ -1469,40 +1469,24 @@ fn write_listing(out: &mut [u8], fragment: &[u8], letters: &[u8], starts: &[u16]
 }
 
 // The answer where a listing is over the room: 3 comes before 27.
-fn short_output(fragment: &[u8]) -> Converted
-    ensures { λ r. ⌜ r ≡ shortOf (malformedAt (Decoding.decode (now (fragment .entry)))) ⌝ }
+fn short_output(fragment: &[u8], out: &mut [u8]) -> Converted
+    ensures { λ r. ⌜ convertedOf r (now (out .exit)) ≡ shortOf (malformedAt (Decoding.decode (now (fragment .entry)))) (now (out .entry)) ⌝ }
 {
     match decode::count_instructions(fragment) {
-        decode::Counted::Whole(_) => Converted {
-            number: 27,
-            offset: 0,
-            size: 0,
-        },
-        decode::Counted::Malformed(offset) => Converted {
-            number: 3,
-            offset,
-            size: 0,
-        },
+        decode::Counted::Whole(_) => refused(out, 27, 0),
+        decode::Counted::Malformed(offset) => refused(out, 3, offset),
     }
 }
 
-// The lister: a fragment into a lent output.
+// The lister: a fragment into a lent output. Nothing is written before the whole fragment is decoded.
 pub fn list(fragment: &[u8], out: &mut [u8]) -> Converted
-    ensures { λ r.
-        ⌜
-        convertedOf r (now (out .exit))
-        ≡ Listing.listed (now (fragment .entry)) (now (out .entry))
-        ⌝ }
+    ensures { λ r. ⌜ convertedOf r (now (out .exit)) ≡ Listing.listed (now (fragment .entry)) (now (out .entry)) ⌝ }
 {
     let letters = all_letters();
     let starts = all_starts();
     match measure(fragment, &starts, out.len()) {
-        Measured::Malformed(offset) => Converted {
-            number: 3,
-            offset,
-            size: 0,
-        },
-        Measured::Short => short_output(fragment),
+        Measured::Malformed(offset) => refused(out, 3, offset),
+        Measured::Short => short_output(fragment, out),
         Measured::Fits(size) => {
             write_listing(out, fragment, &letters, &starts);
             Converted {

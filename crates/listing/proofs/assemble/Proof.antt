@@ -27,8 +27,17 @@ judge-requires c κs = search needs
 enum-known-offset : tie.Need-enum-known-offset
 enum-known-offset c = search needs
 
+refused-requires : tie.Need-refused-requires
+refused-requires c κs = search needs
+
 enum-known-size : tie.Need-enum-known-size
 enum-known-size c = search needs
+
+refused-requires-2 : tie.Need-refused-requires-2
+refused-requires-2 c κs = search needs
+
+same-length : tie.Need-same-length
+same-length c = search needs
 
 returns : tie.Need-returns
 returns c = search (assembled-short)
@@ -45,11 +54,14 @@ slice-aggregate-write-words-3 c = search needs
 write-words-requires : tie.Need-write-words-requires
 write-words-requires c κs = (search needs, (search needs, (search needs, (search (gives-good), search (assembled-room)))))
 
+same-length-2 : tie.Need-same-length-2
+same-length-2 c = search needs
+
 returns-2 : tie.Need-returns-2
 returns-2 c = search (assembled-strange)
 
-same-length : tie.Need-same-length
-same-length c = search needs
+same-length-3 : tie.Need-same-length-3
+same-length-3 c = search needs
 
 returns-3 : tie.Need-returns-3
 returns-3 c = search (assembled-done)
@@ -66,12 +78,16 @@ assemble-spec =
     slice-aggregate-judge-3
     judge-requires
     enum-known-offset
+    refused-requires
     enum-known-size
+    refused-requires-2
+    same-length
     returns
     slice-aggregate-write-words
     slice-aggregate-write-words-2
     slice-aggregate-write-words-3
     write-words-requires
+    same-length-2
     returns-2
-    same-length
+    same-length-3
     returns-3)

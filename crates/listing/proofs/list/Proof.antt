@@ -1,4 +1,4 @@
-use Rattle.listing.proofs.Listings.{listed-refused, short-answer, fits-whole, fits-room, listed-done}
+use Rattle.listing.proofs.Listings.{listed-refused, listed-short, fits-whole, fits-room, listed-done}
 use borrow.Author.Needs.{needs}
 use Rattle.listing.proofs.list.Statement.{statement}
 use Rattle.listing.proofs.list.Tie as tie
@@ -18,6 +18,9 @@ measure-requires c κs = search needs
 enum-known-offset : tie.Need-enum-known-offset
 enum-known-offset c = search needs
 
+refused-requires : tie.Need-refused-requires
+refused-requires c κs = search needs
+
 enum-told : tie.Need-enum-told
 enum-told c = search needs
 
@@ -36,14 +39,20 @@ slice-aggregate-write-listing-2 c = search needs
 write-listing-requires : tie.Need-write-listing-requires
 write-listing-requires c κs = (search needs, (search needs, (search (fits-whole), search (fits-room))))
 
+same-length : tie.Need-same-length
+same-length c = search needs
+
 returns : tie.Need-returns
 returns c = search (listed-refused)
 
-returns-2 : tie.Need-returns-2
-returns-2 c = search (short-answer)
+same-length-2 : tie.Need-same-length-2
+same-length-2 c = search needs
 
-same-length : tie.Need-same-length
-same-length c = search needs
+returns-2 : tie.Need-returns-2
+returns-2 c = search (listed-short)
+
+same-length-3 : tie.Need-same-length-3
+same-length-3 c = search needs
 
 returns-3 : tie.Need-returns-3
 returns-3 c = search (listed-done)
@@ -57,13 +66,16 @@ list-spec =
     slice-aggregate-measure
     measure-requires
     enum-known-offset
+    refused-requires
     enum-told
     short-output-requires
     enum-known-size
     slice-aggregate-write-listing
     slice-aggregate-write-listing-2
     write-listing-requires
-    returns
-    returns-2
     same-length
+    returns
+    same-length-2
+    returns-2
+    same-length-3
     returns-3)
