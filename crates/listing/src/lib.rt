@@ -1038,7 +1038,7 @@ fn push_size(n: usize) -> usize
     requires { ⌜ n ≤ 4294967295 ⌝ }
     ensures { λ r. ⌜ r ≡ length (headOf n) + n ⌝ }
 {
-    if n <= 0x4b {
+    if n < 0x4c {
         return 1 + n;
     }
     if n <= 255 {
@@ -1100,11 +1100,11 @@ fn judge(listing: &[u8], letters: &[u8], starts: &[u16], codes: &[u8]) -> Judged
     let mut size = 0;
     loop {
         let end = word_end(listing, at);
-        let n = word_size(&listing[at..end], letters, starts, codes);
-        if n == 0 {
+        let count = word_size(&listing[at..end], letters, starts, codes);
+        if count == 0 {
             return Judged::Strays(at);
         }
-        size += n;
+        size += count;
         if end == listing.len() {
             return Judged::Gives(size);
         }
@@ -1238,10 +1238,11 @@ fn write_words(
 fn refused(out: &mut [u8], number: u32, offset: usize) -> Converted
     ensures { λ r. ⌜ convertedOf r (now (out .exit)) ≡ Listing.unwritten number offset (now (out .entry)) ⌝ }
 {
+    let size: usize = 0;
     Converted {
         number,
         offset,
-        size: 0,
+        size,
     }
 }
 
