@@ -12,6 +12,7 @@ pub mod TrueOfPaper
 pub mod LongData
 pub mod Blanked
 pub mod Witnesses
+pub mod Listings
 pub mod PrintedPapers
 pub mod NumberForm
 pub mod Sittings
