@@ -9,5 +9,6 @@ pub mod TrueOfEveryReplay
 pub mod TrueOfPaper
 pub mod Witnesses
 pub mod Listings
+pub mod NameRule
 pub mod PrintedPapers
 pub mod NumberForm
