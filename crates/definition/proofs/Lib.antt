@@ -10,5 +10,6 @@ pub mod TrueOfPaper
 pub mod Witnesses
 pub mod Listings
 pub mod NameRule
+pub mod ListedWords
 pub mod PrintedPapers
 pub mod NumberForm
