@@ -287,3 +287,188 @@ unmodelledWordFor v b e =
     by [] p q = let z : _≡_ {A = ℕ} 0 1 = cc in absurd (omega arith)
     by (c ∷ []) p q = one c (eqb (classNumber c) 0) (leb c 0x4e) refl refl p q
     by (c ∷ d ∷ l) p q = let z : _≡_ {A = ℕ} 0 1 = cc in absurd (omega arith)
+
+zeroStands : (rest : Bytes) → front 0 rest ≡ whole 0 []
+unfolding front
+zeroStands rest = refl
+
+-- a name
+nameWordFor : (w b : Bytes) → codeIn nameTable w ≡ some b → WordFor w b
+unfolding nameOf
+nameWordFor w b e =
+    let found = nameRead w b e in
+    by (found .0) (found .1) (found .2) (eqb (found .0) 0 && same w (text "Op0")) refl (found .2 .namable)
+  where
+    by : (code : ℕ) → b ≡ code ∷ [] → Ruled code w → (t : Bool) → (eqb code 0 && same w (text "Op0")) ≡ t
+        → (t || (ltb 0x4e code && not (eqb (classNumber code) 0))) ≡ true → WordFor w b
+    by code p r true q h =
+        let u = both (eqb code 0) (same w (text "Op0")) q in
+        let z : code ≡ 0 = eqb-true code 0 (u .0) in
+        let is : b ≡ 0 ∷ [] = cc in
+        let w0 : w ≡ text "Op0" = sameEqual w (text "Op0") (u .1) in
+        record { code = 0; literal = []; is = record { after = []; parts = is; stands = zeroStands }; word = λ offset. sym w0 }
+    by code p r false q h =
+        let u = both (ltb 0x4e code) (not (eqb (classNumber code) 0)) h in
+        let high : 0x4e < code = ltb-true 0x4e code (u .0) in
+        record {
+          code = code;
+          literal = alone code;
+          is = rw p (aloneWhole code high);
+          word = λ offset. rw (lt-leb code 0x4e high, not-true (eqb (classNumber code) 0) (u .1)) (r .written);
+        }
+
+-- a word that is read gives one whole instruction, whose word it is
+pub wordInstruction : (w b : Bytes) → wordRead w ≡ some b → WordFor w b
+unfolding wordRead
+wordInstruction w b = by (same (take 1 w) (text "<")) (same (take 2 w) (text "0x")) refl refl
+  where
+    by : (s t : Bool) → same (take 1 w) (text "<") ≡ s → same (take 2 w) (text "0x") ≡ t
+        → pick s (onRead (beforeEnd (drop 1 w)) (λ l. onRead (hexRead l) pushRead))
+          (pick t (onRead (hexRead (drop 2 w)) unmodelledRead) (codeIn nameTable w)) ≡ some b
+        → WordFor w b
+    by true t p q e = rw (firstIs w 60 p) (dataWordFor (drop 1 w) b e)
+    by false true p q e = rw (twoAre w 48 120 q) (unmodelledWordFor (drop 2 w) b e)
+    by false false p q e = nameWordFor w b e
+
+-- The word of an instruction
+
+-- what decoding a fragment of bytes knows of an instruction
+pub record Decoded (i : Instruction) : Type 0 where
+  pub byte : i .opcode < 256
+  pub bytes : AreBytes (i .literal)
+  pub fits : i .opcode ≤ 0x4e → length (i .literal) ≤ 4294967295
+  pub sole : 0x4e < i .opcode → i .literal ≡ alone (i .opcode)
+
+-- the instruction, a push in its shortest form
+abbrev pub formOf : Instruction → Bytes
+formOf i = pick (leb (i .opcode) 0x4e) (inForm (pushOf (i .literal))) (i .opcode ∷ [])
+
+-- read as b, and one word
+pub record ReadAs (w b : Bytes) : Type 0 where
+  pub read : wordRead w ≡ some b
+  pub letters : same w [] ≡ false
+  pub spaceless : noSpace w ≡ true
+
+noDataRead : ReadAs (dataWord []) (inForm (pushOf []))
+unfolding wordRead nameTable pushOf
+noDataRead = record { read = refl; letters = refl; spaceless = refl }
+
+hexSpaceless : (d m : Bytes) → AreBytes d → noSpace m ≡ true → noSpace (hexBytes d ++ m) ≡ true
+hexSpaceless [] m bs e = e
+hexSpaceless (b ∷ l) m bs e = rw (digit (b / 16 % 16) (omega arith), digit (b % 16) (omega arith), hexSpaceless l m (bs .1) e)
+  where
+    digit : (x : ℕ) → x < 16 → eqb (hexDigit x) 32 ≡ false
+    digit x h = by (ltb x 10)
+      where
+        by : (t : Bool) → eqb (pick t (48 + x) (87 + x)) 32 ≡ false
+        by true = ne-eqb (48 + x) 32 (λ q. omega arith)
+        by false = ne-eqb (87 + x) 32 (λ q. omega arith)
+
+-- data
+dataRead : (l : Bytes) → AreBytes l → length l ≤ 4294967295 → ReadAs (dataWord l) (inForm (pushOf l))
+unfolding wordRead
+dataRead [] bs fits = noDataRead
+dataRead (b ∷ l) bs fits =
+    record {
+      read = rw (endIsRead (hexBytes (b ∷ l)), hexIsRead (b ∷ l) bs) (hasForm (b ∷ l) fits);
+      letters = refl;
+      spaceless = hexSpaceless (b ∷ l) (62 ∷ []) bs refl;
+    }
+
+-- an unmodelled code
+unmodelledIsRead : (code : ℕ) → code < 256 → eqb (classNumber code) 0 ≡ true → ReadAs (text "0x" ++ hexByte code) (code ∷ [])
+unfolding wordRead
+unmodelledIsRead code h e =
+    record {
+      read = rw (hexIsRead (code ∷ []) (h, tt), e);
+      letters = refl;
+      spaceless = hexSpaceless (code ∷ []) [] (h, tt) refl;
+    }
+
+-- a name
+nameIsRead : (code : ℕ) (w : Bytes) → Ruled code w → ReadAs w (code ∷ [])
+unfolding wordRead
+nameIsRead code w r = record { read = rw (r .noData, r .noCode) (r .read); letters = r .letters; spaceless = r .spaceless }
+
+codeRead : (code : ℕ) → 0x4e < code → code < 256 → ReadAs (codeWord code) (code ∷ [])
+codeRead code g h = by (eqb (classNumber code) 0) refl
+  where
+    by : (t : Bool) → eqb (classNumber code) 0 ≡ t → ReadAs (pick t (text "0x" ++ hexByte code) (nameOf code)) (code ∷ [])
+    by true e = unmodelledIsRead code h e
+    by false e = nameIsRead code (nameOf code) (codeNamed code g h e)
+
+-- the word of an instruction is read as the instruction in its shortest form
+pub wordOfRead : (i : Instruction) → Decoded i → ReadAs (wordOf i) (formOf i)
+wordOfRead i d = by (leb (i .opcode) 0x4e) refl
+  where
+    by : (t : Bool) → leb (i .opcode) 0x4e ≡ t
+        → ReadAs (pick t (dataWord (i .literal)) (codeWord (i .opcode))) (pick t (inForm (pushOf (i .literal))) (i .opcode ∷ []))
+    by true e = dataRead (i .literal) (d .bytes) (d .fits (leb-true (i .opcode) 0x4e e))
+    by false e = codeRead (i .opcode) (leb-false (i .opcode) 0x4e e) (d .byte)
+
+-- The shortest form of an instruction
+
+-- b is one instruction, i but for the form of a push and the offset
+pub record FormFor (i : Instruction) (b : Bytes) : Type 0 where
+  pub code : ℕ
+  pub is : Whole b code (i .literal)
+  pub alike : ((i .opcode ≤ 0x4e) × (code ≤ 0x4e)) ⊎ (i .opcode ≡ code)
+
+pub formWhole : (i : Instruction) → Decoded i → FormFor i (formOf i)
+formWhole i d = by (leb (i .opcode) 0x4e) refl
+  where
+    by : (t : Bool) → leb (i .opcode) 0x4e ≡ t → FormFor i (pick t (inForm (pushOf (i .literal))) (i .opcode ∷ []))
+    by true e =
+        let low : i .opcode ≤ 0x4e = leb-true (i .opcode) 0x4e e in
+        let p : Pushed (i .literal) (inForm (pushOf (i .literal))) = pushOfIs (i .literal) (inForm (pushOf (i .literal))) (hasForm (i .literal) (d .fits low)) in
+        record { code = p .code; is = p .is; alike = inl (low, p .low) }
+    by false e =
+        let high : 0x4e < i .opcode = leb-false (i .opcode) 0x4e e in
+        record { code = i .opcode; is = rw (d .sole high) (aloneWhole (i .opcode) high); alike = inr refl }
+
+-- Decoded instructions
+
+takeBytes : (n : ℕ) (l : Bytes) → AreBytes l → AreBytes (take n l)
+takeBytes zero l bs = tt
+takeBytes (suc n) [] bs = tt
+takeBytes (suc n) (b ∷ l) bs = (bs .0, takeBytes n l (bs .1))
+
+dropBytes : (n : ℕ) (l : Bytes) → AreBytes l → AreBytes (drop n l)
+dropBytes zero l bs = bs
+dropBytes (suc n) [] bs = tt
+dropBytes (suc n) (b ∷ l) bs = dropBytes n l (bs .1)
+
+aloneBytes : (code : ℕ) → code < 256 → AreBytes (alone code)
+aloneBytes code h = by (eqb code 0x4f) (leb 0x51 code && leb code 0x60)
+  where
+    by : (s t : Bool) → AreBytes (pick s (0x81 ∷ []) (pick t ((code - 0x50) ∷ []) []))
+    by true t = (omega arith, tt)
+    by false true = (omega arith, tt)
+    by false false = tt
+
+-- n bytes are a number below 256 ^ n
+numberBelow : (n : ℕ) (l : Bytes) → AreBytes l → number (take n l) < 256 ^ n
+numberBelow zero l bs = omega arith
+numberBelow (suc n) [] bs = let p : 256 ^ suc n ≡ 256 * 256 ^ n = pow-succ' 256 n in omega (arith, numberBelow n [] tt)
+numberBelow (suc n) (b ∷ l) bs = let p : 256 ^ suc n ≡ 256 * 256 ^ n = pow-succ' 256 n in omega (arith, numberBelow n l (bs .1))
+
+-- the literal of a data push
+record Data (l : Bytes) : Type 0 where
+  bytes : AreBytes l
+  fits : length l ≤ 4294967295
+
+pushesData : (before size after : ℕ) (rest l : Bytes) → AreBytes rest → size ≤ 4294967295 → pushes before size rest ≡ whole after l → Data l
+pushesData before size after rest l bs h = by (leb size (length rest))
+  where
+    by : (t : Bool) → pick t (whole (before + size) (take size rest)) short ≡ whole after l → Data l
+    by true e =
+        let is : take size rest ≡ l = cc in
+        rw (← is) (record { bytes = takeBytes size rest bs; fits = omega (arith, length-take size rest) })
+    by false e = let z : _≡_ {A = ℕ} 0 1 = cc in absurd (omega arith)
+
+sizedData : (n after : ℕ) (rest l : Bytes) → AreBytes rest → 256 ^ n ≤ 4294967296 → sized n rest ≡ whole after l → Data l
+sizedData n after rest l bs h = by (leb n (length rest))
+  where
+    by : (t : Bool) → pick t (pushes n (number (take n rest)) (drop n rest)) short ≡ whole after l → Data l
+    by true e = pushesData n (number (take n rest)) after (drop n rest) l (dropBytes n rest bs) (omega (arith, numberBelow n rest bs)) e
+    by false e = let z : _≡_ {A = ℕ} 0 1 = cc in absurd (omega arith)
