@@ -472,3 +472,42 @@ sizedData n after rest l bs h = by (leb n (length rest))
     by : (t : Bool) → pick t (pushes n (number (take n rest)) (drop n rest)) short ≡ whole after l → Data l
     by true e = pushesData n (number (take n rest)) after (drop n rest) l (dropBytes n rest bs) (omega (arith, numberBelow n rest bs)) e
     by false e = let z : _≡_ {A = ℕ} 0 1 = cc in absurd (omega arith)
+
+dataDecoded : (code offset : ℕ) (l : Bytes) → code ≤ 0x4e → Data l → Decoded (record { opcode = code; offset = offset; literal = l })
+dataDecoded code offset l h d =
+    record { byte = omega arith; bytes = d .bytes; fits = λ k. d .fits; sole = λ k. absurd (omega arith) }
+
+pub frontDecoded : (code offset after : ℕ) (rest l : Bytes) → code < 256 → AreBytes rest → front code rest ≡ whole after l
+    → Decoded (record { opcode = code; offset = offset; literal = l })
+unfolding front
+frontDecoded code offset after rest l h bs =
+    by (leb 0x01 code && leb code 0x4b) (eqb code 0x4c) (eqb code 0x4d) (eqb code 0x4e) refl refl refl refl
+  where
+    D : Type 0
+    D = Decoded (record { opcode = code; offset = offset; literal = l })
+
+    sole : (is : alone code ≡ l) → (code ≤ 0x4e → code ≡ 0) → D
+    sole is z =
+        rw (← is) (record { byte = h; bytes = aloneBytes code h; fits = λ k. none (z k); sole = λ k. refl })
+      where
+        none : code ≡ 0 → length (alone code) ≤ 4294967295
+        none e = rw e (omega arith)
+
+    by : (p q r s : Bool) → (leb 0x01 code && leb code 0x4b) ≡ p → eqb code 0x4c ≡ q → eqb code 0x4d ≡ r → eqb code 0x4e ≡ s
+        → pick p (pushes 0 code rest) (pick q (sized 1 rest) (pick r (sized 2 rest) (pick s (sized 4 rest) (whole 0 (alone code)))))
+          ≡ whole after l
+        → D
+    by true q r s e f g k is =
+        let low : code ≤ 0x4b = leb-true code 0x4b (both (leb 0x01 code) (leb code 0x4b) e .1) in
+        dataDecoded code offset l (omega arith) (pushesData 0 code after rest l bs (omega arith) is)
+    by false true r s e f g k is = dataDecoded code offset l (omega (arith, eqb-true code 0x4c f)) (sizedData 1 after rest l bs (omega arith) is)
+    by false false true s e f g k is = dataDecoded code offset l (omega (arith, eqb-true code 0x4d g)) (sizedData 2 after rest l bs (omega arith) is)
+    by false false false true e f g k is = dataDecoded code offset l (omega (arith, eqb-true code 0x4e k)) (sizedData 4 after rest l bs (omega arith) is)
+    by false false false false e f g k is =
+        sole (cc) (λ low. small (leb 0x01 code) (leb code 0x4b) refl refl e low)
+      where
+        small : (s t : Bool) → leb 0x01 code ≡ s → leb code 0x4b ≡ t → (s && t) ≡ false → code ≤ 0x4e → code ≡ 0
+        small true true p q e low = let z : _≡_ {A = ℕ} 0 1 = cc in absurd (omega arith)
+        small true false p q e low =
+            omega (arith, leb-false code 0x4b q, eqb-false code 0x4c f, eqb-false code 0x4d g, eqb-false code 0x4e k)
+        small false t p q e low = omega (arith, leb-false 0x01 code p)
