@@ -11,5 +11,6 @@ pub mod Witnesses
 pub mod Listings
 pub mod NameRule
 pub mod ListedWords
+pub mod ListingsBack
 pub mod PrintedPapers
 pub mod NumberForm

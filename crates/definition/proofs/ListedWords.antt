@@ -124,7 +124,7 @@ passed (b ∷ l) rest offset =
 
 pub decodeWhole : (b rest : Bytes) (code offset : ℕ) (literal : Bytes) (w : Whole b code literal)
     → decodeFrom 0 offset (b ++ rest)
-      ≡ then (record { opcode = code; offset = offset; literal = literal }) (decodeFrom 0 (offset + 1 + length (w .after)) rest)
+    ≡ then (record { opcode = code; offset = offset; literal = literal }) (decodeFrom 0 (offset + 1 + length (w .after)) rest)
 decodeWhole b rest code offset literal w = rw (w .parts, w .stands rest, passed (w .after) rest (offset + 1))
 
 -- a code above the data pushes stands alone
@@ -159,9 +159,15 @@ sizedStand k l rest h =
     let n : length (lowestFirst k (length l)) ≡ k = lowestFirstLength k (length l) in
     let sum : length (lowestFirst k (length l) ++ (l ++ rest)) ≡ k + length (l ++ rest) = length-append (lowestFirst k (length l)) (l ++ rest) ∙ ap (_+ length (l ++ rest)) n in
     let all : length (lowestFirst k (length l) ++ l) ≡ k + length l = length-append (lowestFirst k (length l)) l ∙ ap (_+ length l) n in
-    rw (append-assoc (lowestFirst k (length l)) l rest, all, le-leb k (length (lowestFirst k (length l) ++ (l ++ rest))) (omega arith),
-        take-at (lowestFirst k (length l)) (l ++ rest) k n, drop-at (lowestFirst k (length l)) (l ++ rest) k n, lowestFirstNumber k (length l) h)
-       (dataStand k l rest)
+    rw (
+      append-assoc (lowestFirst k (length l)) l rest,
+      all,
+      le-leb k (length (lowestFirst k (length l) ++ (l ++ rest))) (omega arith),
+      take-at (lowestFirst k (length l)) (l ++ rest) k n,
+      drop-at (lowestFirst k (length l)) (l ++ rest) k n,
+      lowestFirstNumber k (length l) h,
+    )
+    (dataStand k l rest)
 
 -- a data push of l
 pub record Pushed (l b : Bytes) : Type 0 where
@@ -194,9 +200,9 @@ pushOfIs l b = by (leb (length l) 0x4b) (leb (length l) 255) (leb (length l) 655
   where
     by : (p q r s : Bool) → leb (length l) 0x4b ≡ p → leb (length l) 255 ≡ q → leb (length l) 65535 ≡ r → leb (length l) 4294967295 ≡ s
         → pick p (some (length l ∷ l))
-          (pick q (some (0x4c ∷ lowestFirst 1 (length l) ++ l))
-          (pick r (some (0x4d ∷ lowestFirst 2 (length l) ++ l))
-          (pick s (some (0x4e ∷ lowestFirst 4 (length l) ++ l)) none))) ≡ some b
+        (pick q (some (0x4c ∷ lowestFirst 1 (length l) ++ l))
+        (pick r (some (0x4d ∷ lowestFirst 2 (length l) ++ l))
+        (pick s (some (0x4e ∷ lowestFirst 4 (length l) ++ l)) none))) ≡ some b
         → Pushed l b
     by true q r s e f g h is =
         let fits : length l ≤ 0x4b = leb-true (length l) 0x4b e in
@@ -219,13 +225,13 @@ hasForm l fits = by (leb (length l) 0x4b) (leb (length l) 255) (leb (length l) 6
   where
     by : (p q r : Bool)
         → pick p (some (length l ∷ l))
-          (pick q (some (0x4c ∷ lowestFirst 1 (length l) ++ l))
-          (pick r (some (0x4d ∷ lowestFirst 2 (length l) ++ l))
-          (pick (leb (length l) 4294967295) (some (0x4e ∷ lowestFirst 4 (length l) ++ l)) none)))
-          ≡ some (inForm (pick p (some (length l ∷ l))
-          (pick q (some (0x4c ∷ lowestFirst 1 (length l) ++ l))
-          (pick r (some (0x4d ∷ lowestFirst 2 (length l) ++ l))
-          (pick (leb (length l) 4294967295) (some (0x4e ∷ lowestFirst 4 (length l) ++ l)) none)))))
+        (pick q (some (0x4c ∷ lowestFirst 1 (length l) ++ l))
+        (pick r (some (0x4d ∷ lowestFirst 2 (length l) ++ l))
+        (pick (leb (length l) 4294967295) (some (0x4e ∷ lowestFirst 4 (length l) ++ l)) none)))
+        ≡ some (inForm (pick p (some (length l ∷ l))
+        (pick q (some (0x4c ∷ lowestFirst 1 (length l) ++ l))
+        (pick r (some (0x4d ∷ lowestFirst 2 (length l) ++ l))
+        (pick (leb (length l) 4294967295) (some (0x4e ∷ lowestFirst 4 (length l) ++ l)) none)))))
     by true q r = refl
     by false true r = refl
     by false false true = refl
@@ -324,7 +330,7 @@ wordInstruction w b = by (same (take 1 w) (text "<")) (same (take 2 w) (text "0x
   where
     by : (s t : Bool) → same (take 1 w) (text "<") ≡ s → same (take 2 w) (text "0x") ≡ t
         → pick s (onRead (beforeEnd (drop 1 w)) (λ l. onRead (hexRead l) pushRead))
-          (pick t (onRead (hexRead (drop 2 w)) unmodelledRead) (codeIn nameTable w)) ≡ some b
+        (pick t (onRead (hexRead (drop 2 w)) unmodelledRead) (codeIn nameTable w)) ≡ some b
         → WordFor w b
     by true t p q e = rw (firstIs w 60 p) (dataWordFor (drop 1 w) b e)
     by false true p q e = rw (twoAre w 48 120 q) (unmodelledWordFor (drop 2 w) b e)
@@ -495,7 +501,7 @@ frontDecoded code offset after rest l h bs =
 
     by : (p q r s : Bool) → (leb 0x01 code && leb code 0x4b) ≡ p → eqb code 0x4c ≡ q → eqb code 0x4d ≡ r → eqb code 0x4e ≡ s
         → pick p (pushes 0 code rest) (pick q (sized 1 rest) (pick r (sized 2 rest) (pick s (sized 4 rest) (whole 0 (alone code)))))
-          ≡ whole after l
+        ≡ whole after l
         → D
     by true q r s e f g k is =
         let low : code ≤ 0x4b = leb-true code 0x4b (both (leb 0x01 code) (leb code 0x4b) e .1) in
