@@ -2,7 +2,7 @@
 -- the word of a decoded instruction is read as the instruction in its shortest form (`wordOfRead`), which decodes to the same
 -- opcode, push forms aside, and data (`formWhole`).
 use mathlib.Core.Bool.{Bool, true, false, _&&_, _||_, not}
-use mathlib.Core.List.{List, [], _∷_, _++_, append-assoc}
+use mathlib.Core.List.{[], _∷_, _++_, append-assoc}
 use mathlib.Core.Logic.{_⊎_, inl, inr}
 use mathlib.Core.Option.{Option, none, some}
 use mathlib.Core.Path.{_≡_, refl, sym, ap, _∙_}
@@ -15,10 +15,10 @@ use lib.ListN.{length, take, drop, length-append, length-take}
 use lib.Seq.{take-at, drop-at}
 use Rattle.definition.specs.Basics.{Bytes, pick}
 use Rattle.definition.specs.Classes.{classNumber}
-use Rattle.definition.specs.Decoding.{number, Instruction, Front, whole, short, alone, pushes, sized, front, Code, then, decodeFrom}
+use Rattle.definition.specs.Decoding.{number, Instruction, whole, short, alone, pushes, sized, front, then, decodeFrom}
 use Rattle.definition.specs.Hex.{hexDigit, hexByte}
 use Rattle.definition.specs.Lines.{text}
-use Rattle.definition.specs.Listing.{hexBytes, dataWord, codeWord, wordOf, lowestFirst, pushOf, onRead, digitRead, hexRead, beforeEnd, pushRead, unmodelledRead, same, codeIn, wordRead, inForm, SameButForm}
+use Rattle.definition.specs.Listing.{hexBytes, dataWord, codeWord, wordOf, lowestFirst, pushOf, onRead, digitRead, hexRead, beforeEnd, pushRead, unmodelledRead, same, codeIn, wordRead, inForm}
 use Rattle.definition.specs.OpcodeNames.{nameTable, nameOf}
 use Rattle.definition.specs.Replay.{AreBytes}
 use Rattle.definition.proofs.NameRule.{both, sameEqual, noSpace, Ruled, nameRead, codeNamed}
@@ -116,12 +116,14 @@ pub record Whole (b : Bytes) (code : ℕ) (literal : Bytes) : Type 0 where
   pub parts : b ≡ code ∷ after
   pub stands : (rest : Bytes) → front code (after ++ rest) ≡ whole (length after) literal
 
+-- bytes that belong to the instruction before
 passed : (l rest : Bytes) (offset : ℕ) → decodeFrom (length l) offset (l ++ rest) ≡ decodeFrom 0 (offset + length l) rest
 passed [] rest offset = let is : offset + 0 ≡ offset = omega arith in rw is
 passed (b ∷ l) rest offset =
     let is : offset + 1 + length l ≡ offset + suc (length l) = omega arith in
     rw (passed l rest (offset + 1), is)
 
+-- it is decoded, and then what follows
 pub decodeWhole : (b rest : Bytes) (code offset : ℕ) (literal : Bytes) (w : Whole b code literal)
     → decodeFrom 0 offset (b ++ rest)
     ≡ then (record { opcode = code; offset = offset; literal = literal }) (decodeFrom 0 (offset + 1 + length (w .after)) rest)
@@ -136,7 +138,7 @@ standsAlone code h rest =
 pub aloneWhole : (code : ℕ) → 0x4e < code → Whole (code ∷ []) code (alone code)
 aloneWhole code h = record { after = []; parts = refl; stands = λ rest. standsAlone code h rest }
 
--- the length forms
+-- a length in so many bytes
 lowestFirstLength : (k n : ℕ) → length (lowestFirst k n) ≡ k
 lowestFirstLength zero n = refl
 lowestFirstLength (suc k) n = ap suc (lowestFirstLength k (n / 256))
@@ -175,6 +177,7 @@ pub record Pushed (l b : Bytes) : Type 0 where
   pub low : code ≤ 0x4e
   pub is : Whole b code l
 
+-- a length that is the opcode
 shortStand : (l rest : Bytes) → length l ≤ 0x4b → front (length l) (l ++ rest) ≡ whole (length l) l
 unfolding front
 shortStand [] rest h = refl
@@ -182,6 +185,7 @@ shortStand (b ∷ l) rest h =
     let is : 0 + length (b ∷ l) ≡ length (b ∷ l) = omega arith in
     rw (le-leb 0x01 (length (b ∷ l)) (omega arith), le-leb (length (b ∷ l)) 0x4b h) (dataStand 0 (b ∷ l) rest ∙ ap (λ (n : ℕ). whole n (b ∷ l)) is)
 
+-- the three length forms
 stand1 : (l rest : Bytes) → length l ≤ 255 → front 0x4c (lowestFirst 1 (length l) ++ l ++ rest) ≡ whole (length (lowestFirst 1 (length l) ++ l)) l
 unfolding front
 stand1 l rest h = sizedStand 1 l rest (omega arith)
@@ -194,6 +198,7 @@ stand4 : (l rest : Bytes) → length l ≤ 4294967295 → front 0x4e (lowestFirs
 unfolding front
 stand4 l rest h = sizedStand 4 l rest (omega arith)
 
+-- a push with the shortest length form is a data push of its data
 pub pushOfIs : (l b : Bytes) → pushOf l ≡ some b → Pushed l b
 unfolding pushOf
 pushOfIs l b = by (leb (length l) 0x4b) (leb (length l) 255) (leb (length l) 65535) (leb (length l) 4294967295) refl refl refl refl
@@ -218,24 +223,18 @@ pushOfIs l b = by (leb (length l) 0x4b) (leb (length l) 255) (leb (length l) 655
         record { code = 0x4e; low = omega arith; is = record { after = lowestFirst 4 (length l) ++ l; parts = cc; stands = λ rest. stand4 l rest fits } }
     by false false false false e f g h is = let z : _≡_ {A = ℕ} 0 1 = cc in absurd (omega arith)
 
--- so many bytes have a form
+-- data of up to 4,294,967,295 bytes have a form
 hasForm : (l : Bytes) → length l ≤ 4294967295 → pushOf l ≡ some (inForm (pushOf l))
 unfolding pushOf
-hasForm l fits = by (leb (length l) 0x4b) (leb (length l) 255) (leb (length l) 65535)
+hasForm l fits = rw (le-leb (length l) 4294967295 fits) (by (leb (length l) 0x4b) (leb (length l) 255) (leb (length l) 65535) _ _ _ _)
   where
-    by : (p q r : Bool)
-        → pick p (some (length l ∷ l))
-        (pick q (some (0x4c ∷ lowestFirst 1 (length l) ++ l))
-        (pick r (some (0x4d ∷ lowestFirst 2 (length l) ++ l))
-        (pick (leb (length l) 4294967295) (some (0x4e ∷ lowestFirst 4 (length l) ++ l)) none)))
-        ≡ some (inForm (pick p (some (length l ∷ l))
-        (pick q (some (0x4c ∷ lowestFirst 1 (length l) ++ l))
-        (pick r (some (0x4d ∷ lowestFirst 2 (length l) ++ l))
-        (pick (leb (length l) 4294967295) (some (0x4e ∷ lowestFirst 4 (length l) ++ l)) none)))))
-    by true q r = refl
-    by false true r = refl
-    by false false true = refl
-    by false false false = rw (le-leb (length l) 4294967295 fits)
+    by : (p q r : Bool) (w x y z : Bytes)
+        → pick p (some w) (pick q (some x) (pick r (some y) (some z)))
+        ≡ some (inForm (pick p (some w) (pick q (some x) (pick r (some y) (some z)))))
+    by true q r w x y z = refl
+    by false true r w x y z = refl
+    by false false true w x y z = refl
+    by false false false w x y z = refl
 
 -- A word that is read
 

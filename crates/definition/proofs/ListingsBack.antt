@@ -3,23 +3,23 @@
 -- which is not malformed (`shortestWhole`) and has the same instructions and data, push forms aside (`shortestSame`); it is its
 -- own shortest form (`shortestTwice`). The same of the functions that write into lent outputs with room (`assembledListed`,
 -- `listedAssembled`).
-use mathlib.Core.Bool.{Bool, true, false, _&&_, not}
+use mathlib.Core.Bool.{Bool, true, false, not}
 use mathlib.Core.List.{List, [], _∷_, _++_, append-assoc}
-use mathlib.Core.Logic.{_⊎_, inl, inr}
+use mathlib.Core.Logic.{inl, inr}
 use mathlib.Core.Option.{Option, none, some}
-use mathlib.Core.Path.{_≡_, refl, sym, ap, _∙_}
-use Prim.Native.Nat.{ℕ, zero, suc, _+_, _≤_, _<_}
+use mathlib.Core.Path.{_≡_, refl, ap, _∙_}
+use Prim.Native.Nat.{ℕ, zero, suc, _+_, _≤_}
 use native.Mathlib.Omega.{arith}
-use borrow.Author.Tests.{leb-true, eqb-true, le-leb, lt-leb, not-true}
+use borrow.Author.Tests.{eqb-true, le-leb, not-true}
 use lib.Dec.{leb, eqb}
-use lib.ListN.{length, take, drop, length-append}
+use lib.ListN.{length, take, drop}
 use lib.Seq.{take-at}
 use Rattle.definition.specs.Basics.{Bytes, pick}
-use Rattle.definition.specs.Decoding.{Instruction, Front, whole, short, front, Code, ends, malformed, then, onFront, decodeFrom, decode, instructions, malformedAt}
+use Rattle.definition.specs.Decoding.{Instruction, Front, whole, short, front, onFront, decodeFrom, decode, instructions, malformedAt}
 use Rattle.definition.specs.Lines.{text}
-use Rattle.definition.specs.Listing.{wordOf, parted, same, wordRead, inFront, wordsFrom, words, Assembly, gives, strange, onWord, assembly, Converted, unwritten, put, onAssembly, assembled, onDecoded, listed, pushOf, inForm, shortestOf, shortest, SameButForm, SameButForms}
+use Rattle.definition.specs.Listing.{wordOf, parted, same, wordRead, inFront, wordsFrom, words, Assembly, gives, strange, onWord, assembly, Converted, unwritten, put, onAssembly, assembled, onDecoded, listed, shortestOf, shortest, SameButForm, SameButForms}
 use Rattle.definition.specs.Replay.{AreBytes}
-use Rattle.definition.proofs.ListedWords.{Whole, decodeWhole, WordFor, wordInstruction, Decoded, formOf, ReadAs, wordOfRead, FormFor, formWhole, frontDecoded}
+use Rattle.definition.proofs.ListedWords.{decodeWhole, WordFor, wordInstruction, Decoded, formOf, wordOfRead, formWhole, frontDecoded}
 use Rattle.definition.proofs.NameRule.{both, noSpace}
 
 -- Words and spaces

@@ -1,18 +1,18 @@
--- Document 02, L4: the rule of the name table, one test computed over the whole table (`namesRuled`) and over the codes above
--- the data pushes (`codesNamed`), and carried to the entry that a name leads to (`nameRead`) or a code (`codeNamed`).
+-- Document 02, L4: the rule of the name table, one test that is computed once (`tableRuled`) and carried to the entry that a name
+-- (`nameRead`) or a code (`codeNamed`) leads to.
 use mathlib.Core.Bool.{Bool, true, false, _&&_, _||_, not}
 use mathlib.Core.List.{List, [], _∷_}
 use mathlib.Core.Option.{Option, none, some}
 use mathlib.Core.Path.{_≡_, refl}
 use Prim.Native.Nat.{ℕ, zero, suc, _+_, _≤_, _<_}
 use native.Mathlib.Omega.{arith}
-use borrow.Author.Tests.{ltb-true, eqb-true, eqb-false, not-true}
+use borrow.Author.Tests.{eqb-true, eqb-false, not-true}
 use lib.Dec.{ltb, eqb}
 use lib.ListN.{take}
 use Rattle.definition.specs.Basics.{Bytes, pick}
 use Rattle.definition.specs.Classes.{classNumber}
 use Rattle.definition.specs.Lines.{text}
-use Rattle.definition.specs.Listing.{same, codeIn, wordRead}
+use Rattle.definition.specs.Listing.{same, codeIn}
 use Rattle.definition.specs.OpcodeNames.{Named, nameTable, nameIn, nameOf}
 
 -- Tests
@@ -57,10 +57,6 @@ abbrev all : (Named → Bool) → List Named → Bool
 all test [] = true
 all test (n ∷ l) = test n && all test l
 
-namesRuled : all ruled nameTable ≡ true
-unfolding nameTable classNumber
-namesRuled = refl
-
 -- a code above the data pushes is unmodelled or has a name
 abbrev isNamed : ℕ → Bool
 isNamed code = eqb (classNumber code) 0 || not (same (nameIn nameTable code) [])
@@ -70,9 +66,14 @@ abbrev every : (ℕ → Bool) → ℕ → ℕ → Bool
 every test zero lo = true
 every test (suc n) lo = test lo && every test n (suc lo)
 
-codesNamed : every isNamed 177 0x4f ≡ true
+-- the rule: of every entry, and of the codes 4f to ff
+tableRuled : (all ruled nameTable && every isNamed 177 0x4f) ≡ true
 unfolding nameTable classNumber
-codesNamed = refl
+tableRuled = refl
+
+-- its two halves
+halves : (all ruled nameTable ≡ true) × (every isNamed 177 0x4f ≡ true)
+halves = both (all ruled nameTable) (every isNamed 177 0x4f) tableRuled
 
 -- Carried to an entry
 
@@ -139,6 +140,7 @@ entryOfCode test (n ∷ l) code t e =
     by true p q u later = rw (← (eqb-true (n .code) code p)) u
     by false p q u later = later q
 
+-- and to a code of the range
 everyAt : (test : ℕ → Bool) (n lo x : ℕ) → every test n lo ≡ true → lo ≤ x → x < lo + n → test x ≡ true
 everyAt test zero lo x t g h = absurd (omega arith)
 everyAt test (suc n) lo x t g h =
@@ -152,14 +154,14 @@ everyAt test (suc n) lo x t g h =
 -- a name that is read is that of its code
 pub nameRead : (w b : Bytes) → codeIn nameTable w ≡ some b → (code : ℕ) × (b ≡ code ∷ []) × (Ruled code w)
 nameRead w b e =
-    let found = entryOfName ruled nameTable w b namesRuled e in
+    let found = entryOfName ruled nameTable w b (halves .0) e in
     (found .0, found .1, ruledSays (found .0) w (found .2))
 
 -- a modelled code above the data pushes has a name
 pub codeNamed : (code : ℕ) → 0x4e < code → code < 256 → eqb (classNumber code) 0 ≡ false → Ruled code (nameOf code)
 unfolding nameOf
 codeNamed code g h m =
-    ruledSays code (nameIn nameTable code) (entryOfCode ruled nameTable code namesRuled (named (eqb (classNumber code) 0) m (everyAt isNamed 177 0x4f code codesNamed (omega arith) (omega arith))))
+    ruledSays code (nameIn nameTable code) (entryOfCode ruled nameTable code (halves .0) (named (eqb (classNumber code) 0) m (everyAt isNamed 177 0x4f code (halves .1) (omega arith) (omega arith))))
   where
     named : (s : Bool) → s ≡ false → (s || not (same (nameIn nameTable code) [])) ≡ true → same (nameIn nameTable code) [] ≡ false
     named true p q = let z : _≡_ {A = ℕ} 0 1 = cc in absurd (omega arith)
