@@ -46,9 +46,9 @@ spacedInFront c (w ∷ []) = refl
 spacedInFront c (w ∷ v ∷ ws) = refl
 
 -- an empty word in front of others
-spacedEmpty : (c : ℕ) (l : Bytes) → spaced ([] ∷ wordsFrom l) ≡ 32 ∷ spaced (wordsFrom l)
-spacedEmpty c [] = refl
-spacedEmpty c (d ∷ l) = by (eqb d 32) (wordsFrom l)
+spacedEmpty : (l : Bytes) → spaced ([] ∷ wordsFrom l) ≡ 32 ∷ spaced (wordsFrom l)
+spacedEmpty [] = refl
+spacedEmpty (d ∷ l) = by (eqb d 32) (wordsFrom l)
   where
     by : (t : Bool) (ws : List Bytes) → spaced ([] ∷ pick t ([] ∷ ws) (inFront d ws)) ≡ 32 ∷ spaced (pick t ([] ∷ ws) (inFront d ws))
     by true ws = refl
@@ -61,7 +61,7 @@ wordsFromSpaced [] = refl
 wordsFromSpaced (c ∷ l) = by (eqb c 32) refl (wordsFromSpaced l)
   where
     by : (t : Bool) → eqb c 32 ≡ t → spaced (wordsFrom l) ≡ l → spaced (pick t ([] ∷ wordsFrom l) (inFront c (wordsFrom l))) ≡ c ∷ l
-    by true e h = rw (spacedEmpty c l, h, eqb-true c 32 e)
+    by true e h = rw (spacedEmpty l, h, eqb-true c 32 e)
     by false e h = rw (spacedInFront c (wordsFrom l), h)
 
 wordsSpaced : (l : Bytes) → spaced (words l) ≡ l
