@@ -1,8 +1,10 @@
 -- Document 02, L4: "Listings as people write them".
 use mathlib.Core.Bool.{Bool, true, false, _&&_}
 use mathlib.Core.List.{List, [], _∷_, _++_}
+use mathlib.Core.Logic.{_⊎_}
 use mathlib.Core.Option.{Option, none, some}
-use Prim.Native.Nat.{ℕ, zero, suc, _+_, _-_, _*_, _/_, _%_}
+use mathlib.Core.Path.{_≡_}
+use Prim.Native.Nat.{ℕ, zero, suc, _+_, _-_, _*_, _/_, _%_, _≤_}
 use lib.Dec.{leb, eqb}
 use lib.ListN.{length, take, drop}
 use Rattle.definition.specs.Basics.{Bytes, pick}
@@ -186,3 +188,15 @@ shortestOf (i ∷ is) = pick (leb (i .opcode) 0x4e) (inForm (pushOf (i .literal)
 
 unfoldable pub shortest : Bytes → Bytes
 shortest fragment = shortestOf (instructions (decode fragment))
+
+-- "the same instructions and data", push forms aside: both are data pushes, or the opcodes are equal; the data are equal; the
+-- offsets may differ
+abbrev pub SameButForm : Instruction → Instruction → Type 0
+SameButForm i j = (((i .opcode ≤ 0x4e) × (j .opcode ≤ 0x4e)) ⊎ (i .opcode ≡ j .opcode)) × (i .literal ≡ j .literal)
+
+-- one by one, and as many
+abbrev pub SameButForms : List Instruction → List Instruction → Type 0
+SameButForms [] [] = Unit {0}
+SameButForms [] (j ∷ js) = ⊥
+SameButForms (i ∷ is) [] = ⊥
+SameButForms (i ∷ is) (j ∷ js) = SameButForm i j × SameButForms is js
