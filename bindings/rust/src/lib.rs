@@ -551,14 +551,7 @@ pub fn list(fragment: &[u8], text: &mut [u8]) -> Converted {
     let mut out = [0; 3];
     // SAFETY: each slice is passed whole, with its own length, and the borrows keep `text` and `out` apart from the rest.
     let number = unsafe {
-        callee::listochur_list(
-            fragment.as_ptr(),
-            fragment.len(),
-            text.as_mut_ptr(),
-            text.len(),
-            out.as_mut_ptr(),
-            out.len(),
-        )
+        callee::listochur_list(fragment.as_ptr(), fragment.len(), text.as_mut_ptr(), text.len(), out.as_mut_ptr(), out.len())
     };
     let [_, offset, size] = out;
     Converted { number, offset: offset as usize, size: size as usize }
