@@ -224,12 +224,12 @@ pub fn all() -> String {
   listochur --version
 
 PAPER is a file, - for standard input, or, for mark and compare, a folder: every file in it, in the order of their
-names. REGISTER is a file that mark --csv wrote, or - for standard input. BYTES are hexadecimal
-digits, - for none, @FILE for the bytes of a file, @- for those of standard input. LISTING is the words of a listing,
-@FILE for those of a file, - for standard input.
+names. REGISTER is a file that mark --csv wrote, or - for standard input. BYTES are hexadecimal digits, - for none,
+@FILE for the bytes of a file, @- for those of standard input. LISTING is the words of a listing, @FILE for those of a
+file, - for standard input.
 
-Exit status: 0 all accepted, assembled, listed or equal; 1 some refused, or different; 2 bad usage, something that cannot be read, a write
-that failed. 2 goes before 1, and the other papers are marked all the same.
+Exit status: 0 all accepted, assembled, listed or equal; 1 some refused, or different; 2 bad usage, something that
+cannot be read, a write that failed. 2 goes before 1, and the other papers are marked all the same.
 
 For example:
 
