@@ -12,6 +12,10 @@ pub mod TrueOfPaper
 pub mod LongData
 pub mod Blanked
 pub mod Witnesses
+pub mod Listings
+pub mod NameRule
+pub mod ListedWords
+pub mod ListingsBack
 pub mod PrintedPapers
 pub mod NumberForm
 pub mod Sittings

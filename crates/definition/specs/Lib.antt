@@ -10,3 +10,6 @@ pub mod Papers
 pub mod Lines
 pub mod Sums
 pub mod Blank
+pub mod Hex
+pub mod OpcodeNames
+pub mod Listing

@@ -17,7 +17,7 @@ use lib.ListN.{length, take, getD, replicate}
 use Rattle.definition.specs.Basics.{Bytes, pick}
 use Rattle.definition.specs.Lines.{text, decimal, labelled}
 use Rattle.definition.specs.Papers.{display}
-use Rattle.text.specs.Hex.{hexByte}
+use Rattle.definition.specs.Hex.{hexByte}
 
 -- The numbers of a row
 

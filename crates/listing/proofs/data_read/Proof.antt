@@ -1,0 +1,65 @@
+use Rattle.listing.proofs.Words.{data-odd, data-short, data-unended, data-crooked, data-long, data-good}
+use borrow.Author.Needs.{needs}
+use Rattle.listing.proofs.data_read.Statement.{statement}
+use Rattle.listing.proofs.data_read.Tie as tie
+
+returns : tie.Need-returns
+returns c = search (data-odd)
+
+returns-2 : tie.Need-returns-2
+returns-2 c = search (data-short)
+
+sub-if3 : tie.Need-sub-if3
+sub-if3 c = search needs
+
+shared-slice-read-if3 : tie.Need-shared-slice-read-if3
+shared-slice-read-if3 c = search needs
+
+returns-3 : tie.Need-returns-3
+returns-3 c = search (data-unended)
+
+sub-all-digits : tie.Need-sub-all-digits
+sub-all-digits c = search needs
+
+sub-all-digits-2 : tie.Need-sub-all-digits-2
+sub-all-digits-2 c = search needs
+
+part-all-digits-start : tie.Need-part-all-digits-start
+part-all-digits-start c = search needs
+
+part-all-digits-end : tie.Need-part-all-digits-end
+part-all-digits-end c = search needs
+
+all-digits-requires : tie.Need-all-digits-requires
+all-digits-requires c κs = search needs
+
+returns-4 : tie.Need-returns-4
+returns-4 c = search (data-crooked)
+
+sub-size : tie.Need-sub-size
+sub-size c = search needs
+
+returns-5 : tie.Need-returns-5
+returns-5 c = search (data-long)
+
+returns-6 : tie.Need-returns-6
+returns-6 c = search (data-good)
+
+pub data-read-spec : {M : Type 1} → statement M
+data-read-spec =
+    tie.close
+    (tie.spec
+    returns
+    returns-2
+    sub-if3
+    shared-slice-read-if3
+    returns-3
+    sub-all-digits
+    sub-all-digits-2
+    part-all-digits-start
+    part-all-digits-end
+    all-digits-requires
+    returns-4
+    sub-size
+    returns-5
+    returns-6)
