@@ -805,13 +805,14 @@ const CODES: [u8; 512] = [
     157, // OpNumEqualVerify
 ];
 
-fn all_letters() -> [u8; 1242]
+// The tables, for those that write words one by one.
+pub fn all_letters() -> [u8; 1242]
     ensures { λ r. ⌜ r ≡ allLetters ⌝ }
 {
     LETTERS
 }
 
-fn all_starts() -> [u16; 257]
+pub fn all_starts() -> [u16; 257]
     ensures { λ r. ⌜ T (startsRight r) ⌝ }
 {
     STARTS
@@ -1270,7 +1271,7 @@ pub fn assemble(listing: &[u8], out: &mut [u8]) -> Converted
 }
 
 // How many bytes of length follow an opcode up to 4e.
-fn length_bytes(opcode: u8) -> usize
+pub fn length_bytes(opcode: u8) -> usize
     ensures same { λ r. ⌜ r ≡ lengthBytes opcode ⌝ }
     ensures short { λ r. ⌜ r ≤ 4 ⌝ }
 {
@@ -1369,7 +1370,7 @@ fn measure(fragment: &[u8], starts: &[u16], room: usize) -> Measured
 }
 
 // Bytes in hexadecimal.
-fn write_hex_bytes(out: &mut [u8], at: usize, bytes: &[u8]) -> usize
+pub fn write_hex_bytes(out: &mut [u8], at: usize, bytes: &[u8]) -> usize
     requires { ⌜ at + length (Listing.hexBytes (now bytes)) ≤ length (now out) ⌝ }
     ensures { λ r. ⌜ Written (now (out .entry)) at (Listing.hexBytes (now (bytes .entry))) (now (out .exit)) r ⌝ }
 {
@@ -1383,7 +1384,7 @@ fn write_hex_bytes(out: &mut [u8], at: usize, bytes: &[u8]) -> usize
 }
 
 // A word of data.
-fn write_data_word(out: &mut [u8], at: usize, bytes: &[u8]) -> usize
+pub fn write_data_word(out: &mut [u8], at: usize, bytes: &[u8]) -> usize
     requires { ⌜ at + length (Listing.dataWord (now bytes)) ≤ length (now out) ⌝ }
     ensures { λ r. ⌜ Written (now (out .entry)) at (Listing.dataWord (now (bytes .entry))) (now (out .exit)) r ⌝ }
 {
@@ -1396,7 +1397,13 @@ fn write_data_word(out: &mut [u8], at: usize, bytes: &[u8]) -> usize
 }
 
 // The word of a code that is no data push.
-fn write_code_word(out: &mut [u8], at: usize, opcode: u8, letters: &[u8], starts: &[u16]) -> usize
+pub fn write_code_word(
+    out: &mut [u8],
+    at: usize,
+    opcode: u8,
+    letters: &[u8],
+    starts: &[u16],
+) -> usize
     requires { ⌜ now letters ≡ allLetters ⌝ }
     requires { ⌜ T (startsRight (now starts)) ⌝ }
     requires { ⌜ at + length (Listing.codeWord opcode) ≤ length (now out) ⌝ }
