@@ -185,8 +185,8 @@ static void log_lines(void) {
     uint8_t text[512];
     const uint8_t paper[] = {1, 0, 0, 0, 14, 0, 0, 0, 2, 0, 14, 0, 1, 0, 0x75};
     const char *lines = "entry 0: length 1, from main 2 alt 0\n"
-                        "offset main  alt total |of 8            | bytes\n"
-                        "     0    2    0     2 |####............| 75\n"
+                        "offset main  alt total |of 8            | bytes       instruction\n"
+                        "     0    2    0     2 |####............| 75          OpDrop\n"
                         "accepted: peak 2, end main 1 alt 0\n"
                         "\n"
                         "accepted\n";

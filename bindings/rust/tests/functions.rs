@@ -251,14 +251,14 @@ fn log_of_a_paper() {
     let paper = paper(1, 0, &[0x75], &[0x6c, 0x6d]);
     let expected = b"\
 entry 0: length 1, from main 1 alt 0
-offset main  alt total |of 8            | bytes
-     0    1    0     1 |##..............| 75
+offset main  alt total |of 8            | bytes       instruction
+     0    1    0     1 |##..............| 75          OpDrop
 accepted: peak 1, end main 0 alt 0
 
 state: length 2, from main 0 alt 1
-offset main  alt total |of 8            | bytes
-     0    0    1     1 |##..............| 6c
-     1    1    0     1 |##..............| 6d
+offset main  alt total |of 8            | bytes       instruction
+     0    0    1     1 |##..............| 6c          OpFromAltStack
+     1    1    0     1 |##..............| 6d          Op2Drop
      ^ refused 7, main dry: needed 2, had 1
 
 refused 7 at 1 1 2 1

@@ -118,7 +118,7 @@ module _ (s : Bytes) (p : ℕ) (i : Instruction) (t : InstructionAt s p i) (d : 
       omega (arith, of-front (i .opcode) (f .after) (f .rest) (t .literal) h (f .is) .least, f .next)
 
   -- and are the literal
-  data-literal : i .opcode ≤ 0x4e → t .literal ≡ take (i .next - dataStart (i .opcode) p) (drop (dataStart (i .opcode) p) s)
+  pub data-literal : i .opcode ≤ 0x4e → t .literal ≡ take (i .next - dataStart (i .opcode) p) (drop (dataStart (i .opcode) p) s)
   data-literal h =
       let f = fronted in
       let n = lengthBytes (i .opcode) in

@@ -806,13 +806,14 @@ const CODES: [u8; 512] = [
     157, // OpNumEqualVerify
 ];
 
-fn all_letters() -> [u8; 1242]
+// The tables, for those that write words one by one.
+pub fn all_letters() -> [u8; 1242]
     ensures { λ r. ⌜ r ≡ allLetters ⌝ }
 {
     LETTERS
 }
 
-fn all_starts() -> [u16; 257]
+pub fn all_starts() -> [u16; 257]
     ensures { λ r. ⌜ T (startsRight r) ⌝ }
 {
     STARTS
@@ -1271,7 +1272,7 @@ pub fn assemble(listing: &[u8], out: &mut [u8]) -> Converted
 }
 
 // How many bytes of length follow an opcode up to 4e.
-fn length_bytes(opcode: u8) -> usize
+pub fn length_bytes(opcode: u8) -> usize
     ensures same { λ r. ⌜ r ≡ lengthBytes opcode ⌝ }
     ensures short { λ r. ⌜ r ≤ 4 ⌝ }
 {
@@ -1370,7 +1371,7 @@ fn measure(fragment: &[u8], starts: &[u16], room: usize) -> Measured
 }
 
 // Bytes in hexadecimal.
-fn write_hex_bytes(out: &mut [u8], at: usize, bytes: &[u8]) -> usize
+pub fn write_hex_bytes(out: &mut [u8], at: usize, bytes: &[u8]) -> usize
     requires { ⌜ at + length (Listing.hexBytes (now bytes)) ≤ length (now out) ⌝ }
     ensures { λ r. ⌜ Written (now (out .entry)) at (Listing.hexBytes (now (bytes .entry))) (now (out .exit)) r ⌝ }
 {
@@ -1384,7 +1385,7 @@ fn write_hex_bytes(out: &mut [u8], at: usize, bytes: &[u8]) -> usize
 }
 
 // A word of data.
-fn write_data_word(out: &mut [u8], at: usize, bytes: &[u8]) -> usize
+pub fn write_data_word(out: &mut [u8], at: usize, bytes: &[u8]) -> usize
     requires { ⌜ at + length (Listing.dataWord (now bytes)) ≤ length (now out) ⌝ }
     ensures { λ r. ⌜ Written (now (out .entry)) at (Listing.dataWord (now (bytes .entry))) (now (out .exit)) r ⌝ }
 {
@@ -1397,7 +1398,13 @@ fn write_data_word(out: &mut [u8], at: usize, bytes: &[u8]) -> usize
 }
 
 // The word of a code that is no data push.
-fn write_code_word(out: &mut [u8], at: usize, opcode: u8, letters: &[u8], starts: &[u16]) -> usize
+pub fn write_code_word(
+    out: &mut [u8],
+    at: usize,
+    opcode: u8,
+    letters: &[u8],
+    starts: &[u16],
+) -> usize
     requires { ⌜ now letters ≡ allLetters ⌝ }
     requires { ⌜ T (startsRight (now starts)) ⌝ }
     requires { ⌜ at + length (Listing.codeWord opcode) ≤ length (now out) ⌝ }

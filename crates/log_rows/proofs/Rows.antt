@@ -2,7 +2,7 @@
 use mathlib.Core.Bool.{Bool, true, false}
 use mathlib.Core.List.{List, _++_}
 use mathlib.Core.Path.{_≡_, sym, ap, _∙_}
-use Prim.Native.Nat.{ℕ, suc, _+_, _-_, _*_, _/_, _≤_, _<_, min, max}
+use Prim.Native.Nat.{ℕ, suc, _+_, _-_, _*_, _/_, _≤_, _<_, max}
 use native.Mathlib.Nat.{div-lt-iff-lt-mul}
 use native.Mathlib.Omega.{arith}
 use borrow.Author.Tests.{eq-eqb, ne-eqb}
@@ -61,7 +61,7 @@ module _ (peak : ℕ) (log : List ℕ) (from count : ℕ) where
 -- conditionals
 
 module _ (opcode depth : ℕ) where
-  pub right-else : (less : ℕ) → opcode ≡ 0x67 → less ≡ depth - 1 → min 24 less ≡ indent opcode depth
+  pub right-else : (less : ℕ) → opcode ≡ 0x67 → less ≡ depth - 1 → less ≡ indent opcode depth
   unfolding indent
   right-else less e l = rw (eq-eqb opcode 0x67 e, l)
 
@@ -83,11 +83,11 @@ module _ (opcode depth : ℕ) where
         ∙ ap (λ b. pick b (depth + 1) (pick (isEndif opcode) (depth - 1) depth)) (sym e ∙ q)
 
   module _ (no : opcode ≡ 0x67 → ⊥) where
-    pub right-endif : (less : ℕ) → opcode ≡ 0x68 → less ≡ depth - 1 → min 24 less ≡ indent opcode depth
+    pub right-endif : (less : ℕ) → opcode ≡ 0x68 → less ≡ depth - 1 → less ≡ indent opcode depth
     unfolding indent
     right-endif less e l = rw (ne-eqb opcode 0x67 no, eq-eqb opcode 0x68 e, l)
 
-    pub right-other : (opcode ≡ 0x68 → ⊥) → min 24 depth ≡ indent opcode depth
+    pub right-other : (opcode ≡ 0x68 → ⊥) → depth ≡ indent opcode depth
     unfolding indent
     right-other e = rw (ne-eqb opcode 0x67 no, ne-eqb opcode 0x68 e)
 
@@ -115,10 +115,10 @@ total-within {main} {alt} log scale j e f h = rw (e, f) h
 pub heading-written : {lent : Bytes} {a b c : Bytes} {at bt ct : ℕ} {new : Bytes} {next : ℕ} {size gap : ℕ} (scale : ℕ)
     → size ≡ length (decimal scale) → gap ≡ 16 - (3 + size)
     → Written lent 0 (text "offset main  alt total |") a at → Written a at (labelled "of " scale) b bt
-    → Written b bt (replicate gap 32) c ct → Written c ct (text "| bytes\n") new next → Written lent 0 (heading scale) new next
+    → Written b bt (replicate gap 32) c ct → Written c ct (text "| bytes       instruction\n") new next → Written lent 0 (heading scale) new next
 unfolding heading
 heading-written {lent} {size = size} {gap} scale e g w v u t =
     let l : length (labelled "of " scale) ≡ 3 + length (decimal scale) = length-append (text "of ") (decimal scale) in
     let n : gap ≡ 16 - length (labelled "of " scale) = omega (arith, g, e, l) in
-    written-as (ap (λ m. text "offset main  alt total |" ++ labelled "of " scale ++ replicate m 32 ++ text "| bytes\n") n)
+    written-as (ap (λ m. text "offset main  alt total |" ++ labelled "of " scale ++ replicate m 32 ++ text "| bytes       instruction\n") n)
     (then-written (omega arith) (then-written (omega arith) (then-written (omega arith) w v) u) t)

@@ -3,11 +3,15 @@
 ghost use mathlib.Core.List.{[], _∷_};
 ghost use mathlib.Core.Path.{_≡_};
 ghost use Prim.Native.Nat.{_+_, _-_, _*_, _≤_, _<_, min, max};
+ghost use lib.Dec.{T};
 ghost use lib.ListN.{length, take, getD, replicate};
 ghost use Rattle.definition.specs.Lines.{decimal};
 ghost use Rattle.text.specs.View.{Written};
+ghost use Rattle.listing.specs.Tables.{allLetters, startsRight};
 ghost use Rattle.log_rows.specs.Rows.{mainAt, altAt, opcodeAt, totalOf, scaleOf, column, filled, bar, hex, instruction};
+ghost use Rattle.log_rows.specs.Rows.{bytesField, shownData, word, indented};
 ghost use Rattle.log_rows.specs.Rows.{deadHeights, liveHeights, heights, isIf, depthAfter, indent, heading, rowLine, row};
+use decode::Decoded;
 
 // A byte so many times.
 fn write_same(out: &mut [u8], at: usize, byte: u8, count: usize) -> usize
@@ -111,7 +115,7 @@ fn write_hex(out: &mut [u8], at: usize, bytes: &[u8], count: usize) -> usize
     next
 }
 
-// An instruction: at most 4 bytes of it.
+// The bytes of an instruction: at most 4 of them.
 pub fn write_instruction(out: &mut [u8], at: usize, bytes: &[u8]) -> usize
     requires { ⌜ at + 15 ≤ length (now out) ⌝ }
     ensures same { λ r. ⌜ Written (now (out .entry)) at (instruction (now (bytes .entry))) (now (out .exit)) r ⌝ }
@@ -122,6 +126,85 @@ pub fn write_instruction(out: &mut [u8], at: usize, bytes: &[u8]) -> usize
         return text::write_word(out, next, b" ..");
     }
     write_hex(out, at, bytes, bytes.len())
+}
+
+// The bytes of an instruction in a field of 12 columns.
+fn write_bytes_field(out: &mut [u8], at: usize, bytes: &[u8]) -> usize
+    requires { ⌜ at + 12 ≤ length (now out) ⌝ }
+    ensures same { λ r. ⌜ Written (now (out .entry)) at (bytesField (now (bytes .entry))) (now (out .exit)) r ⌝ }
+    ensures ends { λ r. ⌜ r ≡ at + 12 ⌝ }
+{
+    let size = bytes.len();
+    if size > 4 {
+        let next = write_hex(out, at, bytes, 3);
+        return text::write_word(out, next, b" ..");
+    }
+    let next = write_hex(out, at, bytes, size);
+    write_same(out, next, b' ', 12 - 3 * size)
+}
+
+// The word of data, of more than 8 bytes the first 6.
+fn write_shown_data(out: &mut [u8], at: usize, bytes: &[u8]) -> usize
+    requires { ⌜ at + 18 ≤ length (now out) ⌝ }
+    ensures same { λ r. ⌜ Written (now (out .entry)) at (shownData (now (bytes .entry))) (now (out .exit)) r ⌝ }
+    ensures short { λ r. ⌜ r ≤ at + 18 ⌝ }
+{
+    if bytes.len() > 8 {
+        let a = text::write_word(out, at, b"<");
+        let b = listing::write_hex_bytes(out, a, &bytes[..6]);
+        return text::write_word(out, b, b"..>");
+    }
+    listing::write_data_word(out, at, bytes)
+}
+
+// The word of an instruction, by its bytes.
+fn write_word(out: &mut [u8], at: usize, bytes: &[u8], letters: &[u8], starts: &[u16]) -> usize
+    requires { ⌜ now letters ≡ allLetters ⌝ }
+    requires { ⌜ T (startsRight (now starts)) ⌝ }
+    requires { ⌜ at + 26 ≤ length (now out) ⌝ }
+    ensures same { λ r. ⌜ Written (now (out .entry)) at (word (now (bytes .entry))) (now (out .exit)) r ⌝ }
+    ensures short { λ r. ⌜ r ≤ at + 26 ⌝ }
+{
+    match decode::decode_at(bytes, 0) {
+        Decoded::At(i) => {
+            let opcode = i.opcode;
+            let next = i.next;
+            if opcode > 0x4e {
+                return listing::write_code_word(out, at, opcode, letters, starts);
+            }
+            let start = 1 + listing::length_bytes(opcode);
+            return write_shown_data(out, at, &bytes[start..next]);
+        }
+        Decoded::End => {
+            return at;
+        }
+        Decoded::Malformed(_) => {
+            return at;
+        }
+    }
+}
+
+fn smaller(a: usize, b: usize) -> usize
+    ensures same { λ r. ⌜ r ≡ min a b ⌝ }
+{
+    if a < b {
+        return a;
+    }
+    b
+}
+
+// The word of an instruction so far to the right, as 26 columns allow.
+fn write_indented(out: &mut [u8], at: usize, right: usize, bytes: &[u8]) -> usize
+    requires { ⌜ at + 26 ≤ length (now out) ⌝ }
+    ensures same { λ r. ⌜ Written (now (out .entry)) at (indented right (word (now (bytes .entry)))) (now (out .exit)) r ⌝ }
+    ensures short { λ r. ⌜ r ≤ at + 26 ⌝ }
+{
+    let letters = listing::all_letters();
+    let starts = listing::all_starts();
+    let mut line = [0u8; 26];
+    let size = write_word(&mut line, 0, bytes, &letters, &starts);
+    let next = write_same(out, at, b' ', smaller(right, 26 - size));
+    text::write_word(out, next, &line[..size])
 }
 
 // The heights of a dead arm.
@@ -174,7 +257,7 @@ fn write_row_line(
 ) -> usize
     requires { ⌜ (81 ≤ length (now out)) × ((main ≤ 65535) × (alt ≤ 65535)) ⌝ }
     requires { ⌜ (1 ≤ scale) × (totalOf main alt ≤ scale) ⌝ }
-    requires { ⌜ (offset ≤ 65535) × (right ≤ 24) ⌝ }
+    requires { ⌜ offset ≤ 65535 ⌝ }
     ensures same { λ r.
         ⌜
         Written
@@ -188,9 +271,10 @@ fn write_row_line(
 {
     let a = write_column(out, 0, 6, offset as u64);
     let b = write_heights(out, a, scale, main, alt);
-    let c = write_same(out, b, b' ', right);
-    let d = write_instruction(out, c, bytes);
-    text::write_word(out, d, b"\n")
+    let c = write_bytes_field(out, b, bytes);
+    let d = text::write_word(out, c, b" ");
+    let e = write_indented(out, d, right, bytes);
+    text::write_word(out, e, b"\n")
 }
 
 // Whether an opcode is IF or NOTIF.
@@ -218,28 +302,18 @@ pub fn depth_after(opcode: u8, depth: usize) -> usize
     depth
 }
 
-// At most 24.
-fn at_most_24(n: usize) -> usize
-    ensures same { λ r. ⌜ r ≡ min 24 n ⌝ }
-{
-    if n < 24 {
-        return n;
-    }
-    24
-}
-
-// How far an instruction stands to the right.
+// How far the word of an instruction stands to the right.
 fn indent(opcode: u8, depth: usize) -> usize
-    ensures same { λ r. ⌜ r ≡ indent opcode depth ⌝ }
-    ensures short { λ r. ⌜ r ≤ 24 ⌝ }
+    ensures { λ r. ⌜ r ≡ indent opcode depth ⌝ }
 {
+    let less = left_of(depth, 1);
     if opcode == 0x67 {
-        return at_most_24(left_of(depth, 1));
+        return less;
     }
     if opcode == 0x68 {
-        return at_most_24(left_of(depth, 1));
+        return less;
     }
-    at_most_24(depth)
+    depth
 }
 
 fn wide(x: u16) -> u32
@@ -323,7 +397,7 @@ pub fn write_heading(out: &mut [u8], scale: u32) -> usize
     let a = text::write_word(out, 0, b"offset main  alt total |");
     let b = text::write_labelled(out, a, b"of ", scale as u64);
     let c = write_same(out, b, b' ', left_of(16, 3 + digits(scale as u64)));
-    text::write_word(out, c, b"| bytes\n")
+    text::write_word(out, c, b"| bytes       instruction\n")
 }
 
 // The total of heights.

@@ -9,9 +9,10 @@ use Rattle.definition.specs.Stacks.{pushItem, dropItems, copyItems, rotateItems
 use Rattle.definition.specs.Walk.{joinStacks, logRow, walk, analysisOf, analysis}
 use Rattle.definition.specs.Papers.{goodHeader, fragments, markFrom, dispatch, markPaper, display}
 use Rattle.definition.specs.Lines.{text, decimal, refusedLine, lastLine}
+use Rattle.definition.specs.OpcodeNames.{nameTable, nameOf}
 use Rattle.faults.specs.Faults.{fault, faultWords}
 use Rattle.reasons.specs.Reasons.{reason}
-use Rattle.log_rows.specs.Rows.{totalOf, column, bar, liveHeights, instruction, depthAfter, indent, heading, rowLine, row, rows}
+use Rattle.log_rows.specs.Rows.{totalOf, column, bar, liveHeights, instruction, bytesField, shownData, word, indented, depthAfter, indent, heading, rowLine, row, rows}
 use Rattle.log_lines.specs.Log.{startLine, start, acceptedLine, refusal, refusalLine, headerLine, malformedLine, opener, otherMain, arms, toldOf, verdictLine}
 use Rattle.log_blocks.specs.Blocks.{block}
 use Rattle.log_marks.specs.Marks.{refusedTold}
@@ -25,16 +26,16 @@ armsDiffer =
 
 pub armsDifferLogged : logText armsDiffer (replicate 18 0)
     ≡ text "entry 0: length 6, from main 2 alt 0\n"
-    ++ text "offset main  alt total |of 8            | bytes\n"
-    ++ text "     0    2    0     2 |####............| 63\n"
-    ++ text "     1    1    0     1 |##..............|  51\n"
-    ++ text "     2    2    0     2 |####............| 67\n"
-    ++ text "     3    1    0     1 |##..............|  75\n"
-    ++ text "     4    0    0     0 |................| 68\n"
+    ++ text "offset main  alt total |of 8            | bytes       instruction\n"
+    ++ text "     0    2    0     2 |####............| 63          OpIf\n"
+    ++ text "     1    1    0     1 |##..............| 51           Op1\n"
+    ++ text "     2    2    0     2 |####............| 67          OpElse\n"
+    ++ text "     3    1    0     1 |##..............| 75           OpDrop\n"
+    ++ text "     4    0    0     0 |................| 68          OpEndIf\n"
     ++ text "     ^ refused 12, arms differ: main 0 alt 0 against main 2 alt 0\n"
     ++ text "\n"
     ++ text "refused 12 at 0 4 0 0\n"
-unfolding armsDiffer logText refused block refusedTold toldOf verdictLine startLine start acceptedLine refusal refusalLine malformedLine opener otherMain arms rows row rowLine heading indent depthAfter instruction liveHeights bar column totalOf reason display lastLine refusedLine decimal goodHeader fragments markFrom dispatch markPaper analysis analysisOf walk logRow joinStacks step plainStep pushItem dropItems copyItems rotateItems tuckTop nipSecond moveToAlt moveFromAlt classOf classNumber decode front serialize deserialize
+unfolding armsDiffer logText refused block refusedTold toldOf verdictLine startLine start acceptedLine refusal refusalLine malformedLine opener otherMain arms rows row rowLine heading indent depthAfter instruction bytesField word shownData indented nameOf nameTable liveHeights bar column totalOf reason display lastLine refusedLine decimal goodHeader fragments markFrom dispatch markPaper analysis analysisOf walk logRow joinStacks step plainStep pushItem dropItems copyItems rotateItems tuckTop nipSecond moveToAlt moveFromAlt classOf classNumber decode front serialize deserialize
 armsDifferLogged = refl
 
 -- a dead arm, an entry that has no rows, and the initialiser: entries of 1 parameter and none, 1 state field
@@ -47,26 +48,26 @@ threeFragments =
 
 pub threeFragmentsLogged : logText threeFragments (replicate 24 0)
     ≡ text "entry 0: length 7, from main 2 alt 0\n"
-    ++ text "offset main  alt total |of 8            | bytes\n"
-    ++ text "     0    2    0     2 |####............| 63\n"
-    ++ text "     1    1    0     1 |##..............|  51\n"
-    ++ text "     2    2    0     2 |####............| 67\n"
-    ++ text "     3    1    0     1 |##..............|  6a\n"
-    ++ text "     4 dead dead       |                |  52\n"
-    ++ text "     5 dead dead       |                | 68\n"
-    ++ text "     6    2    0     2 |####............| 75\n"
+    ++ text "offset main  alt total |of 8            | bytes       instruction\n"
+    ++ text "     0    2    0     2 |####............| 63          OpIf\n"
+    ++ text "     1    1    0     1 |##..............| 51           Op1\n"
+    ++ text "     2    2    0     2 |####............| 67          OpElse\n"
+    ++ text "     3    1    0     1 |##..............| 6a           OpReturn\n"
+    ++ text "     4 dead dead       |                | 52           Op2\n"
+    ++ text "     5 dead dead       |                | 68          OpEndIf\n"
+    ++ text "     6    2    0     2 |####............| 75          OpDrop\n"
     ++ text "accepted: peak 2, end main 1 alt 0\n"
     ++ text "\n"
     ++ text "entry 1: length 0, from main 1 alt 0\n"
     ++ text "accepted: peak 1, end main 1 alt 0\n"
     ++ text "\n"
     ++ text "state: length 1, from main 1 alt 1\n"
-    ++ text "offset main  alt total |of 8            | bytes\n"
-    ++ text "     0    1    1     2 |####............| 6c\n"
+    ++ text "offset main  alt total |of 8            | bytes       instruction\n"
+    ++ text "     0    1    1     2 |####............| 6c          OpFromAltStack\n"
     ++ text "accepted: peak 2, end main 2 alt 0\n"
     ++ text "\n"
     ++ text "accepted\n"
-unfolding threeFragments logText refused block refusedTold toldOf verdictLine startLine start acceptedLine refusal refusalLine malformedLine opener otherMain arms rows row rowLine heading indent depthAfter instruction liveHeights bar column totalOf reason display lastLine refusedLine decimal goodHeader fragments markFrom dispatch markPaper analysis analysisOf walk logRow joinStacks step plainStep pushItem dropItems copyItems rotateItems tuckTop nipSecond moveToAlt moveFromAlt classOf classNumber decode front serialize deserialize
+unfolding threeFragments logText refused block refusedTold toldOf verdictLine startLine start acceptedLine refusal refusalLine malformedLine opener otherMain arms rows row rowLine heading indent depthAfter instruction bytesField word shownData indented nameOf nameTable liveHeights bar column totalOf reason display lastLine refusedLine decimal goodHeader fragments markFrom dispatch markPaper analysis analysisOf walk logRow joinStacks step plainStep pushItem dropItems copyItems rotateItems tuckTop nipSecond moveToAlt moveFromAlt classOf classNumber decode front serialize deserialize
 threeFragmentsLogged = refl
 
 -- a header that is cut

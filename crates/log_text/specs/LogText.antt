@@ -2,12 +2,12 @@
 -- `stackmark`. Of the paper of Section 6 with `75` for `52`, `01 00 01 00 0e 00 00 00 01 00 0e 00 06 00 63 51 67 75 68 75`:
 --
 --   entry 0: length 6, from main 2 alt 0
---   offset main  alt total |of 8            | bytes
---        0    2    0     2 |####............| 63
---        1    1    0     1 |##..............|  51
---        2    2    0     2 |####............| 67
---        3    1    0     1 |##..............|  75
---        4    0    0     0 |................| 68
+--   offset main  alt total |of 8            | bytes       instruction
+--        0    2    0     2 |####............| 63          OpIf
+--        1    1    0     1 |##..............| 51           Op1
+--        2    2    0     2 |####............| 67          OpElse
+--        3    1    0     1 |##..............| 75           OpDrop
+--        4    0    0     0 |................| 68          OpEndIf
 --        ^ refused 12, arms differ: main 0 alt 0 against main 2 alt 0
 --
 --   refused 12 at 0 4 0 0

@@ -46,7 +46,7 @@ write-row-line-requires c κs =
       (s .pre .0 .0, (m .main-at .ensures .1, a .alt-at .ensures .1)),
       (
         (s .pre .1 .0, total-within (s .args .log .now) (s .args .scale) (s .args .j) (m .main-at .ensures .0) (a .alt-at .ensures .0) (s .pre .1 .1)),
-        (o .wide .ensures .1, r .indent .ensures .1),
+        o .wide .ensures .1,
       ),
     )
 
@@ -64,7 +64,7 @@ returns c =
     let o = m .before in
     let s = o .before .before .before .before .before in (
       row-written (s .args .fragment .now) (s .args .log .now) (s .args .scale) (s .args .depth) (s .args .j) (o .wide .ensures .0)
-          (m .main-at .ensures .0) (a .alt-at .ensures .0) (b .byte-at .ensures) (r .indent .ensures .0) (d .display .ensures)
+          (m .main-at .ensures .0) (a .alt-at .ensures .0) (b .byte-at .ensures) (r .indent .ensures) (d .display .ensures)
           (w .write-row-line .ensures .0),
       w .write-row-line .ensures .1,
     )
