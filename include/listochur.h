@@ -8,7 +8,7 @@
  *
  * - A pointer points to that many elements, aligned for their type, to read or, where it is not const, to write.
  * - With a length of 0 nothing is read or written through the pointer, and it may be NULL.
- * - `log`, `items`, `text`, `out` and `tally` overlap nothing else that is passed. Slices that are only read may overlap.
+ * - What is written, `log`, `items`, `out`, `tally`, a `text` or `fragment` that is not const, overlaps nothing else that is passed. Slices that are only read may overlap.
  *
  * The functions allocate nothing, keep no pointer, call nothing back and may run on several threads at once. They use up to
  * 512 KiB of the caller's stack: conditionals nest at most 24 deep, and each level has its own.
@@ -32,9 +32,10 @@ extern "C" {
 #define LISTOCHUR_LOG_LINES_PLACES 1
 #define LISTOCHUR_REASON_PLACES 1
 #define LISTOCHUR_SUMS_PLACES (3 + LISTOCHUR_NUMBERS)
+#define LISTOCHUR_LISTING_PLACES 3
 
 /* How many verdict numbers are in use, from 0 on. */
-#define LISTOCHUR_NUMBERS 26
+#define LISTOCHUR_NUMBERS 28
 
 /* Room for the lines of any paper, and for the words of any verdict. */
 #define LISTOCHUR_LINES_BYTES 4096
@@ -136,6 +137,25 @@ uint32_t listochur_gain(uint32_t tally[4], uint32_t number, uint64_t rows, uint3
  * after 23 all but the number are 0.
  */
 uint32_t listochur_sums(const uint32_t *sitting, size_t sitting_len, uint64_t *out, size_t out_len);
+
+/*
+ * A listing, words parted by one space as `OpDup <0102> 0x50`, assembled into a fragment. Answers 0; 26 where a word is outside
+ * the form; 27 where `fragment` cannot take all bytes, which `text_len` of them always can.
+ * `fragment`: the bytes, where the answer is 0; else it stays as it was. The bytes behind them stay as they were.
+ * `out`: number, the offset of the first strange word (0 but for 26), how many bytes are written.
+ */
+uint32_t listochur_assemble(const uint8_t *text, size_t text_len, uint8_t *fragment, size_t fragment_len, uint64_t *out,
+                            size_t out_len);
+
+/*
+ * A fragment as a listing, each data push as its bytes, whatever its length form. Answers 0; 3 where the fragment is malformed;
+ * 27 where `text` cannot take all of it, which 25 bytes for each of the fragment's always can.
+ * `text`: the listing, with no newline and no NUL behind it, where the answer is 0; else it stays as it was. The bytes behind it
+ * stay as they were.
+ * `out`: number, the offset of the malformed instruction (0 but for 3), how many bytes are written.
+ */
+uint32_t listochur_list(const uint8_t *fragment, size_t fragment_len, uint8_t *text, size_t text_len, uint64_t *out,
+                        size_t out_len);
 
 #ifdef __cplusplus
 }

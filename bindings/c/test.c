@@ -301,6 +301,35 @@ static void sums(void) {
     for (size_t k = 0; k < places; k++) EXPECT(out[k] == 0x0909090909090909);
 }
 
+static void listings(void) {
+    uint64_t out[LISTOCHUR_LISTING_PLACES + 1] = {9, 9, 9, 9};
+    uint8_t bytes[16];
+    memset(bytes, '#', sizeof bytes);
+    const uint8_t *text = (const uint8_t *)"OpDup <05>";
+    EXPECT(listochur_assemble(text, 10, bytes, sizeof bytes, out, LISTOCHUR_LISTING_PLACES + 1) == 0);
+    EXPECT(holds(out, (const uint64_t[]){0, 0, 3, 9}, 4));
+    EXPECT(memcmp(bytes, "\x76\x01\x05#############", 16) == 0);
+    /* listed again, with just enough room */
+    uint8_t listing[10];
+    EXPECT(listochur_list(bytes, 3, listing, 10, out, LISTOCHUR_LISTING_PLACES) == 0);
+    EXPECT(holds(out, (const uint64_t[]){0, 0, 10}, 3) && memcmp(listing, text, 10) == 0);
+    /* refusals leave what is lent */
+    EXPECT(listochur_list(bytes, 3, listing, 9, out, LISTOCHUR_LISTING_PLACES) == 27);
+    EXPECT(holds(out, (const uint64_t[]){27, 0, 0}, 3) && memcmp(listing, text, 10) == 0);
+    EXPECT(listochur_assemble(text, 10, bytes, 2, out, LISTOCHUR_LISTING_PLACES) == 27);
+    EXPECT(listochur_assemble(text, 9, bytes, sizeof bytes, out, LISTOCHUR_LISTING_PLACES) == 26);
+    EXPECT(holds(out, (const uint64_t[]){26, 6, 0}, 3));
+    EXPECT(memcmp(bytes, "\x76\x01\x05#############", 16) == 0);
+    EXPECT(listochur_list((const uint8_t *)"\x76\x05\x01", 3, NULL, 0, out, LISTOCHUR_LISTING_PLACES) == 3);
+    EXPECT(holds(out, (const uint64_t[]){3, 1, 0}, 3));
+    /* nothing, and one place too few */
+    EXPECT(listochur_assemble(NULL, 0, NULL, 0, out, LISTOCHUR_LISTING_PLACES) == 0);
+    EXPECT(listochur_list(NULL, 0, NULL, 0, out, LISTOCHUR_LISTING_PLACES) == 0);
+    EXPECT(holds(out, (const uint64_t[]){0, 0, 0}, 3));
+    out[0] = 9;
+    EXPECT(listochur_list(bytes, 3, listing, 10, out, LISTOCHUR_LISTING_PLACES - 1) == 0 && out[0] == 9);
+}
+
 int main(void) {
     analyse();
     analyse_items();
@@ -312,5 +341,6 @@ int main(void) {
     reason();
     gain();
     sums();
+    listings();
     return failures != 0;
 }

@@ -4,9 +4,10 @@ use std::os::unix::ffi::OsStrExt;
 
 use crate::Stop;
 use crate::bytes::Bytes;
+use crate::listings::Listing;
 use crate::names::shown;
 use crate::papers::Source;
-use crate::usage::{self, COMPARE, EXPLAIN, FRAGMENT, LIMITS, LOG, MARK, PAPER, SUMS, Usage};
+use crate::usage::{self, ASM, COMPARE, EXPLAIN, FRAGMENT, LIMITS, LIST, LOG, MARK, PAPER, SUMS, Usage};
 
 #[derive(Debug, PartialEq, Eq)]
 pub enum Command {
@@ -19,6 +20,8 @@ pub enum Command {
     Limits { bytes: Bytes },
     Explain { number: u32 },
     Sums { registers: Vec<OsString> },
+    Asm { hex: bool, listing: Listing },
+    List { bytes: Bytes },
     Compare { papers: Vec<OsString> },
 }
 
@@ -151,6 +154,7 @@ fn sub_command(usage: &'static Usage, words: &[OsString]) -> Result<Command, Sto
     let known: &[Known] = match usage.name {
         "mark" => &[("--csv", false), ("--json", false)],
         "paper" => &[("--fields", true), ("--init", true)],
+        "asm" => &[("--hex", false)],
         _ => &[],
     };
     let Some(words) = sort(usage, words, known)? else {
@@ -189,6 +193,15 @@ fn sub_command(usage: &'static Usage, words: &[OsString]) -> Result<Command, Sto
     if usage == &SUMS {
         return Ok(Command::Sums { registers: words.files("register")? });
     }
+    if usage == &ASM {
+        let [listing] = words.exactly()?;
+        let listing = Listing::parse(listing).map_err(|wrong| words.wrong(wrong))?;
+        return Ok(Command::Asm { hex: words.has("--hex"), listing });
+    }
+    if usage == &LIST {
+        let [bytes] = words.exactly()?;
+        return Ok(Command::List { bytes: words.bytes(bytes)? });
+    }
     debug_assert_eq!(usage, &COMPARE);
     Ok(Command::Compare { papers: words.files("paper")? })
 }
@@ -222,7 +235,7 @@ fn paper(words: &Words) -> Result<Command, Stop> {
 
 #[cfg(test)]
 mod tests {
-    use super::{Bytes, Command, Entry, Form, Source, parse};
+    use super::{Bytes, Command, Entry, Form, Listing, Source, parse};
     use crate::Stop;
     use crate::usage::{ALL, MARK};
     use std::ffi::OsString;
@@ -267,6 +280,11 @@ mod tests {
         assert_eq!(parsed(&["limits", "@-"]), Command::Limits { bytes: Bytes::Of(Source::Input) });
         assert_eq!(parsed(&["explain", "22"]), Command::Explain { number: 22 });
         assert_eq!(parsed(&["sums", "a", "-"]), Command::Sums { registers: words(&["a", "-"]) });
+        let listing = |text: &[u8]| Listing::Given(text.into());
+        assert_eq!(parsed(&["asm", "OpDup Op1"]), Command::Asm { hex: false, listing: listing(b"OpDup Op1") });
+        assert_eq!(parsed(&["asm", "--hex", ""]), Command::Asm { hex: true, listing: listing(b"") });
+        assert_eq!(parsed(&["asm", "-", "--hex"]), Command::Asm { hex: true, listing: Listing::Of(Source::Input) });
+        assert_eq!(parsed(&["list", "@a"]), Command::List { bytes: Bytes::Of(Source::File("a".into())) });
         assert_eq!(parsed(&["compare", "a"]), Command::Compare { papers: words(&["a"]) });
         assert_eq!(
             parsed(&["paper", "3:51", "--init", "-", "--fields", "65535", "0:@a:b"]),
@@ -339,6 +357,13 @@ mod tests {
             &["sums"],
             &["sums", "-", "-"],
             &["sums", "--csv", "a"],
+            &["asm"],
+            &["asm", "OpDup", "Op1"],
+            &["asm", "@"],
+            &["asm", "--raw", "OpDup"],
+            &["list"],
+            &["list", "5"],
+            &["list", "--hex", "51"],
             &["compare"],
         ] {
             assert_eq!(wrong(line).1, Some(line[0]), "{line:?}");

@@ -71,12 +71,12 @@ fn add(text: &mut String, part: std::fmt::Arguments) {
     let _ = text.write_fmt(part);
 }
 
-/// A verdict's number, place and words. 1, 2, 4 and 17 to 22 are about no instruction.
+/// A verdict's number, place and words. 1, 2, 4, 17 to 22 and 27 are about no place.
 pub fn told(number: u32, offset: usize, first: u64, second: u64) -> String {
     let words = reason(number, first, second);
     match number {
         0 => words,
-        1 | 2 | 4 | 17..=22 => format!("refused {number}, {words}"),
+        1 | 2 | 4 | 17..=22 | 27 => format!("refused {number}, {words}"),
         _ => format!("refused {number} at offset {offset}, {words}"),
     }
 }

@@ -8,6 +8,7 @@ pub mod bytes;
 pub mod comparing;
 pub mod explaining;
 pub mod fragments;
+pub mod listings;
 pub mod marking;
 pub mod names;
 pub mod papers;
@@ -91,6 +92,8 @@ fn carry_out(command: Command) -> Result<Status, Stop> {
         Command::Paper { fields, init, entries } => writing::paper(&mut out, fields, init, entries)?,
         Command::Explain { number } => explaining::explain(&mut out, number)?,
         Command::Sums { registers } => summing::sums(&mut out, &registers)?,
+        Command::Asm { hex, listing } => listings::asm(&mut out, hex, &listing.read()?)?,
+        Command::List { bytes } => listings::list(&mut out, &bytes.read()?)?,
         Command::Compare { papers } => comparing::compare(&mut out, &papers)?,
     };
     out.finish()?;

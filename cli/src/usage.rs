@@ -119,6 +119,45 @@ summed, or a write that failed.
     examples: &["listochur sums register.csv", "listochur mark --csv room1 room2 | listochur sums -"],
 };
 
+pub static ASM: Usage = Usage {
+    name: "asm",
+    line: "listochur asm [--hex] LISTING",
+    about: "\
+Assembles a listing and writes the bytes of the fragment to standard output. A listing is words parted by one space:
+the name of an opcode, as OpDup or Op16; a data push as its bytes in hexadecimal, small letters, between < and >;
+Op0 for data of 0 bytes; 0x and two digits for an opcode that the marker has no effect for. A push is written in its
+shortest form among 01 to 4e, so <05> is 0105 and not 55. The first word outside this form is refused with 26 and its
+offset. A newline has no place in it, also not at the end of a file: write it with printf, or cut it off by
+`tr -d '\\n'`.
+
+  LISTING   the words, as one word of the shell; @FILE for those of a file, - for standard input
+  --hex     the bytes in hexadecimal, on a line
+
+Status 0: assembled. 1: refused, said on standard error. 2: bad words, a file that could not be read, or a write that
+failed.
+",
+    examples: &[
+        "listochur asm --hex 'OpDup <05> OpAdd'",
+        "listochur asm @body.listing >body.bin",
+        "tr -d '\\n' <body.listing | listochur asm - >body.bin",
+    ],
+};
+
+pub static LIST: Usage = Usage {
+    name: "list",
+    line: "listochur list BYTES",
+    about: "\
+Lists a fragment in the words that `asm` reads; data pushes are listed alike whatever their length form. A newline
+stands behind the listing where standard output is a terminal, else nothing does, so that `asm -` reads it.
+
+  BYTES     hexadecimal digits, - for none, @FILE for the bytes of a file, @- for those of standard input
+
+Status 0: listed. 1: refused, said on standard error: the bytes are malformed. 2: bad words, a file that could not be
+read, or a write that failed.
+",
+    examples: &["listochur list 760105", "listochur list @body.bin >body.listing"],
+};
+
 pub static COMPARE: Usage = Usage {
     name: "compare",
     line: "listochur compare PAPER..",
@@ -138,14 +177,14 @@ Status 0: no difference. 1: some differ. 2: no driver, a paper could not be read
 };
 
 /// All sub-commands.
-pub static ALL: [&Usage; 8] = [&MARK, &LOG, &FRAGMENT, &PAPER, &LIMITS, &EXPLAIN, &SUMS, &COMPARE];
+pub static ALL: [&Usage; 10] = [&MARK, &LOG, &FRAGMENT, &PAPER, &LIMITS, &EXPLAIN, &SUMS, &ASM, &LIST, &COMPARE];
 
 /// Said after a usage line.
 pub const HINT: &str = "listochur help shows more.";
 
 /// Said where no sub-command is named.
 pub const SHORT: &str = "\
-usage: listochur mark | log | fragment | paper | limits | explain | sums | compare ..
+usage: listochur mark | log | fragment | paper | limits | explain | sums | asm | list | compare ..
 listochur help shows more.";
 
 /// The sub-command of this name.
@@ -174,6 +213,8 @@ pub fn all() -> String {
         "the limit check",
         "a verdict number in words",
         "sums over the papers of registers",
+        "the bytes of a listing",
+        "the listing of bytes",
         "our verdicts beside the Rust's",
     ]) {
         text += &format!("  {}\n      {about}\n", usage.line);
@@ -183,9 +224,11 @@ pub fn all() -> String {
   listochur --version
 
 PAPER is a file, - for standard input, or, for mark and compare, a folder: every file in it, in the order of their
-names. REGISTER is a file that mark --csv wrote, or - for standard input. BYTES are hexadecimal digits, - for none, @FILE for the bytes of a file, @- for those of standard input.
+names. REGISTER is a file that mark --csv wrote, or - for standard input. BYTES are hexadecimal
+digits, - for none, @FILE for the bytes of a file, @- for those of standard input. LISTING is the words of a listing,
+@FILE for those of a file, - for standard input.
 
-Exit status: 0 all accepted, or equal; 1 some refused, or different; 2 bad usage, something that cannot be read, a write
+Exit status: 0 all accepted, assembled, listed or equal; 1 some refused, or different; 2 bad usage, something that cannot be read, a write
 that failed. 2 goes before 1, and the other papers are marked all the same.
 
 For example:

@@ -146,7 +146,7 @@ fn examples_of_explanations_get_their_number() {
     for (number, meaning) in command::explaining::MEANINGS.iter().enumerate() {
         let ran = folder.run(&["explain", &number.to_string()]);
         let Some(example) = &meaning.example else {
-            assert!([4, 22].contains(&number));
+            assert!([4, 22, 27].contains(&number));
             assert!(ran.out().contains("\nNo "), "{ran:?}");
             continue;
         };
@@ -155,7 +155,9 @@ fn examples_of_explanations_get_their_number() {
         assert_eq!(ran.status, Some((number != 0).into()), "{number}");
         assert_eq!(ran.out().lines().next(), Some(example.prints), "{number}");
         let told = if number == 0 { "accepted".into() } else { format!("refused {number}") };
-        assert!(example.prints.strip_prefix(&told).is_some_and(|rest| rest.starts_with([',', ' '])), "{number}");
+        // what `asm` says stands on standard error, under the command's name
+        let prints = example.prints.trim_start_matches("listochur: ");
+        assert!(prints.strip_prefix(&told).is_some_and(|rest| rest.starts_with([',', ' '])), "{number}");
     }
 }
 

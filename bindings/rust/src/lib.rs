@@ -94,6 +94,22 @@ mod callee {
         // Four counters, with no length.
         pub fn listochur_gain(tally: *mut u32, number: u32, rows: u64, peak: u32) -> u32;
         pub fn listochur_sums(sitting: *const u32, sitting_len: usize, out: *mut u64, out_len: usize) -> u32;
+        pub fn listochur_assemble(
+            text: *const u8,
+            text_len: usize,
+            fragment: *mut u8,
+            fragment_len: usize,
+            out: *mut u64,
+            out_len: usize,
+        ) -> u32;
+        pub fn listochur_list(
+            fragment: *const u8,
+            fragment_len: usize,
+            text: *mut u8,
+            text_len: usize,
+            out: *mut u64,
+            out_len: usize,
+        ) -> u32;
     }
 }
 
@@ -107,7 +123,7 @@ pub const LINES_BYTES: usize = 4_096;
 pub const REASON_BYTES: usize = 80;
 
 /// How many verdict numbers are in use, from 0 on.
-pub const NUMBERS: usize = 26;
+pub const NUMBERS: usize = 28;
 
 /// The verdict on a fragment.
 #[derive(Clone, Copy, Debug, PartialEq, Eq)]
@@ -135,6 +151,17 @@ pub struct Heights {
     pub main: u32,
     /// Items on alt.
     pub alt: u32,
+}
+
+/// The answer of [`assemble`] and [`list`].
+#[derive(Clone, Copy, Debug, PartialEq, Eq)]
+pub struct Converted {
+    /// 0 where all is written, else why nothing is.
+    pub number: u32,
+    /// Where the first strange word or the malformed instruction stands; 0 for the other numbers.
+    pub offset: usize,
+    /// How many bytes are written.
+    pub size: usize,
 }
 
 /// The answer of the limit check.
@@ -477,4 +504,55 @@ pub fn sums(sitting: &[u32]) -> Sums {
     let [_, sum, count, counts @ ..] = out;
     // The places hold numbers of these widths, widened by the callee.
     Sums { number, counts: counts.map(|times| times as u32), sum, count: count as u32 }
+}
+
+/// A listing, words parted by one space, assembled into a fragment: 0; 26 where a word is outside the form, with the offset of the
+/// first; 27 where `fragment` cannot take all bytes, which as many as the listing has always can. The bytes are written to the
+/// start of `fragment` where the number is 0, else none is; the rest of it stays as lent.
+///
+/// Tests nothing: bytes of any kind are the callee's to judge.
+///
+/// ```
+/// let mut fragment = [0; 16];
+/// let c = listochur::assemble(b"OpDup <05>", &mut fragment);
+/// assert_eq!((c.number, &fragment[..c.size]), (0, &[0x76, 0x01, 0x05][..]));
+/// let c = listochur::assemble(b"OpDup opdup", &mut fragment);
+/// assert_eq!((c.number, c.offset, c.size), (26, 6, 0));
+/// ```
+pub fn assemble(listing: &[u8], fragment: &mut [u8]) -> Converted {
+    let mut out = [0; 3];
+    // SAFETY: each slice is passed whole, with its own length, and the borrows keep `fragment` and `out` apart from the rest.
+    let number = unsafe {
+        callee::listochur_assemble(
+            listing.as_ptr(),
+            listing.len(),
+            fragment.as_mut_ptr(),
+            fragment.len(),
+            out.as_mut_ptr(),
+            out.len(),
+        )
+    };
+    let [_, offset, size] = out;
+    Converted { number, offset: offset as usize, size: size as usize }
+}
+
+/// A fragment as a listing: 0; 3 where it is malformed, with the offset; 27 where `text` cannot take all of it, which 25 bytes for
+/// each of the fragment's always can. The listing is written to the start of `text` where the number is 0, else nothing is; the
+/// rest of it stays as lent.
+///
+/// Tests nothing: a fragment of any bytes is the callee's to judge.
+///
+/// ```
+/// let mut text = [0; 80];
+/// let c = listochur::list(&[0x76, 0x4c, 0x01, 0x05, 0x50], &mut text);
+/// assert_eq!((c.number, &text[..c.size]), (0, &b"OpDup <05> 0x50"[..]));
+/// ```
+pub fn list(fragment: &[u8], text: &mut [u8]) -> Converted {
+    let mut out = [0; 3];
+    // SAFETY: each slice is passed whole, with its own length, and the borrows keep `text` and `out` apart from the rest.
+    let number = unsafe {
+        callee::listochur_list(fragment.as_ptr(), fragment.len(), text.as_mut_ptr(), text.len(), out.as_mut_ptr(), out.len())
+    };
+    let [_, offset, size] = out;
+    Converted { number, offset: offset as usize, size: size as usize }
 }

@@ -1,7 +1,7 @@
 //! The functions from Rust: what document 01 says of them, bad input included.
 use listochur::{
-    DEAD, Heights, Item, LINES_BYTES, Limits, Lines, NUMBERS, PaperVerdict, REASON_BYTES, Sums, Tally, Value, Verdict, analyze,
-    analyze_items, check_limits, display, gain, log_lines, mark_lines, mark_paper, reason, sums,
+    Converted, DEAD, Heights, Item, LINES_BYTES, Limits, Lines, NUMBERS, PaperVerdict, REASON_BYTES, Sums, Tally, Value, Verdict,
+    analyze, analyze_items, assemble, check_limits, display, gain, list, log_lines, mark_lines, mark_paper, reason, sums,
 };
 
 /// What stands in a log that no row has been written to.
@@ -322,6 +322,8 @@ fn reasons() {
         "bad sitting",
         "crooked number: a needless 00 (05 00) or 80 (negative zero)",
         "negative index: top bit of the last byte set (81 is minus 1)",
+        "strange word",
+        "output short",
     ];
     assert_eq!(words.len(), NUMBERS);
     for (number, expected) in (0..).zip(words) {
@@ -414,6 +416,48 @@ fn bad_sittings_have_zeros() {
     assert_eq!(sums(&[0, u32::MAX].repeat(4_096)), summed(&[(0, 4_096)], 4_096 * u64::from(u32::MAX), 4_096));
     for many in [8_193, 8_194, 10_000, 1_000_001] {
         assert_eq!(sums(&vec![0; many]), BAD_SITTING, "{many}");
+    }
+}
+
+/// Request L4: each answer, and what is left in the lent buffer, with just enough room, with one byte less, and with more.
+#[test]
+fn listings() {
+    type Call = fn(&[u8], &mut [u8]) -> Converted;
+    let good: [(Call, &[u8], &[u8]); 8] = [
+        (assemble, b"", &[]),
+        (assemble, b"Op0 OpDup <05> 0x50", &[0x00, 0x76, 0x01, 0x05, 0x50]),
+        (assemble, b"Op1Negate Op16 <0a0b>", &[0x4f, 0x60, 0x02, 0x0a, 0x0b]),
+        (assemble, b"0xff OpCheckSigFromStackECDSA", &[0xff, 0xd9]),
+        (list, &[], b""),
+        (list, &[0x4c, 0x00, 0x76], b"Op0 OpDup"),
+        (list, &[0x4e, 2, 0, 0, 0, 0xab, 0xcd, 0x51], b"<abcd> Op1"),
+        (list, &[0x50, 0xd9], b"0x50 OpCheckSigFromStackECDSA"),
+    ];
+    for (call, from, to) in good {
+        for more in [0, 1, 9] {
+            let mut lent = vec![b'#'; to.len() + more];
+            assert_eq!(call(from, &mut lent), Converted { number: 0, offset: 0, size: to.len() }, "{from:?}");
+            assert_eq!(lent, [to, &vec![b'#'; more]].concat(), "{from:?}");
+        }
+        if !to.is_empty() {
+            let mut lent = vec![b'#'; to.len() - 1];
+            assert_eq!(call(from, &mut lent), Converted { number: 27, offset: 0, size: 0 }, "{from:?}");
+            assert!(lent.iter().all(|&byte| byte == b'#'), "{from:?}");
+        }
+    }
+    let bad: [(Call, &[u8], u32, usize); 5] = [
+        (assemble, b"OpDup OpDup x", 26, 12),
+        (assemble, b"OpDup ", 26, 6),
+        (assemble, b"<0A>", 26, 0),
+        (list, &[0x76, 0x05, 1], 3, 1),
+        (list, &[0x4d, 1], 3, 0),
+    ];
+    for (call, from, number, offset) in bad {
+        for room in [0, 1, 99] {
+            let mut lent = vec![b'#'; room];
+            assert_eq!(call(from, &mut lent), Converted { number, offset, size: 0 }, "{from:?}");
+            assert!(lent.iter().all(|&byte| byte == b'#'), "{from:?}");
+        }
     }
 }
 

@@ -1,6 +1,10 @@
 //! Times the proved marker and the Rust's analysis on the same fragments and papers in one run, both built for release. Ours
 //! is lent a log of 30,000 numbers, written anew in each run and not cleared before; the Rust keeps no log. Answers are
-//! compared first. With a number as its argument it runs that one row once more and nothing else, for counts of instructions.
+//! compared first. The assembler and the lister of request L4 stand beside a plain version in Rust (`plain`), which makes a
+//! vector where ours is lent one. With a number as its argument it runs that one row once more and nothing else, for counts of instructions.
+mod plain;
+
+use plain::Names;
 use std::hint::black_box;
 use std::time::Instant;
 
@@ -200,6 +204,55 @@ fn papers_row(name: &str, papers: Vec<Vec<u8>>, times: u32) -> Row {
     }
 }
 
+/// Rows of assembling and of listing these fragments. The bytes are those of the fragments for both.
+fn listing_rows(name: &str, fragments: Vec<Vec<u8>>, times: u32) -> [Row; 2] {
+    let bytes = fragments.iter().map(Vec::len).sum();
+    let names = Names::new();
+    let listings: Vec<Vec<u8>> = fragments.iter().map(|f| names.list(f).expect("whole instructions")).collect();
+    let longest = listings.iter().map(Vec::len).max().unwrap_or(0);
+    let mut text = vec![0u8; longest];
+    for (f, l) in fragments.iter().zip(&listings) {
+        let c = listochur::list(f, &mut text);
+        assert_eq!((c.number, &text[..c.size]), (0, &l[..]), "{name}");
+        let c = listochur::assemble(l, &mut text);
+        assert_eq!((c.number, Ok(text[..c.size].to_vec())), (0, names.assemble(l)), "{name}");
+    }
+    let mut fragment = vec![0u8; longest];
+    let (copy, listings_copy, names_copy) = (fragments.clone(), listings.clone(), Names::new());
+    [
+        Row {
+            name: format!("assembling, {name}"),
+            bytes,
+            times,
+            ours: Box::new(move || {
+                for l in &listings {
+                    black_box(listochur::assemble(black_box(l), &mut fragment));
+                }
+            }),
+            theirs: Box::new(move || {
+                for l in &listings_copy {
+                    let _ = black_box(names.assemble(black_box(l)));
+                }
+            }),
+        },
+        Row {
+            name: format!("listing, {name}"),
+            bytes,
+            times,
+            ours: Box::new(move || {
+                for f in &fragments {
+                    black_box(listochur::list(black_box(f), &mut text));
+                }
+            }),
+            theirs: Box::new(move || {
+                for f in &copy {
+                    let _ = black_box(names_copy.list(black_box(f)));
+                }
+            }),
+        },
+    ]
+}
+
 /// Conditionals nested so deep, around pushes and drops, of about 9,000 bytes in all.
 fn nested(depth: usize) -> Vec<u8> {
     let mut one = [0x51, 0x63].repeat(depth);
@@ -250,7 +303,35 @@ fn rows() -> Vec<Row> {
         }
         rows.push(fragments_row(&format!("statements, {size} bytes"), vec![f], 12, 40));
     }
+    rows.extend(listing_rows("corpus", self::corpus(), 20));
+    let mut rng = Rng(7);
+    let mut statements = Vec::new();
+    while statements.len() < 1_100_000 {
+        statement(&mut rng, &mut statements, 0);
+    }
+    for (size, times) in [(20, 10_000), (10_000, 40), (100_000, 10), (1_000_000, 3)] {
+        rows.extend(listing_rows(&format!("{size} bytes"), vec![whole(&statements, size)], times));
+    }
+    rows.extend(listing_rows(
+        "one push of 1,000,000",
+        vec![[&[0x4e, 0x40, 0x42, 0x0f, 0x00][..], &[0xa5; 1_000_000]].concat()],
+        3,
+    ));
     rows
+}
+
+/// The instructions at the front that fit into so many bytes, and 61 for what is left.
+fn whole(code: &[u8], size: usize) -> Vec<u8> {
+    let mut at = 0;
+    while at + 1 + usize::from(code[at]) * usize::from(code[at] < 0x4c) <= size {
+        at += 1 + usize::from(code[at]) * usize::from(code[at] < 0x4c);
+        if at >= code.len() {
+            break;
+        }
+    }
+    let mut out = code[..at].to_vec();
+    out.resize(size, 0x61);
+    out
 }
 
 fn main() {

@@ -7,6 +7,7 @@ use Rattle.definition.specs.Classes.{classNumber}
 use Rattle.definition.specs.Decoding.{front, decode}
 use Rattle.definition.specs.Lines.{text}
 use Rattle.definition.specs.Listing.{Converted, unwritten, Assembly, gives, strange, words, assembly, wordRead, pushOf, assembled, listed, shortest}
+use Rattle.definition.specs.Refusals.{refusedAt, malformedFragment, strangeWord, outputShort}
 use Rattle.definition.specs.OpcodeNames.{nameOf, nameTable}
 
 -- the bytes that a listing gives
@@ -60,11 +61,11 @@ unfolding wordRead nameTable
 push-name = refl
 
 -- "26 or 3 before 27"
-strange-first : assembled (text "OpDup OpDup x") [] ≡ unwritten 26 12 []
+strange-first : assembled (text "OpDup OpDup x") [] ≡ unwritten (refusedAt 12 strangeWord) []
 unfolding assembled wordRead nameTable
 strange-first = refl
 
-no-room : assembled (text "OpDup OpDup") (7 ∷ []) ≡ unwritten 27 0 (7 ∷ [])
+no-room : assembled (text "OpDup OpDup") (7 ∷ []) ≡ unwritten (refusedAt 0 outputShort) (7 ∷ [])
 unfolding assembled wordRead nameTable
 no-room = refl
 
@@ -78,7 +79,7 @@ lists : listed (0x76 ∷ 0x01 ∷ 0x05 ∷ 0x50 ∷ 0x4c ∷ 0x00 ∷ []) (text 
 unfolding listed decode front nameOf nameTable classNumber
 lists = refl
 
-broken : listed (0x76 ∷ 0x05 ∷ 0x01 ∷ []) [] ≡ unwritten 3 1 []
+broken : listed (0x76 ∷ 0x05 ∷ 0x01 ∷ []) [] ≡ unwritten (refusedAt 1 malformedFragment) []
 unfolding listed decode front
 broken = refl
 

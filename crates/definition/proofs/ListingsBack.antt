@@ -18,6 +18,7 @@ use Rattle.definition.specs.Basics.{Bytes, pick}
 use Rattle.definition.specs.Decoding.{Instruction, Front, whole, short, front, onFront, decodeFrom, decode, instructions, malformedAt}
 use Rattle.definition.specs.Lines.{text}
 use Rattle.definition.specs.Listing.{wordOf, parted, same, wordRead, inFront, wordsFrom, words, Assembly, gives, strange, onWord, assembly, Converted, unwritten, put, onAssembly, assembled, onDecoded, listed, shortestOf, shortest, SameButForm, SameButForms}
+use Rattle.definition.specs.Refusals.{refusedAt, outputShort}
 use Rattle.definition.specs.Replay.{AreBytes}
 use Rattle.definition.proofs.ListedWords.{decodeWhole, WordFor, wordInstruction, Decoded, formOf, wordOfRead, formWhole, frontDecoded}
 use Rattle.definition.proofs.NameRule.{both, noSpace}
@@ -220,7 +221,7 @@ putWritten result out = by (leb (length result) (length out))
   where
     answer : Bool → Converted
     answer t =
-        pick t (record { number = 0; offset = 0; size = length result; out = result ++ drop (length result) out }) (unwritten 27 0 out)
+        pick t (record { number = 0; offset = 0; size = length result; out = result ++ drop (length result) out }) (unwritten (refusedAt 0 outputShort) out)
 
     by : (t : Bool) → answer t .number ≡ 0 → written (answer t) ≡ result
     by true e = take-at result (drop (length result) out) (length result) refl

@@ -13,6 +13,7 @@ use Rattle.definition.specs.Decoding.{Instruction, decode, instructions,
 use Rattle.definition.specs.Hex.{hexByte}
 use Rattle.definition.specs.Lines.{text}
 use Rattle.definition.specs.OpcodeNames.{Named, nameTable, nameOf}
+use Rattle.definition.specs.Refusals.{Answer, refusedAt, malformedFragment, strangeWord, outputShort}
 
 -- Listing
 
@@ -149,20 +150,20 @@ pub record Converted : Type 0 where
   pub out : Bytes
 
 -- "refusals leave a lent output as it was"
-abbrev pub unwritten : ℕ → ℕ → Bytes → Converted
-unwritten number offset out = record { number = number; offset = offset; size = 0; out = out }
+abbrev pub unwritten : Answer → Bytes → Converted
+unwritten answer out = record { number = answer .number; offset = answer .offset; size = 0; out = out }
 
 -- "and success its rest"; "27 output short, when the lent buffer can't take the whole result"
 abbrev pub put : Bytes → Bytes → Converted
 put result out =
     pick (leb (length result) (length out))
     (record { number = 0; offset = 0; size = length result; out = result ++ drop (length result) out })
-    (unwritten 27 0 out)
+    (unwritten (refusedAt 0 outputShort) out)
 
 -- "26 or 3 before 27"
 abbrev pub onAssembly : Assembly → Bytes → Converted
 onAssembly (gives l) out = put l out
-onAssembly (strange offset) out = unwritten 26 offset out
+onAssembly (strange offset) out = unwritten (refusedAt offset strangeWord) out
 
 -- the assembler
 unfoldable pub assembled : Bytes → Bytes → Converted
@@ -170,7 +171,7 @@ assembled listing out = onAssembly (assembly 0 (words listing)) out
 
 abbrev pub onDecoded : Option ℕ → Bytes → Bytes → Converted
 onDecoded none result out = put result out
-onDecoded (some offset) result out = unwritten 3 offset out
+onDecoded (some offset) result out = unwritten (refusedAt offset malformedFragment) out
 
 -- the lister
 unfoldable pub listed : Bytes → Bytes → Converted

@@ -5,6 +5,7 @@ use Prim.Native.Nat.{ℕ, min}
 use lib.Dec.{ltb}
 use lib.ListN.{length, drop, getD}
 use Rattle.definition.specs.Basics.{Bytes, pick}
+use Rattle.definition.specs.Listing.{Converted}
 use Rattle.definition.specs.Papers.{PaperVerdict, byMark, display}
 use Rattle.definition.specs.Refusals.{Answer}
 use Rattle.definition.specs.Sums.{SittingSums}
@@ -57,6 +58,10 @@ tallyNumbers t = t .fragments ∷ t .accepts ∷ t .rows ∷ t .peak ∷ []
 -- the numbers of the sums over a sitting: number, sum, count, and how often 0, 1, .. the greatest number in use occurred
 abbrev pub sumsNumbers : SittingSums → List ℕ
 sumsNumbers s = s .number ∷ s .sum ∷ s .count ∷ s .counts
+
+-- the three numbers of an assembler's or lister's answer: number, offset, bytes written
+abbrev pub convertedNumbers : Converted → List ℕ
+convertedNumbers c = c .number ∷ c .offset ∷ c .size ∷ []
 
 -- where the part that is displayed starts in its fragment: at the offset, or at the end if the offset is past it
 unfoldable pub displayStart : Bytes → Bytes → ℕ → ℕ → ℕ

@@ -5,6 +5,7 @@ ghost use mathlib.Core.Path.{_≡_};
 ghost use Prim.Native.Nat.{suc, _+_, _≤_, min};
 ghost use lib.ListN.{length, take, drop};
 ghost use Rattle.definition.specs.Lines.{printed};
+ghost use Rattle.definition.specs.Listing.{assembled, listed};
 ghost use Rattle.definition.specs.Papers.{limitCheck, markPaper, byMark, display};
 ghost use Rattle.definition.specs.Refusals.{greatestNumber};
 ghost use Rattle.definition.specs.Stacks.{builtIn};
@@ -17,10 +18,11 @@ ghost use Rattle.paper.specs.View.{paperOf};
 ghost use Rattle.reasons.specs.Reasons.{reason};
 ghost use Rattle.sums.specs.View.{sumsOf};
 ghost use Rattle.tally.specs.View.{tallyOf, Gives};
-ghost use Rattle.export.specs.View.{flag, written, verdictNumbers, endNumbers, answerNumbers, paperNumbers, sumsNumbers, displayStart, partNumbers, tallyFrom, tallyNumbers};
+ghost use Rattle.export.specs.View.{flag, written, verdictNumbers, endNumbers, answerNumbers, paperNumbers, sumsNumbers, convertedNumbers, displayStart, partNumbers, tallyFrom, tallyNumbers};
 ghost use Rattle.export.specs.Parts.{summaryNumbers, structNumbers};
 use ends::EndStacks;
 use limits::Answer;
+use listing::Converted;
 use paper::PaperVerdict;
 use stack_analysis::Summary;
 use sums::SittingSums;
@@ -175,6 +177,19 @@ fn write_sums(r: SittingSums, out: &mut [u64])
         out[3 + k] = wide_count(counts[k]);
         k += 1;
     }
+}
+
+// The numbers of an assembler's or lister's answer into the lent places, where there are three of them: number, offset, bytes
+// written.
+fn write_converted(c: Converted, out: &mut [u64])
+    ensures { λ _. ⌜ now (out .exit) ≡ written (c .number ∷ c .offset ∷ c .size ∷ []) (now (out .entry)) ⌝ }
+{
+    if out.len() < 3 {
+        return;
+    }
+    out[0] = c.number as u64;
+    out[1] = c.offset as u64;
+    out[2] = c.size as u64;
 }
 
 // The tally of four counters: fragments, accepted, rows, greatest peak.
@@ -512,5 +527,43 @@ pub extern "C" fn listochur_sums(sitting: &[u32], out: &mut [u64]) -> u32
     let r = sums::sums(sitting);
     let number = r.number;
     write_sums(r, out);
+    number
+}
+
+// A listing assembled into a lent fragment: 0, 26 or 27, and number, offset and bytes written in `out`. A refusal leaves the
+// fragment as it was, and success its rest.
+#[no_mangle]
+pub extern "C" fn listochur_assemble(text: &[u8], fragment: &mut [u8], out: &mut [u64]) -> u32
+    ensures number { λ r. ⌜ r ≡ assembled (now (text .entry)) (now (fragment .entry)) .number ⌝ }
+    ensures fragment { λ r. ⌜ now (fragment .exit) ≡ assembled (now (text .entry)) (now (fragment .entry)) .out ⌝ }
+    ensures written { λ r.
+        ⌜
+        now (out .exit)
+        ≡ written
+        (convertedNumbers (assembled (now (text .entry)) (now (fragment .entry))))
+        (now (out .entry))
+        ⌝ }
+{
+    let c = listing::assemble(text, fragment);
+    let number = c.number;
+    write_converted(c, out);
+    number
+}
+
+// A fragment listed into a lent text: 0, 3 or 27, and number, offset and bytes written in `out`. A refusal leaves the text as it
+// was, and success its rest.
+#[no_mangle]
+pub extern "C" fn listochur_list(fragment: &[u8], text: &mut [u8], out: &mut [u64]) -> u32
+    ensures number { λ r. ⌜ r ≡ listed (now (fragment .entry)) (now (text .entry)) .number ⌝ }
+    ensures text { λ r. ⌜ now (text .exit) ≡ listed (now (fragment .entry)) (now (text .entry)) .out ⌝ }
+    ensures written { λ r.
+        ⌜
+        now (out .exit)
+        ≡ written (convertedNumbers (listed (now (fragment .entry)) (now (text .entry)))) (now (out .entry))
+        ⌝ }
+{
+    let c = listing::list(fragment, text);
+    let number = c.number;
+    write_converted(c, out);
     number
 }

@@ -10,6 +10,7 @@ use lib.Dec.{leb, eqb}
 use lib.ListN.{length, take, drop, length-append}
 use Rattle.definition.specs.Basics.{Bytes, pick}
 use Rattle.definition.specs.Listing.{wordRead, inForm, wordsFrom, Assembly, gives, strange, assembly, Converted, unwritten, put, onAssembly, assembled}
+use Rattle.definition.specs.Refusals.{refusedAt, strangeWord, outputShort}
 use Rattle.text.specs.View.{Written}
 use Rattle.text.proofs.Texts.{written-as, then-written}
 use Rattle.listing.specs.declared.Judged.{Judged}
@@ -119,7 +120,7 @@ module _ (l out : Bytes) (j : Judged) (is : j ≡ judgedOf (assemblyOf l)) where
       by (gives b) e = cc
       by (strange o) e = never (cc)
 
-  pub assembled-strange : (offset : ℕ) (a : Converted) → j ≡ Strays offset → a ≡ unwritten 26 offset out → a ≡ assembled l out
+  pub assembled-strange : (offset : ℕ) (a : Converted) → j ≡ Strays offset → a ≡ unwritten (refusedAt offset strangeWord) out → a ≡ assembled l out
   unfolding assembled
   assembled-strange offset a e u = u ∙ sym (ap (λ (a : Assembly). onAssembly a out) (strays offset e))
 
@@ -128,7 +129,7 @@ module _ (l out : Bytes) (j : Judged) (is : j ≡ judgedOf (assemblyOf l)) where
     unfolding assembled
     by-size = ap (λ (a : Assembly). onAssembly a out) (gives-good size e)
 
-    pub assembled-short : (a : Converted) → length out < size → a ≡ unwritten 27 0 out → a ≡ assembled l out
+    pub assembled-short : (a : Converted) → length out < size → a ≡ unwritten (refusedAt 0 outputShort) out → a ≡ assembled l out
     assembled-short a h u =
         u ∙ sym (by-size ∙ rw (lt-leb (length (givenBy (assemblyOf l))) (length out) (omega (arith, gives-size size e))))
 

@@ -15,6 +15,7 @@ use Rattle.definition.specs.Decoding.{Code, decode, instructions, malformedAt}
 use Rattle.definition.specs.Hex.{hexByte}
 use Rattle.definition.specs.Lines.{text}
 use Rattle.definition.specs.Listing.{hexBytes, dataWord, codeWord, parted, Converted, unwritten, put, onDecoded, listed}
+use Rattle.definition.specs.Refusals.{refusedAt, malformedFragment, outputShort}
 use Rattle.definition.specs.Replay.{AreBytes}
 use Rattle.decode.specs.View.{decodedAt, codeAt, Count, countedOf, countBy, countIn}
 use Rattle.decode.specs.declared.Instruction.{Instruction}
@@ -171,28 +172,28 @@ module _ (lent f out : Bytes) (p at : ℕ) (to : ListedTo lent f out p at) (whol
 -- The answers
 
 module _ (f out : Bytes) (c : Counted) (is : countedOf c ≡ countIn (decode f)) where
-  pub short-whole : (n : ℕ) (a : Converted) → c ≡ C.Whole n → a ≡ unwritten 27 0 out → a ≡ shortOf (malformedAt (decode f)) out
+  pub short-whole : (n : ℕ) (a : Converted) → c ≡ C.Whole n → a ≡ unwritten (refusedAt 0 outputShort) out → a ≡ shortOf (malformedAt (decode f)) out
   short-whole n a q u = u ∙ by (malformedAt (decode f)) (sym (ap countedOf q) ∙ is)
     where
-      by : (m : Option ℕ) → countedOf (C.Whole n) ≡ countBy m (length (instructions (decode f))) → unwritten 27 0 out ≡ shortOf m out
+      by : (m : Option ℕ) → countedOf (C.Whole n) ≡ countBy m (length (instructions (decode f))) → unwritten (refusedAt 0 outputShort) out ≡ shortOf m out
       by none e = refl
       by (some o) e =
           let z : _≡_ {A = ℕ} 0 3 = ap (λ (c : Count). c .answer .number) e in
           absurd (omega arith)
 
-  pub short-malformed : (at : ℕ) (a : Converted) → c ≡ C.Malformed at → a ≡ unwritten 3 at out → a ≡ shortOf (malformedAt (decode f)) out
+  pub short-malformed : (at : ℕ) (a : Converted) → c ≡ C.Malformed at → a ≡ unwritten (refusedAt at malformedFragment) out → a ≡ shortOf (malformedAt (decode f)) out
   short-malformed at a q u = u ∙ by (malformedAt (decode f)) (sym (ap countedOf q) ∙ is)
     where
-      by : (m : Option ℕ) → countedOf (C.Malformed at) ≡ countBy m (length (instructions (decode f))) → unwritten 3 at out ≡ shortOf m out
+      by : (m : Option ℕ) → countedOf (C.Malformed at) ≡ countBy m (length (instructions (decode f))) → unwritten (refusedAt at malformedFragment) out ≡ shortOf m out
       by none e =
           let z : _≡_ {A = ℕ} 3 0 = ap (λ (c : Count). c .answer .number) e in
           absurd (omega arith)
       by (some o) e =
           let i : at ≡ o = ap (λ (c : Count). c .answer .offset) e in
-          ap (λ n. unwritten 3 n out) i
+          ap (λ n. unwritten (refusedAt n malformedFragment) out) i
 
 module _ (f out : Bytes) (r : Measured) (is : Measures r f (length out)) where
-  pub listed-refused : (offset : ℕ) (a : Converted) → r ≡ M.Malformed offset → a ≡ unwritten 3 offset out → a ≡ listed f out
+  pub listed-refused : (offset : ℕ) (a : Converted) → r ≡ M.Malformed offset → a ≡ unwritten (refusedAt offset malformedFragment) out → a ≡ listed f out
   unfolding listed
   listed-refused offset a e u =
       let m : malformedAt (decode f) ≡ some offset = subst (λ (x : Measured). Measures x f (length out)) e is in

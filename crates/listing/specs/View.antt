@@ -10,6 +10,7 @@ use Rattle.definition.specs.Basics.{Bytes, pick}
 use Rattle.definition.specs.Decoding.{decode, instructions, malformedAt}
 use Rattle.definition.specs.Lines.{text}
 use Rattle.definition.specs.Listing.{lowestFirst, Assembly, gives, strange, same, digitRead, hexRead, pushOf, wordRead, inForm, words, assembly, dataWord, codeWord, parted, unwritten}
+use Rattle.definition.specs.Refusals.{refusedAt, malformedFragment, outputShort}
 use Rattle.definition.specs.Listing as L
 use Rattle.listing.specs.declared.Converted.{Converted}
 use Rattle.listing.specs.declared.Judged.{Judged}
@@ -143,5 +144,5 @@ Measures (Malformed offset) f room = malformedAt (decode f) ≡ some offset
 
 -- the answer where the room is short: 3, or else 27
 abbrev pub shortOf : Option ℕ → Bytes → L.Converted
-shortOf none out = unwritten 27 0 out
-shortOf (some offset) out = unwritten 3 offset out
+shortOf none out = unwritten (refusedAt 0 outputShort) out
+shortOf (some offset) out = unwritten (refusedAt offset malformedFragment) out

@@ -10,6 +10,7 @@ ghost use Rattle.definition.specs.Decoding as Decoding;
 ghost use Rattle.definition.specs.Decoding.{malformedAt};
 ghost use Rattle.definition.specs.Listing as Listing;
 ghost use Rattle.definition.specs.OpcodeNames.{nameTable};
+ghost use Rattle.definition.specs.Refusals.{answer};
 ghost use Rattle.listing.specs.Tables.{allLetters, startsRight, placeOf, codesRight};
 ghost use Rattle.listing.specs.View.{opens, hexCode, nameWord, digitOr, allDigits, Reads, headOf, Sized, lettersBefore, judgedOf};
 ghost use Rattle.listing.specs.View.{dataLetters, DataWord, bytesOf, givenBy, assemblyOf, Good};
@@ -1237,7 +1238,7 @@ fn write_words(
 
 // A refusal: nothing is written.
 fn refused(out: &mut [u8], number: u32, offset: usize) -> Converted
-    ensures { λ r. ⌜ convertedOf r (now (out .exit)) ≡ Listing.unwritten number offset (now (out .entry)) ⌝ }
+    ensures { λ r. ⌜ convertedOf r (now (out .exit)) ≡ Listing.unwritten (answer number offset 0 0) (now (out .entry)) ⌝ }
 {
     let size: usize = 0;
     Converted {

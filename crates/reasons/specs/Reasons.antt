@@ -45,6 +45,8 @@ reasons first second =
     ∷ text "bad sitting"
     ∷ text "crooked number: a needless 00 (05 00) or 80 (negative zero)"
     ∷ text "negative index: top bit of the last byte set (81 is minus 1)"
+    ∷ text "strange word"
+    ∷ text "output short"
     ∷ []
 
 -- that of one number, and nothing for a number past the table
