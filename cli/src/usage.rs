@@ -52,7 +52,8 @@ pub static FRAGMENT: Usage = Usage {
     line: "listochur fragment MAIN ALT BYTES",
     about: "\
 Analyses a fragment from so many unknown items on main and alt: the verdict, the items that it ends with, from the
-bottom up, and a line of the log for each instruction met.
+bottom up, and a line of the log for each instruction met: its offset, the heights before it, its bytes, and the
+instruction as a listing writes it (`list`).
 
   BYTES     hexadecimal digits, - for none, @FILE for the bytes of a file, @- for those of standard input
 
