@@ -96,7 +96,7 @@ unfoldable pub bytesField : Bytes → Bytes
 bytesField bytes =
     pick (ltb 4 (length bytes)) (hex (take 3 bytes) ++ text " ..") (hex bytes ++ blanks (12 - 3 * length bytes))
 
--- Words: "show the instruction as a listing writes it beside its bytes"
+-- Words: an instruction as a listing writes it, beside its bytes
 
 -- the word of data; of more than 8 bytes the first 6: 01 02 03 04 05 06 07 08 09 is `<010203040506..>`
 unfoldable pub shownData : Bytes → Bytes
