@@ -1,17 +1,17 @@
 -- Laws of the words of a row: the field of an instruction's bytes, the word of its data, of its code, and how far it stands to
 -- the right.
-use mathlib.Core.Bool.{Bool, true, false}
-use mathlib.Core.List.{List, [], _∷_, _++_, append-nil}
-use mathlib.Core.Path.{_≡_, refl, sym, ap, subst, _∙_}
-use Prim.Native.Nat.{ℕ, zero, suc, _+_, _-_, _*_, _≤_, _<_, min}
+use mathlib.Core.Bool.{Bool}
+use mathlib.Core.List.{[], _∷_, _++_}
+use mathlib.Core.Path.{_≡_, sym, ap, _∙_}
+use Prim.Native.Nat.{ℕ, _+_, _-_, _*_, _≤_, _<_, min}
 use native.Mathlib.Omega.{arith}
 use borrow.Author.Tests.{lt-ltb, le-ltb, le-leb, lt-leb}
 use lib.Dec.{T, leb, leb→le}
-use lib.ListN.{length, take, drop, replicate, length-append, length-take, length-drop}
+use lib.ListN.{length, take, drop, replicate, length-append, length-take}
 use lib.Seq.{paste-zero, take-all, take-at}
 use Rattle.definition.specs.Basics.{Bytes, pick}
 use Rattle.definition.specs.Classes.{classNumber}
-use Rattle.definition.specs.Decoding.{Code, decode, instructions}
+use Rattle.definition.specs.Decoding.{Code, instructions}
 use Rattle.definition.specs.Lines.{text}
 use Rattle.definition.specs.Listing.{hexBytes, dataWord, codeWord}
 use Rattle.definition.specs.OpcodeNames.{nameTable, nameOf}
@@ -27,7 +27,7 @@ use Rattle.listing.proofs.Lengths.{hex-length}
 use Rattle.opcodes.proofs.Every.{every, at}
 use Rattle.text.specs.View.{Written}
 use Rattle.text.proofs.Texts.{written-as, then-written}
-use Rattle.log_rows.specs.Rows.{blanks, hex, bytesField, shownData, shownWord, firstWord, word, indented}
+use Rattle.log_rows.specs.Rows.{hex, bytesField, shownData, firstWord, word, indented}
 
 -- the field of the bytes
 

@@ -16,7 +16,6 @@ write-word-requires c κs = search needs
 same-length : tie.Need-same-length
 same-length c = search needs
 
--- antt refused `returns` as it was built: the module's report says why
 returns : tie.Need-returns
 returns c =
     let w = c .before .before in
@@ -42,7 +41,6 @@ write-same-requires c κs = search needs
 same-length-2 : tie.Need-same-length-2
 same-length-2 c = search needs
 
--- antt refused `returns-2` as it was built: the module's report says why
 returns-2 : tie.Need-returns-2
 returns-2 c =
     let w = c .before .before in
@@ -53,7 +51,6 @@ returns-2 c =
       omega (arith, h .write-hex2 .ensures .1, w .write-same .ensures .1, i .if1 .left),
     )
 
--- antt refused `write-bytes-field-spec` as it was built: the module's report says why
 pub write-bytes-field-spec : {M : Type 1} → statement M
 write-bytes-field-spec =
     tie.close

@@ -37,12 +37,10 @@ write-same-requires c κs = search needs
 array-share-prefix-line : tie.Need-array-share-prefix-line
 array-share-prefix-line c = search needs
 
--- antt refused `slice-aggregate-write-word-4` as it was built: the module's report says why
 slice-aggregate-write-word-4 : tie.Need-slice-aggregate-write-word-4
 slice-aggregate-write-word-4 c =
     simp length-take (omega arith)
 
--- antt refused `write-word-requires-2` as it was built: the module's report says why
 write-word-requires-2 : tie.Need-write-word-requires-2
 write-word-requires-2 c κs =
     let q = c .before .before .before .before in
@@ -54,7 +52,6 @@ write-word-requires-2 c κs =
 same-length : tie.Need-same-length
 same-length c = search needs
 
--- antt refused `returns` as it was built: the module's report says why
 returns : tie.Need-returns
 returns c =
     let p = c .before .before in
@@ -66,7 +63,6 @@ returns c =
       omega (arith, q .write-same .ensures .1, g .smaller .ensures, w .write-word .ensures .0 .ends, w .write-word .ensures .1, p .write-word2 .ensures .ends, ap length (from-start _ (w .write-word .ensures .0))),
     )
 
--- antt refused `write-indented-spec` as it was built: the module's report says why
 pub write-indented-spec : {M : Type 1} → statement M
 write-indented-spec =
     tie.close

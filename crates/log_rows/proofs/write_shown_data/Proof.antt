@@ -11,12 +11,10 @@ slice-aggregate-write-word c = search needs
 write-word-requires : tie.Need-write-word-requires
 write-word-requires c κs = search needs
 
--- antt refused `slice-aggregate-write-hex-bytes` as it was built: the module's report says why
 slice-aggregate-write-hex-bytes : tie.Need-slice-aggregate-write-hex-bytes
 slice-aggregate-write-hex-bytes c =
     simp length-take (omega arith)
 
--- antt refused `write-hex-bytes-requires` as it was built: the module's report says why
 write-hex-bytes-requires : tie.Need-write-hex-bytes-requires
 write-hex-bytes-requires c κs =
     let a = c .before .before .before .before in
@@ -27,7 +25,6 @@ write-hex-bytes-requires c κs =
 slice-aggregate-write-word-2 : tie.Need-slice-aggregate-write-word-2
 slice-aggregate-write-word-2 c = search needs
 
--- antt refused `write-word-requires-2` as it was built: the module's report says why
 write-word-requires-2 : tie.Need-write-word-requires-2
 write-word-requires-2 c κs =
     let b = c .before .before .before .before in
@@ -39,7 +36,6 @@ write-word-requires-2 c κs =
 same-length : tie.Need-same-length
 same-length c = search needs
 
--- antt refused `returns` as it was built: the module's report says why
 returns : tie.Need-returns
 returns c =
     let w = c .before .before in
@@ -51,7 +47,6 @@ returns c =
       omega (arith, a .write-word .ensures .ends, b .write-hex-bytes .ensures .ends, w .write-word2 .ensures .ends, cut-length (s .args .bytes .now) (i .if1 .taken)),
     )
 
--- antt refused `write-data-word-requires` as it was built: the module's report says why
 write-data-word-requires : tie.Need-write-data-word-requires
 write-data-word-requires c κs =
     let i = c .before in
@@ -61,7 +56,6 @@ write-data-word-requires c κs =
 same-length-2 : tie.Need-same-length-2
 same-length-2 c = search needs
 
--- antt refused `returns-2` as it was built: the module's report says why
 returns-2 : tie.Need-returns-2
 returns-2 c =
     let w = c .before .before in
@@ -71,7 +65,6 @@ returns-2 c =
       omega (arith, w .write-data-word .ensures .ends, data-18 (s .args .bytes .now) (i .if1 .left)),
     )
 
--- antt refused `write-shown-data-spec` as it was built: the module's report says why
 pub write-shown-data-spec : {M : Type 1} → statement M
 write-shown-data-spec =
     tie.close
