@@ -8,7 +8,8 @@
  *
  * - A pointer points to that many elements, aligned for their type, to read or, where it is not const, to write.
  * - With a length of 0 nothing is read or written through the pointer, and it may be NULL.
- * - What is written, `log`, `items`, `out`, `tally`, a `text` or `fragment` that is not const, overlaps nothing else that is passed. Slices that are only read may overlap.
+ * - What is written, `log`, `items`, `out`, `tally` and a `text` or `fragment` that is not const, overlaps nothing else that is
+ *   passed. Slices that are only read may overlap.
  *
  * The functions allocate nothing, keep no pointer, call nothing back and may run on several threads at once. They use up to
  * 512 KiB of the caller's stack: conditionals nest at most 24 deep, and each level has its own.

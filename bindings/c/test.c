@@ -302,12 +302,12 @@ static void sums(void) {
 }
 
 static void listings(void) {
-    uint64_t out[LISTOCHUR_LISTING_PLACES + 1] = {9, 9, 9, 9};
+    uint64_t out[LISTOCHUR_LISTING_PLACES + 1] = {9, 9, 9, 7};
     uint8_t bytes[16];
     memset(bytes, '#', sizeof bytes);
     const uint8_t *text = (const uint8_t *)"OpDup <05>";
     EXPECT(listochur_assemble(text, 10, bytes, sizeof bytes, out, LISTOCHUR_LISTING_PLACES + 1) == 0);
-    EXPECT(holds(out, (const uint64_t[]){0, 0, 3, 9}, 4));
+    EXPECT(holds(out, (const uint64_t[]){0, 0, 3}, 3));
     EXPECT(memcmp(bytes, "\x76\x01\x05#############", 16) == 0);
     /* listed again, with just enough room */
     uint8_t listing[10];

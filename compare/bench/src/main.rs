@@ -1,7 +1,8 @@
 //! Times the proved marker and the Rust's analysis on the same fragments and papers in one run, both built for release. Ours
 //! is lent a log of 30,000 numbers, written anew in each run and not cleared before; the Rust keeps no log. Answers are
 //! compared first. The assembler and the lister of request L4 stand beside a plain version in Rust (`plain`), which makes a
-//! vector where ours is lent one. With a number as its argument it runs that one row once more and nothing else, for counts of instructions.
+//! vector where ours is lent one. With a number as its argument it runs that one row
+//! once more and nothing else, for counts of instructions; with `listings` it times the rows of request L4 alone.
 mod plain;
 
 use plain::Names;
@@ -205,7 +206,7 @@ fn papers_row(name: &str, papers: Vec<Vec<u8>>, times: u32) -> Row {
 }
 
 /// Rows of assembling and of listing these fragments. The bytes are those of the fragments for both.
-fn listing_rows(name: &str, fragments: Vec<Vec<u8>>, times: u32) -> [Row; 2] {
+fn listing_rows(name: &str, fragments: Vec<Vec<u8>>, times: u32) -> [Row; 3] {
     let bytes = fragments.iter().map(Vec::len).sum();
     let names = Names::new();
     let listings: Vec<Vec<u8>> = fragments.iter().map(|f| names.list(f).expect("whole instructions")).collect();
@@ -219,6 +220,7 @@ fn listing_rows(name: &str, fragments: Vec<Vec<u8>>, times: u32) -> [Row; 2] {
     }
     let mut fragment = vec![0u8; longest];
     let (copy, listings_copy, names_copy) = (fragments.clone(), listings.clone(), Names::new());
+    let (own, theirs, array, mut other) = (fragments.clone(), fragments.clone(), Names::new(), text.clone());
     [
         Row {
             name: format!("assembling, {name}"),
@@ -247,6 +249,21 @@ fn listing_rows(name: &str, fragments: Vec<Vec<u8>>, times: u32) -> [Row; 2] {
             theirs: Box::new(move || {
                 for f in &copy {
                     let _ = black_box(names_copy.list(black_box(f)));
+                }
+            }),
+        },
+        Row {
+            name: format!("listing, {name}, by array"),
+            bytes,
+            times,
+            ours: Box::new(move || {
+                for f in &own {
+                    black_box(listochur::list(black_box(f), &mut other));
+                }
+            }),
+            theirs: Box::new(move || {
+                for f in &theirs {
+                    let _ = black_box(array.list_by_array(black_box(f)));
                 }
             }),
         },
@@ -335,16 +352,21 @@ fn whole(code: &[u8], size: usize) -> Vec<u8> {
 }
 
 fn main() {
-    let only: Option<usize> = std::env::args().nth(1).map(|k| k.parse().expect("the number of a row, from 0"));
+    let word = std::env::args().nth(1);
+    let listings = word.as_deref() == Some("listings");
+    let only: Option<usize> = word.filter(|_| !listings).map(|k| k.parse().expect("the number of a row, from 0"));
     let theirs = std::env::args().nth(2).is_some();
     for (k, mut row) in rows().into_iter().enumerate() {
+        if listings && !row.name.contains("listing") && !row.name.contains("assembling") {
+            continue;
+        }
         let per_byte = 1e9 / row.bytes as f64;
         match only {
             None => {
                 let a = time(row.times, &mut row.ours) * per_byte;
                 let b = time(row.times, &mut row.theirs) * per_byte;
                 println!(
-                    "{k:2} {:<30} {:>7} bytes   ours {a:7.1} ns/byte   Rust {b:7.1} ns/byte   ratio {:.2}",
+                    "{k:2} {:<42} {:>7} bytes   ours {a:7.1} ns/byte   Rust {b:7.1} ns/byte   ratio {:.2}",
                     row.name,
                     row.bytes,
                     a / b

@@ -4,7 +4,9 @@ use std::collections::HashMap;
 
 pub struct Names {
     by_name: HashMap<&'static [u8], u8>,
-    by_code: Vec<&'static [u8]>,
+    by_code: HashMap<u8, &'static [u8]>,
+    /// The same as `by_code`, with no letters for a code that has no name.
+    array: Vec<&'static [u8]>,
 }
 
 impl Names {
@@ -15,12 +17,14 @@ impl Names {
             let size = listochur::list(&[code], &mut text).size;
             text[..size].to_vec()
         };
-        let by_code: Vec<&'static [u8]> = (0..=255)
+        let array: Vec<&'static [u8]> = (0..=255)
             .map(|code| if code == 0 || code > 0x4e { word(code) } else { Vec::new() })
             .map(|name| if name.starts_with(b"0x") { &[][..] } else { &*name.leak() })
             .collect();
-        let by_name = (0..=255u8).zip(&by_code).filter(|(_, name)| !name.is_empty()).map(|(code, name)| (*name, code)).collect();
-        Self { by_name, by_code }
+        let named = || (0..=255u8).zip(&array).filter(|(_, name)| !name.is_empty());
+        let by_name = named().map(|(code, name)| (*name, code)).collect();
+        let by_code = named().map(|(code, name)| (code, *name)).collect();
+        Self { by_name, by_code, array }
     }
 
     /// The bytes of a listing, or the offset of its first strange word.
@@ -55,7 +59,7 @@ impl Names {
             out.extend(data);
         } else if let Some(digits) = word.strip_prefix(b"0x") {
             let [code] = hex(digits)?[..] else { return None };
-            if code <= 0x4e || !self.by_code[usize::from(code)].is_empty() {
+            if code <= 0x4e || self.by_code.contains_key(&code) {
                 return None;
             }
             out.push(code);
@@ -67,47 +71,56 @@ impl Names {
 
     /// The listing of a fragment, or the offset where it is malformed.
     pub fn list(&self, fragment: &[u8]) -> Result<Vec<u8>, usize> {
-        let mut out = Vec::new();
-        let mut at = 0;
-        while at < fragment.len() {
-            if at > 0 {
-                out.push(b' ');
-            }
-            let code = fragment[at];
-            let rest = &fragment[at + 1..];
-            let name = self.by_code[usize::from(code)];
-            if code > 0x4e {
-                if name.is_empty() {
-                    out.extend(b"0x");
-                    add_hex(&mut out, &[code]);
-                } else {
-                    out.extend(name);
-                }
-                at += 1;
-                continue;
-            }
-            let width = match code {
-                0x4c => 1,
-                0x4d => 2,
-                0x4e => 4,
-                _ => 0,
-            };
-            let size = match rest.get(..width).ok_or(at)? {
-                [] => usize::from(code),
-                length => length.iter().rev().fold(0, |size, byte| size << 8 | usize::from(*byte)),
-            };
-            let data = rest[width..].get(..size).ok_or(at)?;
-            if data.is_empty() {
-                out.extend(b"Op0");
-            } else {
-                out.push(b'<');
-                add_hex(&mut out, data);
-                out.push(b'>');
-            }
-            at += 1 + width + size;
-        }
-        Ok(out)
+        list_by(fragment, |code| self.by_code.get(&code).copied().unwrap_or_default())
     }
+
+    /// The same with the names in an array.
+    pub fn list_by_array(&self, fragment: &[u8]) -> Result<Vec<u8>, usize> {
+        list_by(fragment, |code| self.array[usize::from(code)])
+    }
+}
+
+fn list_by(fragment: &[u8], name_of: impl Fn(u8) -> &'static [u8]) -> Result<Vec<u8>, usize> {
+    let mut out = Vec::new();
+    let mut at = 0;
+    while at < fragment.len() {
+        if at > 0 {
+            out.push(b' ');
+        }
+        let code = fragment[at];
+        let rest = &fragment[at + 1..];
+        if code > 0x4e {
+            let name = name_of(code);
+            if name.is_empty() {
+                out.extend(b"0x");
+                add_hex(&mut out, &[code]);
+            } else {
+                out.extend(name);
+            }
+            at += 1;
+            continue;
+        }
+        let width = match code {
+            0x4c => 1,
+            0x4d => 2,
+            0x4e => 4,
+            _ => 0,
+        };
+        let size = match rest.get(..width).ok_or(at)? {
+            [] => usize::from(code),
+            length => length.iter().rev().fold(0, |size, byte| size << 8 | usize::from(*byte)),
+        };
+        let data = rest[width..].get(..size).ok_or(at)?;
+        if data.is_empty() {
+            out.extend(b"Op0");
+        } else {
+            out.push(b'<');
+            add_hex(&mut out, data);
+            out.push(b'>');
+        }
+        at += 1 + width + size;
+    }
+    Ok(out)
 }
 
 fn add_hex(out: &mut Vec<u8>, bytes: &[u8]) {

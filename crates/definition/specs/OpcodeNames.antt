@@ -10,7 +10,7 @@ use Rattle.definition.specs.Lines.{text}
 pub data Names : Type 0 where
   names : (first : ℕ) → List String → Names
 
--- 125 names, in the order of the codes. A code of 01 to 4e has none: it is written with its data. An unmodelled one has none.
+-- 124 names, in the order of the codes. A code of 01 to 4e has none: it is written with its data. An unmodelled one has none.
 abbrev pub opcodeNames : List Names
 opcodeNames =
     names 0x00 ("Op0" ∷ []) ∷

@@ -562,8 +562,8 @@ pub extern "C" fn listochur_list(fragment: &[u8], text: &mut [u8], out: &mut [u6
         ≡ written (convertedNumbers (listed (now (fragment .entry)) (now (text .entry)))) (now (out .entry))
         ⌝ }
 {
-    let c = listing::list(fragment, text);
-    let number = c.number;
-    write_converted(c, out);
+    let l = listing::list(fragment, text);
+    let number = l.number;
+    write_converted(l, out);
     number
 }
