@@ -40,8 +40,9 @@ pub static LOG: Usage = Usage {
     name: "log",
     line: "listochur log PAPER",
     about: "\
-Prints the log of one paper as a person reads it: a line for each instruction with the heights before it, and the
-verdict in words. PAPER is a file, or - for standard input.
+Prints the log of one paper as a person reads it: a line for each instruction with the heights before it, its bytes,
+and the instruction as a listing writes it (`list`); and the verdict in words. PAPER is a file, or - for standard
+input.
 Status 0: accepted. 1: refused. 2: the paper could not be read, or a write failed.
 ",
     examples: &["listochur log sample.paper"],
@@ -52,7 +53,8 @@ pub static FRAGMENT: Usage = Usage {
     line: "listochur fragment MAIN ALT BYTES",
     about: "\
 Analyses a fragment from so many unknown items on main and alt: the verdict, the items that it ends with, from the
-bottom up, and a line of the log for each instruction met.
+bottom up, and a line of the log for each instruction met: its offset, the heights before it, its bytes, and the
+instruction as a listing writes it (`list`).
 
   BYTES     hexadecimal digits, - for none, @FILE for the bytes of a file, @- for those of standard input
 

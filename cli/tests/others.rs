@@ -42,19 +42,23 @@ fn fragments() {
     folder.run(&["fragment", "1", "0", "51 79"]).gives(
         1,
         "refused 7 at offset 1, main dry: needed 2, had 1\n\
-         offset  main   alt  bytes\n     0     1     0  51\n     1     2     0  79\n",
+         offset  main   alt  bytes                       instruction\n\
+         \x20    0     1     0  51                          Op1\n     1     2     0  79                          OpPick\n",
     );
     folder.run(&["fragment", "0", "0", "-"]).gives(0, "accepted, peak 0, end main 0 alt 0\n");
-    folder
-        .run(&["fragment", "0", "0", "6aff"])
-        .gives(0, "accepted, peak 0, end none\noffset  main   alt  bytes\n     0     0     0  6a\n     1  dead  dead  ff\n");
+    folder.run(&["fragment", "0", "0", "6aff"]).gives(
+        0,
+        "accepted, peak 0, end none\noffset  main   alt  bytes                       instruction\n\
+         \x20    0     0     0  6a                          OpReturn\n     1  dead  dead  ff                          0xff\n",
+    );
     // an unknown item, one of three bytes, an empty one; 7 on alt
     folder.run(&["fragment", "1", "0", "03AABBCC 00 57 6b"]).gives(
         0,
         "accepted, peak 4, end main 3 alt 1\n  main 0 unknown\n  main 1 exact aa bb cc\n  main 2 exact, no bytes\n\
          \x20 alt 0 exact 07\n\
-         offset  main   alt  bytes\n     0     1     0  03 aa bb cc\n     4     2     0  00\n     5     3     0  57\n\
-         \x20    6     4     0  6b\n",
+         offset  main   alt  bytes                       instruction\n\
+         \x20    0     1     0  03 aa bb cc                 <aabbcc>\n     4     2     0  00                          Op0\n\
+         \x20    5     3     0  57                          Op7\n     6     4     0  6b                          OpToAltStack\n",
     );
     folder.run(&["fragment", "4294967295", "4294967295", "51"]).gives(1, "refused 2, start: sum 8589934590, limit 244\n");
     folder.file("body", &[0x4c]);
