@@ -931,14 +931,17 @@ fn digit(c: u8) -> u8
 fn all_digits(letters: &[u8]) -> bool
     ensures { λ r. ⌜ r ≡ allDigits (now (letters .entry)) ⌝ }
 {
+    let mut all = true;
     let mut j = 0;
     while j < letters.len() {
         if digit(letters[j]) > 15 {
-            return false;
+            all = false;
+            j += 1;
+            continue;
         }
         j += 1;
     }
-    true
+    all
 }
 
 // Whether a word begins with `<`.
