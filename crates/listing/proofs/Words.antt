@@ -246,45 +246,32 @@ module _ (c : ℕ) where
       by none e = absurd (omega arith)
       by (some d) e = ap some (sym e)
 
-pub and-never : (a : Bool) → a && false ≡ false
-and-never true = refl
-and-never false = refl
-
-pub and-always : (a : Bool) → a && true ≡ a
-and-always true = refl
-and-always false = refl
-
--- Whether the letters up to j are digits.
-pub record DigitsTo (l : Bytes) (so : Bool) (j : ℕ) : Type 0 where
+-- The letters up to j are digits.
+pub record DigitsTo (l : Bytes) (j : ℕ) : Type 0 where
   pub within : j ≤ length l
-  pub is : allDigits l ≡ so && allDigits (drop j l)
+  pub is : allDigits l ≡ allDigits (drop j l)
 
-pub digits-start : (l : Bytes) → DigitsTo l true 0
+pub digits-start : (l : Bytes) → DigitsTo l 0
 digits-start l = record { within = omega arith; is = refl }
 
-module _ (l : Bytes) (so : Bool) (j : ℕ) (d : DigitsTo l so j) where
-  digits-at : j < length l → allDigits l ≡ so && (isDigit (digitRead (getD l j 0)) && allDigits (drop (suc j) l))
-  digits-at h = d .is ∙ ap (λ (m : Bytes). so && allDigits m) (drop-cons l j 0 h)
+module _ (l : Bytes) (j : ℕ) (d : DigitsTo l j) where
+  digits-at : j < length l → allDigits l ≡ isDigit (digitRead (getD l j 0)) && allDigits (drop (suc j) l)
+  digits-at h = d .is ∙ ap allDigits (drop-cons l j 0 h)
 
-  pub digits-other : (r : ℕ) → j < length l → r ≡ digitOr (digitRead (getD l j 0)) → 15 < r → DigitsTo l false (j + 1)
+  pub digits-other : (r : ℕ) → j < length l → r ≡ digitOr (digitRead (getD l j 0)) → 15 < r → false ≡ allDigits l
   digits-other r h e g =
-      record {
-        within = omega arith;
-        is = digits-at h ∙ ap (λ (o : Option ℕ). so && (isDigit o && allDigits (drop (suc j) l))) (digit-none (getD l j 0) r e g) ∙ and-never so;
-      }
+      sym (digits-at h ∙ ap (λ (o : Option ℕ). isDigit o && allDigits (drop (suc j) l)) (digit-none (getD l j 0) r e g))
 
-  pub digits-more : (r : ℕ) → j < length l → r ≡ digitOr (digitRead (getD l j 0)) → r ≤ 15 → DigitsTo l so (j + 1)
+  pub digits-more : (r : ℕ) → j < length l → r ≡ digitOr (digitRead (getD l j 0)) → r ≤ 15 → DigitsTo l (j + 1)
   digits-more r h e g =
       let n : suc j ≡ j + 1 = omega arith in
       record {
         within = omega arith;
-        is =
-            digits-at h ∙ ap (λ (o : Option ℕ). so && (isDigit o && allDigits (drop (suc j) l))) (digit-some (getD l j 0) r e g)
-            ∙ ap (λ k. so && allDigits (drop k l)) n;
+        is = digits-at h ∙ ap (λ (o : Option ℕ). isDigit o && allDigits (drop (suc j) l)) (digit-some (getD l j 0) r e g) ∙ ap (λ k. allDigits (drop k l)) n;
       }
 
-  pub digits-all : length l ≤ j → so ≡ allDigits l
-  digits-all h = sym (d .is ∙ ap (λ (m : Bytes). so && allDigits m) (drop-of-length-le l h) ∙ and-always so)
+  pub digits-all : length l ≤ j → true ≡ allDigits l
+  digits-all h = sym (d .is ∙ ap allDigits (drop-of-length-le l h))
 
 -- How a word begins
 

@@ -931,17 +931,14 @@ fn digit(c: u8) -> u8
 fn all_digits(letters: &[u8]) -> bool
     ensures { λ r. ⌜ r ≡ allDigits (now (letters .entry)) ⌝ }
 {
-    let mut all = true;
     let mut j = 0;
     while j < letters.len() {
         if digit(letters[j]) > 15 {
-            all = false;
-            j += 1;
-            continue;
+            return false;
         }
         j += 1;
     }
-    all
+    true
 }
 
 // Whether a word begins with `<`.
