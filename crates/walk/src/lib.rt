@@ -15,6 +15,11 @@ use stack::Stepped;
 // What the log has for a height in a dead arm.
 const DEAD: u16 = 65535;
 
+// What a walk goes by besides the classes: the most items that the stacks hold together.
+pub struct Options {
+    pub limit: u32,
+}
+
 // How a walk stands: it runs, or has stopped at the end, at an instruction of a conditional, whose row is written, or
 // with a refusal.
 pub enum Stop {
@@ -165,11 +170,12 @@ fn skip(
 
 // The instructions up to the next IF, NOTIF, ELSE or ENDIF, whose row is written too, or to the end. It calls no walker,
 // so that the methods of the stacks are compiled into its loop.
-pub fn plain(code: &[u8], log: &mut [u16], classes: &[u8], limit: u32, start: Walk) -> Walk
+pub fn plain(code: &[u8], log: &mut [u16], classes: &[u8], options: Options, start: Walk) -> Walk
     requires { ⌜ (Ready (now code) (now log) start) × (start .stop ≡ Stop.Running) ⌝ }
-    requires { ⌜ (GoodRows (now classes)) × (limit ≤ 244) ⌝ }
-    ensures { λ r. ⌜ Runs (rulesBy (now (classes .entry)) limit) (now (code .entry)) start (now (log .entry)) r (now (log .exit)) ⌝ }
+    requires { ⌜ (GoodRows (now classes)) × (options .limit ≤ 244) ⌝ }
+    ensures { λ r. ⌜ Runs (rulesBy (now (classes .entry)) (options .limit)) (now (code .entry)) start (now (log .entry)) r (now (log .exit)) ⌝ }
 {
+    let limit = options.limit;
     let s0 = start.stacks;
     let mut t = Stepped {
         stacks: s0,

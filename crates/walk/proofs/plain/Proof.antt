@@ -49,7 +49,7 @@ abbrev μ-loop : tie.MeasureT-loop
 
 -- what is known once an instruction is met, its row is written and its class number is read
 met : (c : lts.After-class-in (skip-reads.Asked, skip-reads.Learnt, stopped-reads.Asked, stopped-reads.Learnt, higher-reads.Asked, higher-reads.Learnt, decode-at-reads.Asked, decode-at-reads.Learnt, log-row-reads.Asked, log-row-reads.Learnt, class-in-reads.Asked, class-in-reads.Learnt, push-code-reads.Asked, push-code-reads.Learnt, code-of-reads.Asked, code-of-reads.Learnt, suffices-reads.Asked, suffices-reads.Learnt, push-exact-reads.Asked, push-exact-reads.Learnt, move-to-alt-reads.Asked, move-to-alt-reads.Learnt, move-from-alt-reads.Asked, move-from-alt-reads.Learnt, depth-reads.Asked, depth-reads.Learnt, size-reads.Asked, size-reads.Learnt, nip-reads.Asked, nip-reads.Learnt, tuck-reads.Asked, tuck-reads.Learnt, pick-reads.Asked, pick-reads.Learnt, roll-reads.Asked, roll-reads.Learnt, zk-reads.Asked, zk-reads.Learnt, extend-from-within-reads.Asked, extend-from-within-reads.Learnt, rotate-left-reads.Asked, rotate-left-reads.Learnt, apply-effect-reads.Asked, apply-effect-reads.Learnt) reads.Pre reads.Post Inv-loop μ-loop)
-    → Met (rulesBy (c .before .before .before .before .before .before .before .before .before .before .before .before .before .before .before .before .before .before .before .args .classes .now) (c .before .before .before .before .before .before .before .before .before .before .before .before .before .before .before .before .before .before .before .args .limit)) (c .before .before .before .before .before .before .before .before .before .before .before .before .before .before .before .before .before .before .before .args .code .now) (c .before .before .before .before .before .before .before .before .before .before .before .before .before .before .before .before .before .before .before .args .log .now) (record { stacks = c .before .before .before .before .before .before .before .before .before .before .before .before .before .before .before .before .before .before .before .args .start .stacks; live = true; at = c .before .before .before .before .before .before .before .before .before .before .before .before .before .before .before .before .before .before .before .args .start .at; last = c .before .before .before .before .before .before .before .before .before .before .before .before .before .before .before .before .before .before .before .args .start .last; rows = c .before .before .before .before .before .before .before .before .before .before .before .before .before .before .before .before .before .before .before .args .start .rows; peak = c .before .before .before .before .before .before .before .before .before .before .before .before .before .before .before .before .before .before .before .args .start .peak; stop = Running }) (c .before .before .before .before .before .before .before .before .before .before .before .before .loop .log) (walkOf (c .before .before .before .before .before .before .before .before .before .before .before .before .loop .t) (c .before .before .before .before .before .before .before .before .before .before .before .before .loop .at) (c .before .before .before .before .before .before .before .before .before .before .before .before .loop .last) (c .before .before .before .before .before .before .before .before .before .before .before .before .loop .rows) (c .before .before .before .before .before .before .before .before .before .before .before .before .loop .peak)) (c .before .before .before .log-row .last .0) (c .before .before .before .before .before .before .d .given .0 .0) (c .before .before .before .before .before .before .before .before .before .higher .result) (c .class-in .result)
+    → Met (rulesBy (c .before .before .before .before .before .before .before .before .before .before .before .before .before .before .before .before .before .before .before .args .classes .now) (c .before .before .before .before .before .before .before .before .before .before .before .before .before .before .before .before .before .before .before .args .options .limit)) (c .before .before .before .before .before .before .before .before .before .before .before .before .before .before .before .before .before .before .before .args .code .now) (c .before .before .before .before .before .before .before .before .before .before .before .before .before .before .before .before .before .before .before .args .log .now) (record { stacks = c .before .before .before .before .before .before .before .before .before .before .before .before .before .before .before .before .before .before .before .args .start .stacks; live = true; at = c .before .before .before .before .before .before .before .before .before .before .before .before .before .before .before .before .before .before .before .args .start .at; last = c .before .before .before .before .before .before .before .before .before .before .before .before .before .before .before .before .before .before .before .args .start .last; rows = c .before .before .before .before .before .before .before .before .before .before .before .before .before .before .before .before .before .before .before .args .start .rows; peak = c .before .before .before .before .before .before .before .before .before .before .before .before .before .before .before .before .before .before .before .args .start .peak; stop = Running }) (c .before .before .before .before .before .before .before .before .before .before .before .before .loop .log) (walkOf (c .before .before .before .before .before .before .before .before .before .before .before .before .loop .t) (c .before .before .before .before .before .before .before .before .before .before .before .before .loop .at) (c .before .before .before .before .before .before .before .before .before .before .before .before .loop .last) (c .before .before .before .before .before .before .before .before .before .before .before .before .loop .rows) (c .before .before .before .before .before .before .before .before .before .before .before .before .loop .peak)) (c .before .before .before .log-row .last .0) (c .before .before .before .before .before .before .d .given .0 .0) (c .before .before .before .before .before .before .before .before .before .higher .result) (c .class-in .result)
 met c =
     let l = c .before .before .before in
     let d = c .before .before .before .before .before .before in
