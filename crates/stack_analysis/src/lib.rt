@@ -21,6 +21,7 @@ use ends::EndStacks;
 use stack::Answer;
 use stack::Refusal;
 use stack::Stacks;
+use walk::Options;
 use walk::Stop;
 use walk::Walk;
 
@@ -183,24 +184,31 @@ fn finish(w: Walk, other: Stacks, alive: bool) -> Walk
 
 // Walks an arm from start, with depth conditionals open around it, to the end, or to the ELSE or ENDIF of the innermost:
 // "An arm may hold conditionals".
-fn arm(code: &[u8], log: &mut [u16], classes: &[u8], limit: u32, start: Walk, depth: u32) -> Walk
+fn arm(
+    code: &[u8],
+    log: &mut [u16],
+    classes: &[u8],
+    options: Options,
+    start: Walk,
+    depth: u32,
+) -> Walk
     requires { ⌜ (Ready (now code) (now log) start) × (start .stop ≡ Stop.Running) ⌝ }
-    requires { ⌜ (GoodRows (now classes)) × (limit ≤ 244) × (depth ≤ 24) ⌝ }
+    requires { ⌜ (GoodRows (now classes)) × (options .limit ≤ 244) × (depth ≤ 24) ⌝ }
     ensures { λ r.
-        ⌜ Walks (rulesBy (now (classes .entry)) limit) (now (code .entry)) depth start (now (log .entry)) r (now (log .exit)) ⌝ }
+        ⌜ Walks (rulesBy (now (classes .entry)) (options .limit)) (now (code .entry)) depth start (now (log .entry)) r (now (log .exit)) ⌝ }
 {
-    let mut w = walk::plain(code, log, classes, limit, start);
+    let mut w = walk::plain(code, log, classes, options, start);
     loop {
         let met = w.stop;
         let Stop::Conditional = met else {
             return w;
         };
-        let v = conditional(code, log, classes, limit, w, depth);
+        let v = conditional(code, log, classes, options, w, depth);
         let closed = v.stop;
         if let Stop::Refused(_) = closed {
             return v;
         }
-        w = walk::plain(code, log, classes, limit, v);
+        w = walk::plain(code, log, classes, options, v);
     }
 }
 
@@ -209,13 +217,13 @@ fn conditional(
     code: &[u8],
     log: &mut [u16],
     classes: &[u8],
-    limit: u32,
+    options: Options,
     w: Walk,
     depth: u32,
 ) -> Walk
     requires { ⌜ (Ready (now code) (now log) w) × (w .stop ≡ Stop.Conditional) ⌝ }
-    requires { ⌜ (GoodRows (now classes)) × (limit ≤ 244) × (depth ≤ 24) ⌝ }
-    ensures { λ r. ⌜ Closes (rulesBy (now (classes .entry)) limit) (now (code .entry)) depth w (now (log .entry)) r (now (log .exit)) ⌝ }
+    requires { ⌜ (GoodRows (now classes)) × (options .limit ≤ 244) × (depth ≤ 24) ⌝ }
+    ensures { λ r. ⌜ Closes (rulesBy (now (classes .entry)) (options .limit)) (now (code .entry)) depth w (now (log .entry)) r (now (log .exit)) ⌝ }
 {
     let mut v = enter(w, depth);
     let opened = v.stop;
@@ -224,7 +232,7 @@ fn conditional(
     }
     let start = v.stacks;
     let live = v.live;
-    let first = arm(code, log, classes, limit, v, depth + 1);
+    let first = arm(code, log, classes, options, v, depth + 1);
     let stop = first.stop;
     if let Stop::Else = stop {
         let s = first.stacks;
@@ -233,7 +241,7 @@ fn conditional(
         v.last = first.last;
         v.rows = first.rows;
         v.peak = first.peak;
-        v = arm(code, log, classes, limit, v, depth + 1);
+        v = arm(code, log, classes, options, v, depth + 1);
         return finish(v, s, first.live);
     }
     finish(first, start, live)
@@ -436,7 +444,8 @@ fn walk_all(fragment: &[u8], main: u32, alt: u32, log: &mut [u16]) -> Walk
         stop: Stop::Running,
     };
     let classes = opcodes::table();
-    arm(fragment, log, &classes, 244, start, 0)
+    let options = Options { limit: 244 };
+    arm(fragment, log, &classes, options, start, 0)
 }
 
 // The verdict of a summary and the end stacks.

@@ -41,10 +41,10 @@ conditional-below t =
     and 3 conditional-kinds.ps (falls 3 conditional-kinds.ps _<_ μ-conditional t) conditional.Pre
 
 abbrev arm-Inv-loop : arm-lts.InvT-loop
-arm-Inv-loop code log₀ classes limit depth w₀ log w = Arming (rulesBy classes limit) code depth w₀ log₀ w log
+arm-Inv-loop code log₀ classes options depth w₀ log w = Arming (rulesBy classes (options .limit)) code depth w₀ log₀ w log
 
 abbrev arm-μ-loop : arm-lts.MeasureT-loop
-arm-μ-loop code log₀ classes limit depth w₀ log w = left-in code w
+arm-μ-loop code log₀ classes options depth w₀ log w = left-in code w
 
 arm-plain-requires : (t : ℕ) → arm-lts.Need-plain-requires (
   plain-reads.Asked,

@@ -8,8 +8,8 @@ use Rattle.stack_analysis.proofs.walk_all.Tie as tie
 new-requires : tie.Need-new-requires
 new-requires c κs = search needs
 
-add-t8 : tie.Need-add-t8
-add-t8 c = search needs
+add-t9 : tie.Need-add-t9
+add-t9 c = search needs
 
 table-requires : tie.Need-table-requires
 table-requires c κs = search needs
@@ -29,4 +29,4 @@ returns : tie.Need-returns
 returns c = walk-stops (c .before .before .before .before .before .table .ensures .same) _ _ _ _ _ _ _ (c .before .before .arm .ensures) refl refl refl refl refl refl (c .before .before .before .before .before .before .new .ensures)
 
 pub walk-all-spec : {M : Type 1} → statement M
-walk-all-spec = tie.close (tie.spec new-requires add-t8 table-requires slice-aggregate-arm arm-requires same-length returns)
+walk-all-spec = tie.close (tie.spec new-requires add-t9 table-requires slice-aggregate-arm arm-requires same-length returns)
