@@ -15,3 +15,4 @@ pub mod Witnesses
 pub mod PrintedPapers
 pub mod NumberForm
 pub mod Sittings
+pub mod BuiltInMap
