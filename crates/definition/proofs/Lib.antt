@@ -16,3 +16,4 @@ pub mod PrintedPapers
 pub mod NumberForm
 pub mod Sittings
 pub mod BuiltInMap
+pub mod UnderEveryMap

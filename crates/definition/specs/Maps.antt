@@ -13,6 +13,7 @@ use Rattle.definition.specs.Stacks.{Rules}
 use Rattle.definition.specs.Walk.{Marked, refusedEarly, unknowns, analysis}
 use Rattle.definition.specs.Replay.{Demand3}
 use Rattle.definition.specs.Papers.{field, fragments, PaperMarked, refusedPaper, markPaper, EachTrue}
+use Rattle.definition.specs.Blank.{RelatedPapers}
 
 -- "a header of two 16-bit numbers, lowest byte first, the count of rows (256) and the offset of the first (4 or more)"
 abbrev pub rowCount : Bytes → ℕ
@@ -82,6 +83,12 @@ abbrev pub TrueOfPaperWith : Bytes → ℕ → Bytes → List ℕ → Type 0
 TrueOfPaperWith map limit paper log =
     let m : PaperMarked = markPaperWith map limit paper log in
     m .paper .verdict .answer .number ≡ 0 → EachTrue (rulesOf map limit) 0 (fragments paper) (m .verdicts) (m .log)
+
+-- request L3, "Long data tells nothing", by this map and limit, also where they are bad
+pub record TellsNothingWith (map : Bytes) (limit : ℕ) (Related : Bytes → Bytes → Type 0) : Type 0 where
+  pub fragments : (f g : Bytes) → Related f g → (main alt : ℕ) (log : List ℕ)
+      → analysisWith map limit f main alt log ≡ analysisWith map limit g main alt log
+  pub papers : (p q : Bytes) → RelatedPapers Related p q → (log : List ℕ) → markPaperWith map limit p log ≡ markPaperWith map limit q log
 
 -- "Raising the limit under one map never turns acceptance into refusal, and peak, log and end stay equal": from one limit to
 -- another. The whole verdict stays, and of a paper the verdict of each fragment too.
