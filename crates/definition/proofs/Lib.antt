@@ -17,3 +17,4 @@ pub mod NumberForm
 pub mod Sittings
 pub mod BuiltInMap
 pub mod UnderEveryMap
+pub mod Allowed

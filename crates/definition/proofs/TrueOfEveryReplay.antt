@@ -173,7 +173,7 @@ module _ (R : Rules) (is : List Instruction) (s : Stacks Item) (log : List ℕ) 
 -- The analysis
 
 -- no refusal has the number 0
-refused-number : (at : ℕ) (r : Refusal) → refusedAt at r .number ≡ 0 → ⊥
+pub refused-number : (at : ℕ) (r : Refusal) → refusedAt at r .number ≡ 0 → ⊥
 refused-number at malformedFragment h = omega (arith, h)
 refused-number at nesting h = omega (arith, h)
 refused-number at altDry h = omega (arith, h)
@@ -204,7 +204,7 @@ refused-number at (dispatchTooLarge n m) h = omega (arith, h)
 
 -- what holds wherever the walk passes with room in the log holds of an accepted analysis
 module _ (R : Rules) (P : Marked → Type 0) where
-  ofCode : (code : Code) (s : Stacks Item) (log : List ℕ)
+  pub ofCode : (code : Code) (s : Stacks Item) (log : List ℕ)
       → ((t : State) → 3 * length (instructions code) ≤ length log → walk R (instructions code) (begin s log) ≡ passed t
       → P (answered (passed t)))
       → analysisOf R code s log .verdict .answer .number ≡ 0 → P (analysisOf R code s log)
