@@ -18,3 +18,4 @@ pub mod Sittings
 pub mod BuiltInMap
 pub mod UnderEveryMap
 pub mod Allowed
+pub mod AllowedPapers
