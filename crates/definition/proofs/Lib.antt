@@ -19,3 +19,4 @@ pub mod BuiltInMap
 pub mod UnderEveryMap
 pub mod Allowed
 pub mod AllowedPapers
+pub mod Raising
