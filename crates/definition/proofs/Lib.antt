@@ -20,3 +20,4 @@ pub mod UnderEveryMap
 pub mod Allowed
 pub mod AllowedPapers
 pub mod Raising
+pub mod MapWitnesses
