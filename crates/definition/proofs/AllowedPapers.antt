@@ -1,9 +1,9 @@
 -- The law over rules of papers, and with it whole: `allowedFollows`, for requests L6 and L8. What some rules accept, rules that
 -- allow as much answer with the same verdict and the same log.
-use mathlib.Core.Bool.{Bool, true, false, _&&_}
+use mathlib.Core.Bool.{Bool, true, false}
 use mathlib.Core.List.{List, [], _∷_, _++_}
 use mathlib.Core.Logic.{_⊎_, inl, inr, ⊎-elim}
-use mathlib.Core.Path.{_≡_, refl, sym, ap, subst, _∙_}
+use mathlib.Core.Path.{_≡_, refl, sym, ap, subst}
 use Prim.Native.Nat.{ℕ, zero, suc, _+_, _*_, _≤_, _<_, max}
 use native.Mathlib.Omega.{arith}
 use borrow.Author.Tests.{leb-true, ltb-true, ltb-false, eqb-true, eqb-false}
@@ -13,7 +13,7 @@ use Rattle.definition.specs.Basics.{Bytes, pick}
 use Rattle.definition.specs.Refusals.{maxPaper, longPaper, badHeader, dispatchTooLarge}
 use Rattle.definition.specs.Stacks.{Rules}
 use Rattle.definition.specs.Walk.{dead, Verdict, Marked, analysis}
-use Rattle.definition.specs.Papers.{Entry, entriesAt, entryCount, stateFields, initialiser, entries, headerSize, bodies, goodParts, goodHeader, Fragment, bytesOf, bodyFragments, mostParameters, stateFragments, fragments, PaperMarked, refusedPaper, after, markFrom, dispatch, markPaper}
+use Rattle.definition.specs.Papers.{Entry, entriesAt, entryCount, stateFields, initialiser, entries, goodHeader, Fragment, bytesOf, bodyFragments, mostParameters, stateFragments, fragments, PaperMarked, refusedPaper, after, markFrom, dispatch, markPaper}
 use Rattle.definition.specs.Allows.{Models, Allows, Follows}
 use Rattle.definition.proofs.Sound.{and-true}
 use Rattle.definition.proofs.Allowed.{AllModest, Short, AnalysisFits, analysis-fits}

@@ -6,11 +6,11 @@ use Prim.Native.Nat.{ℕ, zero, suc, _+_, _≤_, _<_}
 use native.Mathlib.Omega.{arith}
 use borrow.Author.Tests.{ltb-true, ltb-false, leb-true}
 use lib.Dec.{T, leb, ltb, ltb→lt}
-use lib.ListN.{length, take, getD, List·getD-eq-default}
+use lib.ListN.{length, getD, List·getD-eq-default}
 use mir.Facts.{and-yes}
 use Rattle.definition.specs.Basics.{Bytes, pick}
 use Rattle.definition.specs.Classes.{Range, range, ranges, numberIn, classNumber, classAt, classOf}
-use Rattle.definition.specs.Stacks.{Rules, builtIn}
+use Rattle.definition.specs.Stacks.{builtIn}
 use Rattle.definition.specs.Walk.{analysis}
 use Rattle.definition.specs.Papers.{markPaper}
 use Rattle.definition.specs.Maps.{rowsOf, goodMap, rulesOf, analysisWith, markPaperWith, tableFrom, builtInMap}

@@ -15,6 +15,7 @@ pub mod Witnesses
 pub mod PrintedPapers
 pub mod NumberForm
 pub mod Sittings
+pub mod GoodMaps
 pub mod BuiltInMap
 pub mod UnderEveryMap
 pub mod Allowed

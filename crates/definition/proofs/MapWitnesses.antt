@@ -1,6 +1,6 @@
 -- Request L6 by example: a map with two IFs and no ELSE, a map without RETURN, small limits on the paper of Section 6, each way
 -- in which a map is bad, and what comes first.
-use mathlib.Core.Bool.{Bool, true, false}
+use mathlib.Core.Bool.{true, false}
 use mathlib.Core.List.{List, [], _∷_, _++_, map}
 use mathlib.Core.Path.{_≡_, refl}
 use Prim.Native.Nat.{ℕ, _+_}
@@ -8,10 +8,10 @@ use lib.ListN.{take, drop, set, replicate}
 use Rattle.definition.specs.Basics.{Bytes}
 use Rattle.definition.specs.Decoding.{front, decode, serialize, deserialize}
 use Rattle.definition.specs.Classes.{classNumber, classOf}
-use Rattle.definition.specs.Refusals.{Answer, accepted, answer}
+use Rattle.definition.specs.Refusals.{accepted, answer}
 use Rattle.definition.specs.Stacks.{builtIn, pushItem, dropItems, copyItems, step, plainStep}
-use Rattle.definition.specs.Walk.{live, dead, unknown, exact, joinStacks, logRow, walk, analysisOf, analysis, unknowns, Verdict}
-use Rattle.definition.specs.Papers.{goodHeader, fragments, markFrom, dispatch, markPaper, PaperVerdict}
+use Rattle.definition.specs.Walk.{live, dead, joinStacks, logRow, walk, analysisOf, analysis, unknowns, Verdict}
+use Rattle.definition.specs.Papers.{goodHeader, fragments, markFrom, dispatch, markPaper}
 use Rattle.definition.specs.Maps.{goodMap, analysisWith, markPaperWith, builtInMap}
 use Rattle.definition.proofs.MarkedPapers.{samplePaper}
 

@@ -1,25 +1,23 @@
 -- Request L6, "Raising the limit under one map never turns acceptance into refusal, and peak, log and end stay equal":
 -- `raisingTheLimit`. Stronger: what is accepted at some limit is, at each limit from 1 to 244, accepted exactly where the peak is
 -- within it (`acceptedExactly`), a paper exactly where its peak and every dispatch sum are (`paperAcceptedExactly`).
-use mathlib.Core.Bool.{Bool, true, false, _&&_}
-use mathlib.Core.List.{List, [], _∷_, _++_}
+use mathlib.Core.Bool.{Bool, true, false}
+use mathlib.Core.List.{List, [], _∷_}
 use mathlib.Core.Logic.{_⊎_, inl, inr, ⊎-elim, _↔_}
-use mathlib.Core.Path.{_≡_, refl, sym, ap, subst, _∙_}
+use mathlib.Core.Path.{_≡_, refl, sym, _∙_}
 use Prim.Native.Nat.{ℕ, zero, suc, _+_, _*_, _≤_, _<_, max}
 use native.Mathlib.Omega.{arith}
-use borrow.Author.Tests.{le-leb, ltb-true, ltb-false, eqb-true, eqb-false}
-use lib.Dec.{leb, ltb, eqb}
-use lib.ListN.{length, take, drop, getD}
+use borrow.Author.Tests.{le-leb, ltb-false, eqb-true, eqb-false}
+use lib.Dec.{ltb, eqb}
+use lib.ListN.{length, drop, getD}
 use Rattle.definition.specs.Basics.{Bytes, pick}
-use Rattle.definition.specs.Decoding.{decode, instructions}
-use Rattle.definition.specs.Classes.{Class, ordinary, unmodelled, classes, classAt}
+use Rattle.definition.specs.Classes.{Class, ordinary, unmodelled, classes}
 use Rattle.definition.specs.Refusals.{maxPaper, longPaper, badHeader, dispatchTooLarge}
 use Rattle.definition.specs.Stacks.{Rules}
-use Rattle.definition.specs.Walk.{dead, Verdict, Marked, analysis, unknowns}
-use Rattle.definition.specs.Replay.{Demand3}
+use Rattle.definition.specs.Walk.{dead, Verdict, Marked, analysis}
 use Rattle.definition.specs.Papers.{Entry, stateFields, entries, goodHeader, Fragment, fragments, PaperMarked, refusedPaper, after, markFrom, dispatch, markPaper}
-use Rattle.definition.specs.Allows.{Models, keeps, Allows, Follows}
-use Rattle.definition.specs.Maps.{goodMap, goodLimit, rowsOf, rulesOf, analysisWith, markPaperWith, Raises}
+use Rattle.definition.specs.Allows.{Models, keeps, Follows}
+use Rattle.definition.specs.Maps.{goodLimit, rowsOf, rulesOf, analysisWith, markPaperWith, Raises}
 use Rattle.definition.proofs.TrueOfEveryReplay.{trueOfAnalysis}
 use Rattle.definition.proofs.UnderEveryMap.{limit-within, acceptedIsGood, analysis-good, acceptedPaperIsGood, paper-good}
 use Rattle.definition.proofs.Allowed.{Modest, AllModest, Short, analysis-fits}
