@@ -8,13 +8,12 @@ use borrow.Author.Tests.{ltb-true, ltb-false, leb-true}
 use lib.Dec.{T, leb, ltb, ltb→lt}
 use lib.ListN.{length, getD, List·getD-eq-default}
 use mir.Facts.{and-yes}
-use Rattle.definition.specs.Basics.{Bytes, pick}
+use Rattle.definition.specs.Basics.{pick}
 use Rattle.definition.specs.Classes.{Range, range, ranges, numberIn, classNumber, classAt, classOf}
 use Rattle.definition.specs.Stacks.{builtIn}
-use Rattle.definition.specs.Walk.{analysis}
-use Rattle.definition.specs.Papers.{markPaper}
-use Rattle.definition.specs.Maps.{rowsOf, goodMap, rulesOf, analysisWith, markPaperWith, tableFrom, builtInMap}
+use Rattle.definition.specs.Maps.{rowsOf, goodMap, rulesOf, tableFrom, builtInMap}
 
+-- it is good, and of 260 bytes
 pub builtInMapGood : goodMap builtInMap ≡ true
 unfolding goodMap builtInMap classNumber
 builtInMapGood = refl
@@ -74,17 +73,7 @@ row-is code = ap (λ l. getD l code 0) rows-are ∙ by (ltb code 256) refl
         let l : length (tableFrom 0x00 256) ≤ code = omega (arith, h, table-length 0x00 256) in
         List·getD-eq-default (tableFrom 0x00 256) 0 l ∙ sym (past-codes code h)
 
--- the rules by this map and 244 are those of document 01
+-- the rules by this map and 244 are those of document 01: "the built-in map at 244"
 pub builtInMapRules : rulesOf builtInMap 244 ≡ builtIn
 unfolding classOf
 builtInMapRules = λ i. record { classFor = λ code. classAt (row-is code i); limit = 244 }
-
--- so by this map and 244 fragments and papers are marked as document 01 has it
-pub builtInMapAnalysis : (fragment : Bytes) (main alt : ℕ) (log : List ℕ)
-    → analysisWith builtInMap 244 fragment main alt log ≡ analysis builtIn fragment main alt log
-unfolding analysisWith
-builtInMapAnalysis fragment main alt log = rw builtInMapGood (ap (λ R. analysis R fragment main alt log) builtInMapRules)
-
-pub builtInMapPaper : (paper : Bytes) (log : List ℕ) → markPaperWith builtInMap 244 paper log ≡ markPaper builtIn paper log
-unfolding markPaperWith
-builtInMapPaper paper log = rw builtInMapGood (ap (λ R. markPaper R paper log) builtInMapRules)

@@ -2,6 +2,7 @@
 pub mod MarkedPapers
 pub mod SpoiltIndices
 pub mod LongDataWitnesses
+pub mod MapWitnesses
 pub mod Replays
 pub mod Related
 pub mod Arms
@@ -21,4 +22,3 @@ pub mod UnderEveryMap
 pub mod Allowed
 pub mod AllowedPapers
 pub mod Raising
-pub mod MapWitnesses

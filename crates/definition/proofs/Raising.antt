@@ -30,6 +30,7 @@ limit-good limit l m = rw (le-leb 1 limit l, le-leb limit 244 m)
 same-classes : (map : Bytes) (from to code : ℕ) → Models (rulesOf map from .classFor code) (rulesOf map to .classFor code)
 same-classes map from to code = keeps _
 
+-- "Raising the limit under one map never turns acceptance into refusal, and peak, log and end stay equal"
 pub raisingTheLimit : (map : Bytes) (from to : ℕ) → from ≤ to → to ≤ 244 → Raises map from to
 raisingTheLimit map from to up most = record {
   fragments = λ fragment main alt log h.

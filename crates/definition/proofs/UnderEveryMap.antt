@@ -3,7 +3,7 @@
 -- good limit (`acceptedIsGood`). Request L3 over every map and limit: `longDataUnderEveryMap`.
 use mathlib.Core.Bool.{Bool, true, false}
 use mathlib.Core.List.{List}
-use mathlib.Core.Path.{_≡_, refl}
+use mathlib.Core.Path.{_≡_, refl, ap, _∙_}
 use Prim.Native.Nat.{ℕ, _≤_}
 use native.Mathlib.Omega.{arith}
 use borrow.Author.Tests.{leb-true}
@@ -11,13 +11,14 @@ use lib.Dec.{leb}
 use Rattle.definition.specs.Basics.{Bytes, pick}
 use Rattle.definition.specs.Decoding.{decode, instructions}
 use Rattle.definition.specs.Refusals.{Refusal, badMap, badLimit}
-use Rattle.definition.specs.Stacks.{Rules}
+use Rattle.definition.specs.Stacks.{Rules, builtIn}
 use Rattle.definition.specs.Walk.{Marked, refusedEarly, unknowns, analysis}
 use Rattle.definition.specs.Replay.{Demand3}
 use Rattle.definition.specs.Papers.{PaperMarked, refusedPaper, fragments, markPaper, EachTrue}
 use Rattle.definition.specs.Blank.{Blanked, Alike, TellsNothing}
-use Rattle.definition.specs.Maps.{goodMap, goodLimit, rulesOf, judged, analysisWith, markPaperWith, TrueWith, TrueOfPaperWith, TellsNothingWith}
+use Rattle.definition.specs.Maps.{goodMap, goodLimit, rulesOf, judged, analysisWith, markPaperWith, builtInMap, TrueWith, TrueOfPaperWith, TellsNothingWith}
 use Rattle.definition.proofs.Sound.{and-true}
+use Rattle.definition.proofs.BuiltInMap.{builtInMapGood, builtInMapRules}
 use Rattle.definition.proofs.TrueOfEveryReplay.{trueOfAnalysis}
 use Rattle.definition.proofs.TrueOfPaper.{trueOfPaperBy}
 use Rattle.definition.proofs.LongData.{alikeTellsNothing}
@@ -60,8 +61,8 @@ module _ (map : Bytes) (limit : ℕ) (fragment : Bytes) (main alt : ℕ) (log : 
   unfolding analysisWith
   analysis-good g l = rw (g, l)
 
-  -- Demand 3: of all bytes lent for a map, every limit, every fragment, start heights and log, if the analysis accepts, what it
-  -- answers is true of every replay by this map and limit.
+  -- "Demand 3, whole, is then stated over every valid map and every limit at one go": of all bytes lent for a map, every limit,
+  -- every fragment, start heights and log, if the number is 0, what is answered is true of every replay by this map and limit.
   pub trueUnderEveryMap : TrueWith map limit fragment main alt log
   trueUnderEveryMap h =
       ofAnalysisWith (λ m. m .verdict .answer .number ≡ 0 → Demand3 (rulesOf map limit) (instructions (decode fragment)) (unknowns main alt) m)
@@ -84,7 +85,7 @@ module _ (map : Bytes) (limit : ℕ) (paper : Bytes) (log : List ℕ) where
   unfolding markPaperWith
   paper-good g l = rw (g, l)
 
-  -- Of every paper, if it is accepted, demand 3 holds of each of its fragments.
+  -- the same of papers: if the number is 0, demand 3 holds of each fragment, of the verdict and the rows that it is answered with
   pub trueOfPaperUnderEveryMap : TrueOfPaperWith map limit paper log
   trueOfPaperUnderEveryMap h =
       ofPaperWith (λ m. m .paper .verdict .answer .number ≡ 0 → EachTrue (rulesOf map limit) 0 (fragments paper) (m .verdicts) (m .log))
@@ -106,3 +107,12 @@ longDataUnderEveryMap = underEveryMap Blanked blankedTellsNothing
 -- .. and in the wider one
 pub alikeUnderEveryMap : (map : Bytes) (limit : ℕ) → TellsNothingWith map limit Alike
 alikeUnderEveryMap = underEveryMap Alike alikeTellsNothing
+
+-- "the built-in map at 244": by it fragments and papers are marked as document 01 has it
+pub builtInMapAnalysis : (fragment : Bytes) (main alt : ℕ) (log : List ℕ)
+    → analysisWith builtInMap 244 fragment main alt log ≡ analysis builtIn fragment main alt log
+builtInMapAnalysis fragment main alt log =
+    analysis-good builtInMap 244 fragment main alt log builtInMapGood refl ∙ (ap (λ R. analysis R fragment main alt log) builtInMapRules)
+
+pub builtInMapPaper : (paper : Bytes) (log : List ℕ) → markPaperWith builtInMap 244 paper log ≡ markPaper builtIn paper log
+builtInMapPaper paper log = paper-good builtInMap 244 paper log builtInMapGood refl ∙ (ap (λ R. markPaper R paper log) builtInMapRules)

@@ -22,7 +22,8 @@ rowCount map = field map 0
 abbrev pub firstRow : Bytes → ℕ
 firstRow map = field map 2
 
--- "then one byte a row, its class number": bytes before the rows and behind them are free
+-- "then one byte a row, its class number". In 00 01 06 00 aa bb and 256 bytes more the rows begin behind bb: bytes before the rows
+-- and behind them are free.
 abbrev pub rowsOf : Bytes → List ℕ
 rowsOf map = take 256 (drop (firstRow map) map)
 
@@ -54,7 +55,7 @@ rulesOf map limit = record { classFor = λ code. classAt (getD (rowsOf map) code
 abbrev pub judged : {X : Type 0} → Bytes → ℕ → (Refusal → X) → (Rules → X) → X
 judged map limit stop next = pick (goodMap map) (pick (goodLimit limit) (next (rulesOf map limit)) (stop badLimit)) (stop badMap)
 
--- the analysis of a fragment, and the marking of a paper, by a lent map and limit
+-- "Let the caller lend a map .. Add the stack limit (1 to 244) beside it": the analysis of a fragment, and the marking of a paper
 unfoldable pub analysisWith : Bytes → ℕ → Bytes → ℕ → ℕ → List ℕ → Marked
 analysisWith map limit fragment main alt log =
     judged map limit (λ r. refusedEarly 0 r log) (λ R. analysis R fragment main alt log)
@@ -62,7 +63,7 @@ analysisWith map limit fragment main alt log =
 unfoldable pub markPaperWith : Bytes → ℕ → Bytes → List ℕ → PaperMarked
 markPaperWith map limit paper log = judged map limit (λ r. refusedPaper 0 r log) (λ R. markPaper R paper log)
 
--- the built-in table as a map of 260 bytes: its header, and so many rows from this code on
+-- "the built-in map": the table of Section 2 as 260 bytes, a header and so many rows from this code on
 abbrev pub tableFrom : ℕ → ℕ → Bytes
 tableFrom code zero = []
 tableFrom code (suc n) = classNumber code ∷ tableFrom (code + 1) n
@@ -73,7 +74,7 @@ builtInMap = 0x00 ∷ 0x01 ∷ 0x04 ∷ 0x00 ∷ tableFrom 0x00 256
 -- The claims
 
 -- "Demand 3, whole, is then stated over every valid map and every limit at one go": of all bytes lent for a map and every number
--- for a limit; what is accepted is valid (`acceptedIsGood`)
+-- for a limit, since what is accepted has both good
 abbrev pub TrueWith : Bytes → ℕ → Bytes → ℕ → ℕ → List ℕ → Type 0
 TrueWith map limit fragment main alt log =
     let m : Marked = analysisWith map limit fragment main alt log in
