@@ -110,7 +110,7 @@ module _ (R : Rules) (t : State) where
   goes-on i is s h f = through (effect R i (R .classFor (i .opcode)) (s .arm) (s .frames)) (met i s) (λ u. walk R is u) h f
 
   -- and past the last one no conditional is open
-  pub at-end : (s : State) → walk R [] s ≡ passed t → (s .frames ≡ []) × (s ≡ t)
+  at-end : (s : State) → walk R [] s ≡ passed t → (s .frames ≡ []) × (s ≡ t)
   unfolding walk
   at-end s h = none-open (s .frames) h
     where
