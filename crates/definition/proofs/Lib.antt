@@ -2,6 +2,7 @@
 pub mod MarkedPapers
 pub mod SpoiltIndices
 pub mod LongDataWitnesses
+pub mod MapWitnesses
 pub mod Replays
 pub mod Related
 pub mod Arms
@@ -15,3 +16,9 @@ pub mod Witnesses
 pub mod PrintedPapers
 pub mod NumberForm
 pub mod Sittings
+pub mod GoodMaps
+pub mod BuiltInMap
+pub mod UnderEveryMap
+pub mod Allowed
+pub mod AllowedPapers
+pub mod Raising

@@ -10,3 +10,5 @@ pub mod Papers
 pub mod Lines
 pub mod Sums
 pub mod Blank
+pub mod Allows
+pub mod Maps
