@@ -418,9 +418,17 @@ fn conclude(w: Walk) -> Summary
 }
 
 // The walk of a fragment from so many unknown items, with room in the log for each of its instructions.
-fn walk_all(fragment: &[u8], main: u32, alt: u32, log: &mut [u16]) -> Walk
+fn walk_all(
+    fragment: &[u8],
+    main: u32,
+    alt: u32,
+    classes: &[u8],
+    options: Options,
+    log: &mut [u16],
+) -> Walk
     requires { ⌜ (length (now fragment) ≤ 10000) × (main + alt ≤ 244) ⌝ }
     requires { ⌜ 3 * length (instructions (decode (now fragment))) ≤ length (now log) ⌝ }
+    requires { ⌜ (GoodRows (now classes)) × (options .limit ≤ 244) ⌝ }
     ensures { λ r.
         ⌜
         Stops
@@ -428,7 +436,7 @@ fn walk_all(fragment: &[u8], main: u32, alt: u32, log: &mut [u16]) -> Walk
         (now (log .exit))
         (answered
         (walk
-        builtIn
+        (rulesBy (now (classes .entry)) (options .limit))
         (instructions (decode (now (fragment .entry))))
         (begin (unknowns main alt) (now (log .entry)))))
         ⌝ }
@@ -443,9 +451,7 @@ fn walk_all(fragment: &[u8], main: u32, alt: u32, log: &mut [u16]) -> Walk
         peak: main + alt,
         stop: Stop::Running,
     };
-    let classes = opcodes::table();
-    let options = Options { limit: 244 };
-    arm(fragment, log, &classes, options, start, 0)
+    arm(fragment, log, classes, options, start, 0)
 }
 
 // The verdict of a summary and the end stacks.
@@ -464,16 +470,20 @@ fn with_end(v: Summary, end: EndStacks) -> Verdict
     }
 }
 
-// The tests before the walk, in their order; so many numbers of the log are lent.
-fn early(fragment: &[u8], main: u32, alt: u32, lent: usize) -> Start
-    ensures { λ r. ⌜ ((log : List ℕ) → length log ≡ lent → Starts (now (fragment .entry)) main alt log r) ⌝ }
+// The tests before the walk, in their order, by this limit; so many numbers of the log are lent.
+fn early(fragment: &[u8], main: u32, alt: u32, limit: u32, lent: usize) -> Start
+    ensures { λ r.
+        ⌜
+        ((R : Rules) (log : List ℕ)
+        → R .limit ≡ limit → length log ≡ lent → Starts R (now (fragment .entry)) main alt log r)
+        ⌝ }
 {
     let sum = (main as u64) + (alt as u64);
     if fragment.len() > 10000 {
         return Start::Refused(refusal(1, 0, fragment.len() as u64, 10000, 0));
     }
-    if sum > 244 {
-        return Start::Refused(refusal(2, 0, sum, 244, 0));
+    if sum > limit as u64 {
+        return Start::Refused(refusal(2, 0, sum, limit as u64, 0));
     }
     let counted = decode::count_instructions(fragment);
     match counted {
@@ -484,6 +494,88 @@ fn early(fragment: &[u8], main: u32, alt: u32, lent: usize) -> Start
             }
             Start::Walks
         }
+    }
+}
+
+// The analysis of a fragment by the classes of lent rows, from main and alt unknown items; one row of the lent log is written
+// for each instruction met.
+pub fn analyze_rows(
+    fragment: &[u8],
+    main: u32,
+    alt: u32,
+    classes: &[u8],
+    options: Options,
+    log: &mut [u16],
+) -> Verdict
+    requires { ⌜ (GoodRows (now classes)) × (options .limit ≤ 244) ⌝ }
+    ensures same { λ r.
+        ⌜
+        r
+        ≡ packedVerdict
+        (analysis (rulesBy (now (classes .entry)) (options .limit)) (now (fragment .entry)) main alt (now (log .entry)) .verdict)
+        ⌝ }
+    ensures shows { λ r.
+        ⌜
+        verdictOf r
+        ≡ analysis (rulesBy (now (classes .entry)) (options .limit)) (now (fragment .entry)) main alt (now (log .entry)) .verdict
+        ⌝ }
+    ensures within { λ r. ⌜ r .end .main + r .end .alt ≤ 244 ⌝ }
+    ensures logged { λ r.
+        ⌜
+        now (log .exit)
+        ≡ analysis (rulesBy (now (classes .entry)) (options .limit)) (now (fragment .entry)) main alt (now (log .entry)) .log
+        ⌝ }
+    ensures replayed { λ r.
+        ⌜
+        (r .number ≡ 0
+        → Demand3
+        (rulesBy (now (classes .entry)) (options .limit))
+        (instructions (decode (now (fragment .entry))))
+        (unknowns main alt)
+        (record { verdict = verdictOf r; log = now (log .exit) }))
+        ⌝ }
+{
+    let start = early(fragment, main, alt, options.limit, log.len());
+    match start {
+        Start::Refused(v) => with_end(v, EndStacks::none()),
+        Start::Walks => {
+            let w = walk_all(fragment, main, alt, classes, options, log);
+            let v = conclude(w);
+            if v.ended {
+                let s = w.stacks;
+                return with_end(v, s.ends());
+            }
+            with_end(v, EndStacks::none())
+        }
+    }
+}
+
+// The same with the heights of the end in place of the end stacks, for callers that read no item.
+pub fn analyze_heights_rows(
+    fragment: &[u8],
+    main: u32,
+    alt: u32,
+    classes: &[u8],
+    options: Options,
+    log: &mut [u16],
+) -> Summary
+    requires { ⌜ (GoodRows (now classes)) × (options .limit ≤ 244) ⌝ }
+    ensures same { λ r.
+        ⌜
+        r
+        ≡ summarized
+        (analysis (rulesBy (now (classes .entry)) (options .limit)) (now (fragment .entry)) main alt (now (log .entry)) .verdict)
+        ⌝ }
+    ensures logged { λ r.
+        ⌜
+        now (log .exit)
+        ≡ analysis (rulesBy (now (classes .entry)) (options .limit)) (now (fragment .entry)) main alt (now (log .entry)) .log
+        ⌝ }
+{
+    let start = early(fragment, main, alt, options.limit, log.len());
+    match start {
+        Start::Refused(v) => v,
+        Start::Walks => conclude(walk_all(fragment, main, alt, classes, options, log)),
     }
 }
 
@@ -517,19 +609,9 @@ pub fn analyze(fragment: &[u8], main: u32, alt: u32, log: &mut [u16]) -> Verdict
         (record { verdict = verdictOf r; log = now (log .exit) }))
         ⌝ }
 {
-    let start = early(fragment, main, alt, log.len());
-    match start {
-        Start::Refused(v) => with_end(v, EndStacks::none()),
-        Start::Walks => {
-            let w = walk_all(fragment, main, alt, log);
-            let v = conclude(w);
-            if v.ended {
-                let s = w.stacks;
-                return with_end(v, s.ends());
-            }
-            with_end(v, EndStacks::none())
-        }
-    }
+    let classes = opcodes::table();
+    let options = Options { limit: 244 };
+    analyze_rows(fragment, main, alt, &classes, options, log)
 }
 
 // The same with the heights of the end in place of the end stacks, for callers that read no item.
@@ -546,9 +628,7 @@ pub fn analyze_heights(fragment: &[u8], main: u32, alt: u32, log: &mut [u16]) ->
         ≡ analysis builtIn (now (fragment .entry)) main alt (now (log .entry)) .log
         ⌝ }
 {
-    let start = early(fragment, main, alt, log.len());
-    match start {
-        Start::Refused(v) => v,
-        Start::Walks => conclude(walk_all(fragment, main, alt, log)),
-    }
+    let classes = opcodes::table();
+    let options = Options { limit: 244 };
+    analyze_heights_rows(fragment, main, alt, &classes, options, log)
 }
