@@ -1,0 +1,3 @@
+-- What is proved of maps for this crate's functions and for callers.
+pub mod Judging
+pub mod Rows
