@@ -107,13 +107,16 @@ module _ (R : Rules) (s : Bytes) (main alt : ℕ) (log : List ℕ) where
 
 -- The verdict that is answered
 
--- what the entry point promises of its answer r and the log afterwards
-pub record Analysed (R : Rules) (s : Bytes) (main alt : ℕ) (log : List ℕ) (r : Verdict) (new : List ℕ) : Type 0 where
-  pub same : r ≡ packedVerdict (analysis R s main alt log .verdict)
-  pub shows : verdictOf r ≡ analysis R s main alt log .verdict
+-- what an entry point promises of its answer r and the log afterwards, where `a` is the definition's and Q the claim about it
+pub record Shows (Q : Marked → Type 0) (a : Marked) (r : Verdict) (new : List ℕ) : Type 0 where
+  pub same : r ≡ packedVerdict (a .verdict)
+  pub shows : verdictOf r ≡ a .verdict
   pub within : r .end .main + r .end .alt ≤ 244
-  pub logged : new ≡ analysis R s main alt log .log
-  pub replayed : r .number ≡ 0 → Demand3 R (instructions (decode s)) (unknowns main alt) (record { verdict = verdictOf r; log = new })
+  pub logged : new ≡ a .log
+  pub replayed : r .number ≡ 0 → Q (record { verdict = verdictOf r; log = new })
+
+abbrev pub Analysed : Rules → Bytes → ℕ → ℕ → List ℕ → Verdict → List ℕ → Type 0
+Analysed R s main alt log r new = Shows (Demand3 R (instructions (decode s)) (unknowns main alt)) (analysis R s main alt log) r new
 
 -- the same by equal rules
 pub analysed-by : {R Q : Rules} → R ≡ Q → (s : Bytes) (main alt : ℕ) (log : List ℕ) (r : Verdict) (new : List ℕ) → Analysed R s main alt log r new → Analysed Q s main alt log r new
@@ -153,25 +156,37 @@ dead-end : (c : Arm) → hasEnd c ≡ false → c ≡ dead
 dead-end dead h = refl
 dead-end (live s) h = cc
 
-module _ (R : Rules) (small : R .limit ≤ 244) (s : Bytes) (main alt : ℕ) (log : List ℕ) where
-  answers : (m : Marked) → analysis R s main alt log ≡ m → (v : Summary) → v ≡ summarized (m .verdict)
+module _ (Q : Marked → Type 0) (a : Marked) (claim : a .verdict .answer .number ≡ 0 → Q a) where
+  shows-as : (m : Marked) → a ≡ m → (v : Summary) → v ≡ summarized (m .verdict)
       → (e : EndStacks) → e ≡ endStacks (m .verdict .end) → Shown (m .verdict .end) → e .main + e .alt ≤ 244
-      → (r : Verdict) → r ≡ withEnd v e → Analysed R s main alt log r (m .log)
+      → (r : Verdict) → r ≡ withEnd v e → Shows Q a r (m .log)
   unfolding verdictOf packedVerdict summarized
-  answers m a v same e k b few r is =
+  shows-as m c v same e k b few r is =
       let u : W.Verdict = m .verdict in
       let packs : r ≡ packedVerdict u = is ∙ ap₂ (λ x y. withEnd x y) same k in
       let shows : verdictOf r ≡ u = ap verdictOf packs ∙ (λ i. record { answer = u .answer; rows = u .rows; peak = u .peak; end = b i }) in
       record {
-        same = rw a packs;
-        shows = rw a shows;
+        same = rw c packs;
+        shows = rw c shows;
         within = rw is few;
-        logged = rw a;
+        logged = rw c;
         replayed = λ z.
-            let q : record { verdict = verdictOf r; log = m .log } ≡ analysis R s main alt log = (λ i. record { verdict = shows i; log = m .log }) ∙ sym a in
-            subst (Demand3 R (instructions (decode s)) (unknowns main alt)) (sym q)
-            (trueOfAnalysis R (omega (arith, small)) s main alt log (ap (λ (x : Marked). x .verdict .answer .number) a ∙ sym (ap (λ (x : Verdict). x .number) packs) ∙ z));
+            let q : record { verdict = verdictOf r; log = m .log } ≡ a = (λ i. record { verdict = shows i; log = m .log }) ∙ sym c in
+            subst Q (sym q) (claim (ap (λ (x : Marked). x .verdict .answer .number) c ∙ sym (ap (λ (x : Verdict). x .number) packs) ∙ z));
       }
+
+  -- refused before all else
+  pub shows-refusal : (x : D.Refusal) (log : List ℕ) → a ≡ refusedEarly 0 x log → (v : Summary) → v ≡ summarized (refusedVerdict 0 x 0)
+      → (e : EndStacks) → e ≡ packedEnd noStacks → (r : Verdict) → r ≡ withEnd v e → Shows Q a r log
+  shows-refusal x log c v same e k r is = shows-as (refusedEarly 0 x log) c v same e k refl (no-items e k) r is
+
+module _ (R : Rules) (small : R .limit ≤ 244) (s : Bytes) (main alt : ℕ) (log : List ℕ) where
+  answers : (m : Marked) → analysis R s main alt log ≡ m → (v : Summary) → v ≡ summarized (m .verdict)
+      → (e : EndStacks) → e ≡ endStacks (m .verdict .end) → Shown (m .verdict .end) → e .main + e .alt ≤ 244
+      → (r : Verdict) → r ≡ withEnd v e → Analysed R s main alt log r (m .log)
+  answers =
+      shows-as (Demand3 R (instructions (decode s)) (unknowns main alt)) (analysis R s main alt log)
+      (trueOfAnalysis R (omega (arith, small)) s main alt log)
 
   -- refused before the walk
   pub answers-early : (v : Summary) → RefusedEarly v log (analysis R s main alt log) → (e : EndStacks) → e ≡ packedEnd noStacks → (r : Verdict) → r ≡ withEnd v e → Analysed R s main alt log r log

@@ -3,4 +3,5 @@ pub mod Conditionals
 pub mod Cycle
 pub mod Answers
 pub mod Entries
+pub mod WithMap
 pub mod LongData

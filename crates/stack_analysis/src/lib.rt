@@ -10,6 +10,7 @@ ghost use Rattle.definition.specs.Decoding.{decode, instructions};
 ghost use Rattle.definition.specs.Refusals.{answer, refusedAt};
 ghost use Rattle.definition.specs.Replay.{Demand3};
 ghost use Rattle.definition.specs.Walk.{dead, unknowns, begin, walk, answered, analysis, refusedVerdict};
+ghost use Rattle.definition.specs.Maps.{rulesOf, analysisWith};
 ghost use Rattle.stack.specs.View.{refusalOf};
 ghost use Rattle.opcodes.specs.View.{GoodRows, rulesBy};
 ghost use Rattle.walk.specs.Runs.{armOf, arm, stopOf, Ready};
@@ -631,4 +632,50 @@ pub fn analyze_heights(fragment: &[u8], main: u32, alt: u32, log: &mut [u16]) ->
     let classes = opcodes::table();
     let options = Options { limit: 244 };
     analyze_heights_rows(fragment, main, alt, &classes, options, log)
+}
+
+// The analysis of a fragment by a lent map and a lent limit: 28 and then 29 before all else.
+pub fn analyze_with(
+    fragment: &[u8],
+    main: u32,
+    alt: u32,
+    map: &[u8],
+    options: Options,
+    log: &mut [u16],
+) -> Verdict
+    ensures same { λ r.
+        ⌜
+        r
+        ≡ packedVerdict
+        (analysisWith (now (map .entry)) (options .limit) (now (fragment .entry)) main alt (now (log .entry)) .verdict)
+        ⌝ }
+    ensures shows { λ r.
+        ⌜
+        verdictOf r
+        ≡ analysisWith (now (map .entry)) (options .limit) (now (fragment .entry)) main alt (now (log .entry)) .verdict
+        ⌝ }
+    ensures within { λ r. ⌜ r .end .main + r .end .alt ≤ 244 ⌝ }
+    ensures logged { λ r.
+        ⌜
+        now (log .exit)
+        ≡ analysisWith (now (map .entry)) (options .limit) (now (fragment .entry)) main alt (now (log .entry)) .log
+        ⌝ }
+    ensures replayed { λ r.
+        ⌜
+        (r .number ≡ 0
+        → Demand3
+        (rulesOf (now (map .entry)) (options .limit))
+        (instructions (decode (now (fragment .entry))))
+        (unknowns main alt)
+        (record { verdict = verdictOf r; log = now (log .exit) }))
+        ⌝ }
+{
+    if !maps::good_map(map) {
+        return with_end(refusal(28, 0, 0, 0, 0), EndStacks::none());
+    }
+    if !maps::good_limit(options.limit) {
+        return with_end(refusal(29, 0, 0, 0, 0), EndStacks::none());
+    }
+    let at = maps::first_row(map);
+    analyze_rows(fragment, main, alt, &map[at..at + 256], options, log)
 }
