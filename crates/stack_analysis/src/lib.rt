@@ -670,10 +670,12 @@ pub fn analyze_with(
         (record { verdict = verdictOf r; log = now (log .exit) }))
         ⌝ }
 {
-    if !maps::good_map(map) {
+    let good = maps::good_map(map);
+    let limited = maps::good_limit(options.limit);
+    if !good {
         return with_end(refusal(28, 0, 0, 0, 0), EndStacks::none());
     }
-    if !maps::good_limit(options.limit) {
+    if !limited {
         return with_end(refusal(29, 0, 0, 0, 0), EndStacks::none());
     }
     let at = maps::first_row(map);
