@@ -2,18 +2,8 @@
 # tests/trial_table.sh: the marker reads the table of classes. In a trial copy whose table calls 61 unmodelled, which no proof
 # covers, a body `61` is refused with 11; where 61 is dead code, and in the tree as it is, it is accepted. `rt try` runs a
 # program without its proof, on the interpreter and compiled, and compares what it prints.
-root=$(CDPATH='' cd -- "$(dirname -- "$0")/.." && pwd) || exit 1
-work=$(mktemp -d) || exit 1
-trap 'rm -rf "$work"' EXIT
-passed=0
-failed=0
-
-# hex BYTES..: the bytes that these hexadecimal numbers stand for
-hex() {
-    for byte in "$@"; do
-        printf "\\$(printf %03o "0x$byte")"
-    done
-}
+name=stackmark
+. "$(dirname "$0")/common.sh"
 
 # prints TREE LINES BYTES..: of a paper of one entry without parameters, with this body, `stackmark` of that tree prints these
 # lines

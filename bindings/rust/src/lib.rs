@@ -385,19 +385,22 @@ pub fn display<'a>(body: &'a [u8], init: &'a [u8], offset: usize, mark: u32) -> 
 ///
 /// Tests nothing: a paper that is refused has its lines too.
 pub fn mark_lines(paper: &[u8], log: &mut [u16], text: &mut [u8]) -> Lines {
+    // SAFETY: it reads the paper and writes the other three, each within its length.
+    unsafe { lines_by(callee::listochur_mark_lines, paper, log, text) }
+}
+
+/// A function that puts a text of a paper into lent bytes.
+type TextOf = unsafe extern "C" fn(*const u8, usize, *mut u16, usize, *mut u8, usize, *mut u64, usize) -> u32;
+
+/// What such a function answers.
+///
+/// # Safety
+/// `call` reads and writes no more than the slices that it is passed.
+unsafe fn lines_by(call: TextOf, paper: &[u8], log: &mut [u16], text: &mut [u8]) -> Lines {
     let mut out = [0; 1];
     // SAFETY: each slice is passed whole, with its own length, and the borrows keep `log`, `text` and `out` apart from the rest.
     let number = unsafe {
-        callee::listochur_mark_lines(
-            paper.as_ptr(),
-            paper.len(),
-            log.as_mut_ptr(),
-            log.len(),
-            text.as_mut_ptr(),
-            text.len(),
-            out.as_mut_ptr(),
-            out.len(),
-        )
+        call(paper.as_ptr(), paper.len(), log.as_mut_ptr(), log.len(), text.as_mut_ptr(), text.len(), out.as_mut_ptr(), out.len())
     };
     let [size] = out;
     Lines { number, size: size as usize }
@@ -410,22 +413,8 @@ pub fn mark_lines(paper: &[u8], log: &mut [u16], text: &mut [u8]) -> Lines {
 ///
 /// Tests nothing: a paper that is refused has its lines too.
 pub fn log_lines(paper: &[u8], log: &mut [u16], text: &mut [u8]) -> Lines {
-    let mut out = [0; 1];
-    // SAFETY: each slice is passed whole, with its own length, and the borrows keep `log`, `text` and `out` apart from the rest.
-    let number = unsafe {
-        callee::listochur_log_lines(
-            paper.as_ptr(),
-            paper.len(),
-            log.as_mut_ptr(),
-            log.len(),
-            text.as_mut_ptr(),
-            text.len(),
-            out.as_mut_ptr(),
-            out.len(),
-        )
-    };
-    let [size] = out;
-    Lines { number, size: size as usize }
+    // SAFETY: it reads the paper and writes the other three, each within its length.
+    unsafe { lines_by(callee::listochur_log_lines, paper, log, text) }
 }
 
 /// A verdict's number and its two figures in words. They are written to the start of `text` where it has room for all of them,
