@@ -34,23 +34,6 @@ pub number-below : (opcode : ℕ) → classNumber opcode < 32
 unfolding classNumber
 number-below opcode = numberIn-below 32 ranges opcode tt
 
--- the class of an opcode whose class number is n
-pub class-is : (opcode n : ℕ) → classNumber opcode ≡ n → classOf opcode ≡ classAt n
-unfolding classOf
-class-is opcode n e = ap classAt e
-
--- the same by what `class_of` or `class_at` gave, r, where a match on r is at n
-pub class-at-key : (opcode r n : ℕ) → r ≡ classNumber opcode → r ≡ n → classOf opcode ≡ classAt n
-class-at-key opcode r n e k = class-is opcode n (sym e ∙ k)
-
--- and at its default: r, from lo to below hi, is none of the numbers of the arms, and they are all of that range but 0
-pub class-at-rest : (arms : List (List ℕ)) (opcode r lo hi : ℕ) → r ≡ classNumber opcode → Rest arms r → lo ≤ r → r < hi
-    → T (every (gives (λ n. n) arms 0) (hi - lo) lo) → classOf opcode ≡ ordinary unmodelled
-class-at-rest arms opcode r lo hi e k g h t = class-at-key opcode r 0 e (sym (ranged (λ n. n) arms r 0 lo hi k g h t))
-
-pub result-below : (opcode r : ℕ) → r ≡ classNumber opcode → r < 32
-result-below opcode r e = rw e (number-below opcode)
-
 -- the two ranges of push
 pub push-low : (opcode : ℕ) → opcode ≤ 0x4f → classNumber opcode ≡ 1
 unfolding classNumber
