@@ -8,7 +8,8 @@
  *
  * - A pointer points to that many elements, aligned for their type, to read or, where it is not const, to write.
  * - With a length of 0 nothing is read or written through the pointer, and it may be NULL.
- * - `log`, `items`, `text`, `out` and `tally` overlap nothing else that is passed. Slices that are only read may overlap.
+ * - What is written, `log`, `items`, `out`, `tally` and a `text`, `fragment` or `map` that is not const, overlaps nothing else
+ *   that is passed. Slices that are only read may overlap.
  *
  * The functions allocate nothing, keep no pointer, call nothing back and may run on several threads at once. They use up to
  * 512 KiB of the caller's stack: conditionals nest at most 24 deep, and each level has its own.
@@ -32,9 +33,10 @@ extern "C" {
 #define LISTOCHUR_LOG_LINES_PLACES 1
 #define LISTOCHUR_REASON_PLACES 1
 #define LISTOCHUR_SUMS_PLACES (3 + LISTOCHUR_NUMBERS)
+#define LISTOCHUR_LISTING_PLACES 3
 
 /* How many verdict numbers are in use, from 0 on. */
-#define LISTOCHUR_NUMBERS 26
+#define LISTOCHUR_NUMBERS 30
 
 /* Room for the lines of any paper, and for the words of any verdict. */
 #define LISTOCHUR_LINES_BYTES 4096
@@ -136,6 +138,74 @@ uint32_t listochur_gain(uint32_t tally[4], uint32_t number, uint64_t rows, uint3
  * after 23 all but the number are 0.
  */
 uint32_t listochur_sums(const uint32_t *sitting, size_t sitting_len, uint64_t *out, size_t out_len);
+
+/*
+ * A listing, words parted by one space as `OpDup <0102> 0x50`, assembled into a fragment. Answers 0; 26 where a word is outside
+ * the form; 27 where `fragment` cannot take all bytes, which `text_len` of them always can.
+ * `fragment`: the bytes, where the answer is 0; else it stays as it was. The bytes behind them stay as they were.
+ * `out`: number, the offset of the first strange word (0 but for 26), how many bytes are written.
+ */
+uint32_t listochur_assemble(const uint8_t *text, size_t text_len, uint8_t *fragment, size_t fragment_len, uint64_t *out,
+                            size_t out_len);
+
+/*
+ * A fragment as a listing, each data push as its bytes, whatever its length form. Answers 0; 3 where the fragment is malformed;
+ * 27 where `text` cannot take all of it, which 25 bytes for each of the fragment's always can.
+ * `text`: the listing, with no newline and no NUL behind it, where the answer is 0; else it stays as it was. The bytes behind it
+ * stay as they were.
+ * `out`: number, the offset of the malformed instruction (0 but for 3), how many bytes are written.
+ */
+uint32_t listochur_list(const uint8_t *fragment, size_t fragment_len, uint8_t *text, size_t text_len, uint64_t *out,
+                        size_t out_len);
+
+/*
+ * A lent opcode map and a lent stack limit (request L6). The functions above go by the built-in map at the limit of 244; those
+ * below by the map and the limit that they are lent.
+ *
+ * A map is a header of two 16-bit numbers, lowest byte first, the count of rows (256) and the offset of the first (4 or more),
+ * then one byte a row, the class number of its code. Bytes before the rows and behind them are free. It is bad, 28, where the
+ * count or the offset is another, the rows do not lie within the map, a row is over 31, the row of a code up to 60 is not the
+ * built-in one, or a later row is 1 (push). All rows are judged, used or not, and once a call.
+ *
+ * `limit` is 1 to 244 and stands for 244 everywhere, in figures too; another one is bad, 29. Both are judged before all else, the
+ * map first. At 28 and 29 `log` and `items` stay as they were, and `out` has the number and zeros; the lines are the one line
+ * `refused 28 at 0 0 0 0`.
+ *
+ * `mode` is not read yet. Pass 0.
+ */
+
+/* How many bytes the built-in map has, and the built-in limit. */
+#define LISTOCHUR_MAP_BYTES 260
+#define LISTOCHUR_LIMIT 244
+
+/*
+ * A map to lend: that of year 0 is the built-in one, 00 01 04 00 and the 256 class numbers. Answers LISTOCHUR_MAP_BYTES, or 0 for
+ * another year and where `map` is shorter.
+ * `map`: the bytes, where the answer is not 0; else it stays as it was. The bytes behind them stay as they were.
+ */
+uint32_t listochur_map(uint32_t year, uint8_t *map, size_t map_len);
+
+/* As `listochur_analyze_items`, by a lent map and limit. */
+uint32_t listochur_analyze_with(const uint8_t *fragment, size_t fragment_len, uint32_t main_items, uint32_t alt_items,
+                                const uint8_t *map, size_t map_len, uint32_t limit, uint32_t mode, uint16_t *log, size_t log_len,
+                                uint64_t *items, size_t items_len, uint64_t *out, size_t out_len);
+
+/* As `listochur_mark_paper`, by a lent map and limit. */
+uint32_t listochur_mark_paper_with(const uint8_t *paper, size_t paper_len, const uint8_t *map, size_t map_len, uint32_t limit,
+                                   uint32_t mode, uint16_t *log, size_t log_len, uint64_t *out, size_t out_len);
+
+/* As `listochur_mark_lines`, by a lent map and limit. */
+uint32_t listochur_mark_lines_with(const uint8_t *paper, size_t paper_len, const uint8_t *map, size_t map_len, uint32_t limit,
+                                   uint32_t mode, uint16_t *log, size_t log_len, uint8_t *text, size_t text_len, uint64_t *out,
+                                   size_t out_len);
+
+/*
+ * As `listochur_log_lines`, by a lent map and limit. The words of the instructions are those of the built-in map; which of them
+ * open and close a conditional goes by the lent one.
+ */
+uint32_t listochur_log_lines_with(const uint8_t *paper, size_t paper_len, const uint8_t *map, size_t map_len, uint32_t limit,
+                                  uint32_t mode, uint16_t *log, size_t log_len, uint8_t *text, size_t text_len, uint64_t *out,
+                                  size_t out_len);
 
 #ifdef __cplusplus
 }

@@ -171,6 +171,38 @@ try "$tree/listochur" mark "$work/good"
 gives "the whole command" 0 "$good"
 try "$tree/listochur" --version
 is "version" "$status" -eq 0
+# A map and a limit
+try "$tree/mark" --limit 4 "$work/good"
+gives "a low limit" 1 "refused 20 at 0 0 5 4"
+try "$tree/mark" --limit 5 "$work/good"
+gives "the least limit" 0 "$good"
+try "$tree/log" --limit 4 "$work/good"
+is "a log at a low limit" "$status" -eq 1
+is "a log at a low limit: its end" "$(tail -n 1 "$work/out")" = "refused 20 at 0 0 5 4"
+"$tree/listochur" map >"$work/map" 2>"$work/err"
+is "the map" $? -eq 0
+is "the map: 260 bytes" "$(wc -c <"$work/map")" -eq 260
+try "$tree/mark" --map "$work/map" "$work/good"
+gives "the built-in map lent" 0 "$good"
+try "$tree/mark" --map "$work/map" --limit 4 --csv "$work/good"
+gives "a register at a low limit" 1 "name,number,word,entry,offset,first,second,rows,peak,fragments
+$work/good,20,dispatch,0,0,5,4,0,0,"
+# 61, the one code of class 2, becomes push
+tr '\2' '\1' <"$work/map" >"$work/other map"
+for name in mark log; do
+    try "$tree/$name" --map "$work/other map" "$work/good"
+    gives "./$name by a bad map" 2 ""
+    says "./$name by a bad map" "other map: bad map (28): row 61, at offset 101, is push (1)"
+    try "$tree/$name" --limit 245 "$work/good"
+    gives "./$name at a bad limit" 2 ""
+    says "./$name at a bad limit" "--limit 245: bad limit (29)"
+done
+# without ELSE, 67, of class 5
+tr '\5' '\0' <"$work/map" >"$work/other map"
+try "$tree/mark" --map "$work/other map" "$work/good"
+gives "a map without ELSE" 1 "refused 11 at 0 2 103 0"
+try "$tree/mark" "$work/good"
+gives "and without the map" 0 "$good"
 try sh -c '"$0" "$1" >/dev/full' "$tree/mark" "$work/good"
 is "a full disk" "$status" -eq 2
 try sh -c '"$0" "$1" >&-' "$tree/mark" "$work/good"

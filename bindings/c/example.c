@@ -1,5 +1,6 @@
 /* Marks the sample paper of document 01, section 6, prints its lines and its log, analyses a fragment that is refused and says
- * why in words, shows the items of an end, keeps a tally, and sums up a sitting. */
+ * why in words, shows the items of an end, keeps a tally, sums up a sitting, and lists a fragment and
+ * assembles it again. */
 #include <inttypes.h>
 #include <stdio.h>
 #include <stdlib.h>
@@ -70,5 +71,14 @@ int main(void) {
     listochur_sums(sitting, 4, s, LISTOCHUR_SUMS_PLACES);
     printf("%" PRIu64 " with 0, %" PRIu64 " with 7, peaks of the accepted: sum %" PRIu64 ", count %" PRIu64 "\n", s[3], s[3 + 7],
            s[1], s[2]);
+
+    const uint8_t pushed[] = {0x76, 0x4c, 0x01, 0x05, 0x50};
+    uint8_t listing[80], shortest[80];
+    uint64_t l[LISTOCHUR_LISTING_PLACES], a[LISTOCHUR_LISTING_PLACES];
+    listochur_list(pushed, sizeof pushed, listing, sizeof listing, l, LISTOCHUR_LISTING_PLACES);
+    printf("%.*s\n", (int)l[2], (const char *)listing);
+    listochur_assemble(listing, l[2], shortest, sizeof shortest, a, LISTOCHUR_LISTING_PLACES);
+    for (uint64_t k = 0; k < a[2]; k++) printf("%02x", shortest[k]);
+    printf("\n");
     return 0;
 }

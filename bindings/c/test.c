@@ -185,8 +185,8 @@ static void log_lines(void) {
     uint8_t text[512];
     const uint8_t paper[] = {1, 0, 0, 0, 14, 0, 0, 0, 2, 0, 14, 0, 1, 0, 0x75};
     const char *lines = "entry 0: length 1, from main 2 alt 0\n"
-                        "offset main  alt total |of 8            | bytes\n"
-                        "     0    2    0     2 |####............| 75\n"
+                        "offset main  alt total |of 8            | bytes       instruction\n"
+                        "     0    2    0     2 |####............| 75          OpDrop\n"
                         "accepted: peak 2, end main 1 alt 0\n"
                         "\n"
                         "accepted\n";
@@ -301,6 +301,241 @@ static void sums(void) {
     for (size_t k = 0; k < places; k++) EXPECT(out[k] == 0x0909090909090909);
 }
 
+static void listings(void) {
+    uint64_t out[LISTOCHUR_LISTING_PLACES + 1] = {9, 9, 9, 7};
+    uint8_t bytes[16];
+    memset(bytes, '#', sizeof bytes);
+    const uint8_t *text = (const uint8_t *)"OpDup <05>";
+    EXPECT(listochur_assemble(text, 10, bytes, sizeof bytes, out, LISTOCHUR_LISTING_PLACES + 1) == 0);
+    EXPECT(holds(out, (const uint64_t[]){0, 0, 3}, 3));
+    EXPECT(memcmp(bytes, "\x76\x01\x05#############", 16) == 0);
+    /* listed again, with just enough room */
+    uint8_t listing[10];
+    EXPECT(listochur_list(bytes, 3, listing, 10, out, LISTOCHUR_LISTING_PLACES) == 0);
+    EXPECT(holds(out, (const uint64_t[]){0, 0, 10}, 3) && memcmp(listing, text, 10) == 0);
+    /* refusals leave what is lent */
+    EXPECT(listochur_list(bytes, 3, listing, 9, out, LISTOCHUR_LISTING_PLACES) == 27);
+    EXPECT(holds(out, (const uint64_t[]){27, 0, 0}, 3) && memcmp(listing, text, 10) == 0);
+    EXPECT(listochur_assemble(text, 10, bytes, 2, out, LISTOCHUR_LISTING_PLACES) == 27);
+    EXPECT(listochur_assemble(text, 9, bytes, sizeof bytes, out, LISTOCHUR_LISTING_PLACES) == 26);
+    EXPECT(holds(out, (const uint64_t[]){26, 6, 0}, 3));
+    EXPECT(memcmp(bytes, "\x76\x01\x05#############", 16) == 0);
+    EXPECT(listochur_list((const uint8_t *)"\x76\x05\x01", 3, NULL, 0, out, LISTOCHUR_LISTING_PLACES) == 3);
+    EXPECT(holds(out, (const uint64_t[]){3, 1, 0}, 3));
+    /* nothing, and one place too few */
+    EXPECT(listochur_assemble(NULL, 0, NULL, 0, out, LISTOCHUR_LISTING_PLACES) == 0);
+    EXPECT(listochur_list(NULL, 0, NULL, 0, out, LISTOCHUR_LISTING_PLACES) == 0);
+    EXPECT(holds(out, (const uint64_t[]){0, 0, 0}, 3));
+    out[0] = 9;
+    EXPECT(listochur_list(bytes, 3, listing, 10, out, LISTOCHUR_LISTING_PLACES - 1) == 0 && out[0] == 9);
+}
+
+/* Request L6: maps and limits. */
+
+/* the built-in map, with a byte more to see that it stays */
+static uint8_t map[LISTOCHUR_MAP_BYTES + 1];
+
+/* the place of a code's row in it */
+static size_t row(int code) {
+    return (size_t)code + 4;
+}
+
+static void built_in_map(void) {
+    memset(map, 9, sizeof map);
+    EXPECT(listochur_map(0, map, sizeof map) == LISTOCHUR_MAP_BYTES);
+    EXPECT(memcmp(map, (const uint8_t[]){0, 1, 4, 0}, 4) == 0 && map[LISTOCHUR_MAP_BYTES] == 9);
+    EXPECT(map[row(0)] == 1 && map[row(0x50)] == 0 && map[row(0x60)] == 1 && map[row(0x61)] == 2 && map[row(0x63)] == 3);
+    EXPECT(map[row(0xa6)] == 16 && map[row(0xd9)] == 30 && map[row(0xff)] == 0);
+    /* another year, and a map that is too short: nothing is written */
+    uint8_t other[LISTOCHUR_MAP_BYTES];
+    memset(other, 9, sizeof other);
+    EXPECT(listochur_map(UINT32_MAX, other, sizeof other) == 0);
+    EXPECT(listochur_map(0, other, sizeof other - 1) == 0);
+    EXPECT(listochur_map(0, NULL, 0) == 0);
+    for (size_t i = 0; i < sizeof other; i++) EXPECT(other[i] == 9);
+    EXPECT(listochur_map(0, other, sizeof other) == LISTOCHUR_MAP_BYTES && memcmp(map, other, sizeof other) == 0);
+}
+
+/* By the built-in map at 244 it is the analysis without them, items included. */
+static void analyse_with(void) {
+    uint64_t out[10], items[16];
+    uint16_t log[18];
+    const uint8_t fragment[] = {0x51, 0x02, 0x05, 0x06, 0x6b, 0x57, 0x6b, 0xb2};
+    const uint64_t numbers[] = {255, 0, 0, 1, 1, 0, 255, 0, 0, 2, 0x0605, 0, 1, 7, 0};
+    for (size_t places = 14; places <= 16; places++) {
+        lend(out);
+        lend_items(items, 16);
+        memset(log, 0xff, sizeof log);
+        EXPECT(listochur_analyze_with(fragment, 8, 1, 0, map, 260, 244, 0, log, 18, items, places, out, 10) == 0);
+        EXPECT(holds(out, (const uint64_t[]){0, 0, 0, 0, 6, 5, 1, 3, 2}, 9));
+        EXPECT(memcmp(log, (const uint16_t[]){0, 1, 0, 1, 2, 0, 4, 3, 0, 5, 2, 1, 6, 3, 1, 7, 2, 2}, sizeof log) == 0);
+        /* one place too few, just enough, one more */
+        EXPECT(listed(items, numbers, places < 15 ? 0 : 15, 16));
+    }
+    /* a short `out` stops nothing else */
+    lend(out);
+    lend_items(items, 16);
+    memset(log, 0xff, sizeof log);
+    EXPECT(listochur_analyze_with(fragment, 8, 1, 0, map, 260, 5, 0, log, 18, items, 16, out, 8) == 0);
+    EXPECT(holds(out, (const uint64_t[]){7, 7, 7, 7, 7, 7, 7, 7}, 8));
+    EXPECT(listed(items, numbers, 15, 16) && log[15] == 7);
+    EXPECT(listochur_analyze_with(NULL, 0, 0, 0, map, 260, 1, 0, NULL, 0, NULL, 0, NULL, 0) == 0);
+    EXPECT(listochur_analyze_with(NULL, 0, 0, 0, NULL, 0, 1, 0, NULL, 0, NULL, 0, NULL, 0) == 28);
+    /* the limit stands for 244, in figures too */
+    lend(out);
+    EXPECT(listochur_analyze_with(fragment, 8, 1, 0, map, 260, 4, 0, log, 18, NULL, 0, out, 10) == 6);
+    EXPECT(holds(out, (const uint64_t[]){6, 7, 5, 4, 6, 0, 0, 0, 0}, 9));
+    EXPECT(listochur_analyze_with(fragment, 8, 3, 2, map, 260, 4, 0, log, 18, NULL, 0, out, 10) == 2);
+    EXPECT(holds(out, (const uint64_t[]){2, 0, 5, 4, 0, 0, 0, 0, 0}, 9));
+}
+
+/* Two IFs and no ELSE; no RETURN; rows that stand further behind. */
+static void other_maps(void) {
+    uint64_t out[10];
+    uint16_t log[15];
+    uint8_t other[300];
+    memset(other, 0xee, sizeof other);
+    memcpy(other, (const uint8_t[]){0, 1, 40, 0}, 4);
+    memcpy(other + 40, map + 4, 256);
+    const uint8_t fragment[] = {0x63, 0xff, 0x68, 0x51, 0x68};
+    lend(out);
+    EXPECT(listochur_analyze_with(fragment, 5, 2, 0, other, 300, 244, 0, log, 15, NULL, 0, out, 10) == 11);
+    EXPECT(holds(out, (const uint64_t[]){11, 1, 0xff, 0, 2, 0, 0, 0, 0}, 9));
+    other[40 + 0xff] = 3;
+    other[40 + 0x67] = 0;
+    EXPECT(listochur_analyze_with(fragment, 5, 2, 0, other, 300, 244, 0, log, 15, NULL, 0, out, 10) == 0);
+    EXPECT(holds(out, (const uint64_t[]){0, 0, 0, 0, 5, 2, 1, 1, 0}, 9));
+    EXPECT(memcmp(log, (const uint16_t[]){0, 2, 0, 1, 1, 0, 2, 0, 0, 3, 0, 0, 4, 1, 0}, sizeof log) == 0);
+    other[40 + 0x6a] = 0;
+    EXPECT(listochur_analyze_with((const uint8_t[]){0x6a, 0xff}, 2, 0, 0, other, 300, 244, 0, log, 15, NULL, 0, out, 10) == 11);
+    EXPECT(holds(out, (const uint64_t[]){11, 0, 106, 0, 1, 0, 0, 0, 0}, 9));
+    /* 296 bytes are the map; 295 have one row too few */
+    EXPECT(listochur_analyze_with(fragment, 5, 2, 0, other, 296, 244, 0, log, 15, NULL, 0, NULL, 0) == 0);
+    EXPECT(listochur_analyze_with(fragment, 5, 2, 0, other, 295, 244, 0, log, 15, NULL, 0, NULL, 0) == 28);
+}
+
+/* whether this map and limit get this number from each function, with all that is lent as it was but for `out` and the line */
+static int refused_by(const uint8_t *bad, size_t bad_len, uint32_t limit, uint32_t number) {
+    /* too long a fragment and paper, so that 1 and 21 would come next */
+    static const uint8_t long_fragment[10001];
+    const uint8_t paper[] = {1, 0, 0, 0, 14, 0, 0, 0, 2, 0, 14, 0, 1, 0, 0x75};
+    uint64_t out[10], items[3] = {7, 7, 7};
+    uint16_t log[3] = {9, 9, 9};
+    uint8_t text[64];
+    const uint64_t numbers[] = {number, 0, 0, 0, 0, 0, 0, 0, 0};
+    char line[32];
+    const size_t size = (size_t)snprintf(line, sizeof line, "refused %u at 0 0 0 0\n", (unsigned)number);
+    int good = 1;
+    for (int k = 0; k < 2; k++) {
+        const size_t fragment_len = k == 0 ? 1 : 10001, paper_len = k == 0 ? sizeof paper : 10001;
+        const uint8_t *lent = k == 0 ? paper : long_fragment;
+        lend(out);
+        good &= listochur_analyze_with(long_fragment, fragment_len, 0, 0, bad, bad_len, limit, 0, log, 3, items, 3, out, 10) ==
+                number;
+        good &= holds(out, numbers, 9) && listed(items, NULL, 0, 3);
+        lend(out);
+        good &= listochur_mark_paper_with(lent, paper_len, bad, bad_len, limit, 0, log, 3, out, 10) == number;
+        good &= holds(out, numbers, 7);
+        lend(out);
+        memset(text, 9, sizeof text);
+        good &= listochur_mark_lines_with(lent, paper_len, bad, bad_len, limit, 0, log, 3, text, 64, out, 10) == number;
+        good &= holds(out, (const uint64_t[]){size}, 1) && memcmp(text, line, size) == 0 && text[size] == 9;
+        /* the log ends with the same line */
+        lend(out);
+        memset(text, 9, sizeof text);
+        good &= listochur_log_lines_with(lent, paper_len, bad, bad_len, limit, 0, log, 3, text, 64, out, 10) == number;
+        good &= out[0] >= size && out[0] < 64 && out[1] == 7 && memcmp(text + out[0] - size, line, size) == 0;
+        good &= text[out[0]] == 9;
+    }
+    return good && log[0] == 9 && log[1] == 9 && log[2] == 9;
+}
+
+/* Each way in which a map is bad, and the limits outside 1 to 244; the map goes first. */
+static void bad_maps_and_limits(void) {
+    uint8_t bad[LISTOCHUR_MAP_BYTES];
+    for (size_t n = 0; n < LISTOCHUR_MAP_BYTES; n++) EXPECT(refused_by(map, n, 244, 28));
+    const struct {
+        size_t place;
+        uint8_t byte;
+    } wrong[] = {
+        {0, 1},           /* a count of 257 */
+        {0, 255},         /* of 511 */
+        {1, 0},           /* of 0 */
+        {1, 2},           /* of 512 */
+        {2, 3},           /* an offset of 3 */
+        {2, 0},           /* of 0 */
+        {2, 5},           /* of 5: the last row is not there */
+        {3, 255},         /* of 65284 */
+        {4 + 0x00, 0},    /* 00 is push */
+        {4 + 0x50, 1},    /* 50 is unmodelled */
+        {4 + 0x50, 2},    /* and nothing else */
+        {4 + 0x60, 2},    /* 60 is push */
+        {4 + 0x61, 1},    /* a later code is not */
+        {4 + 0xff, 1},    /* nor the last */
+        {4 + 0x61, 32},   /* no class */
+        {4 + 0xff, 255},  /* none either */
+        {4 + 0x4c, 0x81}, /* push, but for a bit */
+    };
+    for (size_t k = 0; k < sizeof wrong / sizeof *wrong; k++) {
+        memcpy(bad, map, sizeof bad);
+        bad[wrong[k].place] = wrong[k].byte;
+        EXPECT(refused_by(bad, sizeof bad, 244, 28));
+        EXPECT(refused_by(bad, sizeof bad, 0, 28));
+    }
+    const uint32_t limits[] = {0, 245, 256, 256 + 5, 65536 + 5, UINT32_MAX};
+    for (size_t k = 0; k < sizeof limits / sizeof *limits; k++) EXPECT(refused_by(map, LISTOCHUR_MAP_BYTES, limits[k], 29));
+}
+
+/* The paper of section 6 at some limits. */
+static void papers_with(void) {
+    const uint8_t paper[] = {1, 0, 1, 0, 14, 0, 0, 0, 1, 0, 14, 0, 6, 0, 0x63, 0x51, 0x67, 0x52, 0x68, 0x75};
+    const size_t size = sizeof paper;
+    uint64_t out[10];
+    uint16_t log[18];
+    uint8_t text[1024], wanted[1024];
+    const uint32_t low[] = {1, 2, 3, 4};
+    for (size_t k = 0; k < 4; k++) {
+        lend(out);
+        memset(log, 0xff, sizeof log);
+        EXPECT(listochur_mark_paper_with(paper, size, map, 260, low[k], 0, log, 18, out, 10) == 20);
+        EXPECT(holds(out, (const uint64_t[]){20, 0, 0, 5, low[k], 0, 0}, 7));
+        EXPECT(log[0] == 65535 && log[17] == 65535);
+    }
+    EXPECT(listochur_mark_lines_with(paper, size, map, 260, 4, 0, log, 18, text, sizeof text, out, 1) == 20);
+    EXPECT(out[0] == 22 && memcmp(text, "refused 20 at 0 0 5 4\n", 22) == 0);
+    const uint32_t high[] = {5, 6, 243, 244};
+    for (size_t k = 0; k < 4; k++) {
+        lend(out);
+        memset(log, 0xff, sizeof log);
+        EXPECT(listochur_mark_paper_with(paper, size, map, 260, high[k], 0, log, 18, out, 10) == 0);
+        EXPECT(holds(out, (const uint64_t[]){0, 0, 0, 0, 0, 6, 2}, 7));
+        EXPECT(memcmp(log, (const uint16_t[]){0, 2, 0, 1, 1, 0, 2, 2, 0, 3, 1, 0, 4, 2, 0, 5, 2, 0}, sizeof log) == 0);
+        /* the lines and the log are those of before, with just room enough, and not with a byte less */
+        uint64_t sizes[2];
+        EXPECT(listochur_mark_lines(paper, size, log, 18, wanted, sizeof wanted, sizes, 1) == 0);
+        memset(text, 9, sizeof text);
+        EXPECT(listochur_mark_lines_with(paper, size, map, 260, high[k], 0, log, 18, text, sizes[0], out, 1) == 0);
+        EXPECT(out[0] == sizes[0] && memcmp(text, wanted, sizes[0]) == 0 && text[sizes[0]] == 9);
+        memset(text, 9, sizeof text);
+        EXPECT(listochur_mark_lines_with(paper, size, map, 260, high[k], 0, log, 18, text, sizes[0] - 1, out, 1) == 0);
+        EXPECT(out[0] == sizes[0] && text[0] == 9);
+        EXPECT(listochur_log_lines(paper, size, log, 18, wanted, sizeof wanted, sizes, 1) == 0);
+        memset(text, 9, sizeof text);
+        EXPECT(listochur_log_lines_with(paper, size, map, 260, high[k], 0, log, 18, text, sizes[0], out, 1) == 0);
+        EXPECT(out[0] == sizes[0] && memcmp(text, wanted, sizes[0]) == 0 && text[sizes[0]] == 9);
+        memset(text, 9, sizeof text);
+        EXPECT(listochur_log_lines_with(paper, size, map, 260, high[k], 0, log, 18, text, sizes[0] - 1, out, 1) == 0);
+        EXPECT(out[0] == sizes[0] && text[0] == 9);
+    }
+    /* a short `out` and a short log */
+    lend(out);
+    EXPECT(listochur_mark_paper_with(paper, size, map, 260, 5, 0, log, 18, out, 6) == 0);
+    EXPECT(holds(out, (const uint64_t[]){7, 7, 7, 7, 7, 7}, 6));
+    EXPECT(listochur_mark_paper_with(paper, size, map, 260, 5, 0, log, 17, NULL, 0) == 4);
+    EXPECT(listochur_mark_lines_with(paper, size, map, 260, 5, 0, log, 18, NULL, 0, NULL, 0) == 0);
+    EXPECT(listochur_log_lines_with(paper, size, map, 260, 5, 0, log, 18, NULL, 0, NULL, 0) == 0);
+}
+
 int main(void) {
     analyse();
     analyse_items();
@@ -312,5 +547,11 @@ int main(void) {
     reason();
     gain();
     sums();
+    listings();
+    built_in_map();
+    analyse_with();
+    other_maps();
+    bad_maps_and_limits();
+    papers_with();
     return failures != 0;
 }

@@ -4,21 +4,26 @@ use std::os::unix::ffi::OsStrExt;
 
 use crate::Stop;
 use crate::bytes::Bytes;
+use crate::listings::Listing;
 use crate::names::shown;
 use crate::papers::Source;
-use crate::usage::{self, COMPARE, EXPLAIN, FRAGMENT, LIMITS, LOG, MARK, PAPER, SUMS, Usage};
+use crate::rules::Named;
+use crate::usage::{self, ASM, COMPARE, EXPLAIN, FRAGMENT, LIMITS, LIST, LOG, MAP, MARK, PAPER, SUMS, Usage};
 
 #[derive(Debug, PartialEq, Eq)]
 pub enum Command {
     Help(Option<&'static Usage>),
     Version,
-    Mark { form: Form, papers: Vec<OsString> },
-    Log { paper: OsString },
-    Fragment { main: u32, alt: u32, bytes: Bytes },
+    Mark { form: Form, rules: Named, papers: Vec<OsString> },
+    Log { rules: Named, paper: OsString },
+    Fragment { rules: Named, main: u32, alt: u32, bytes: Bytes },
     Paper { fields: u16, init: Bytes, entries: Vec<Entry> },
     Limits { bytes: Bytes },
     Explain { number: u32 },
     Sums { registers: Vec<OsString> },
+    Asm { hex: bool, listing: Listing },
+    List { bytes: Bytes },
+    Map,
     Compare { papers: Vec<OsString> },
 }
 
@@ -128,9 +133,26 @@ impl Words<'_> {
             return Err(self.wrong(format!("no {kind} is named")));
         }
         if self.rest.iter().filter(|word| **word == "-").count() > 1 {
-            return Err(self.wrong("- is named twice, and standard input can be read once"));
+            return Err(self.twice("-"));
         }
         Ok(self.rest.iter().map(OsString::from).collect())
+    }
+
+    /// Said where standard input is named again, by this word.
+    fn twice(&self, word: &str) -> Stop {
+        self.wrong(format!("{word} is named twice, and standard input can be read once"))
+    }
+
+    /// The map and the limit that are named; where what follows is read from standard input, named by this word, the map is not.
+    fn rules(&self, input: Option<&str>) -> Result<Named, Stop> {
+        let map = self.value("--map").map(Source::new);
+        if map == Some(Source::Input)
+            && let Some(word) = input
+        {
+            return Err(self.wrong(format!("--map - and {word} are both standard input, which can be read once")));
+        }
+        let limit = self.value("--limit").map(|word| self.number("the limit", word, listochur::LIMIT.into())).transpose()?;
+        Ok(Named { map, limit })
     }
 
     /// A decimal number of this width, digits alone.
@@ -149,8 +171,10 @@ impl Words<'_> {
 
 fn sub_command(usage: &'static Usage, words: &[OsString]) -> Result<Command, Stop> {
     let known: &[Known] = match usage.name {
-        "mark" => &[("--csv", false), ("--json", false)],
+        "mark" => &[("--csv", false), ("--json", false), ("--map", true), ("--limit", true)],
+        "log" | "fragment" => &[("--map", true), ("--limit", true)],
         "paper" => &[("--fields", true), ("--init", true)],
+        "asm" => &[("--hex", false)],
         _ => &[],
     };
     let Some(words) = sort(usage, words, known)? else {
@@ -163,17 +187,22 @@ fn sub_command(usage: &'static Usage, words: &[OsString]) -> Result<Command, Sto
             (false, true) => Form::Json,
             (false, false) => Form::Lines,
         };
-        return Ok(Command::Mark { form, papers: words.files("paper")? });
+        let papers = words.files("paper")?;
+        let rules = words.rules(papers.iter().any(|paper| paper == "-").then_some("-"))?;
+        return Ok(Command::Mark { form, rules, papers });
     }
     if usage == &LOG {
         let [paper] = words.exactly()?;
-        return Ok(Command::Log { paper: paper.into() });
+        let rules = words.rules((paper == "-").then_some("-"))?;
+        return Ok(Command::Log { rules, paper: paper.into() });
     }
     if usage == &FRAGMENT {
         let [main, alt, bytes] = words.exactly()?;
         let main = words.number("MAIN", main, u32::MAX.into())?;
         let alt = words.number("ALT", alt, u32::MAX.into())?;
-        return Ok(Command::Fragment { main, alt, bytes: words.bytes(bytes)? });
+        let bytes = words.bytes(bytes)?;
+        let rules = words.rules((bytes == Bytes::Of(Source::Input)).then_some("@-"))?;
+        return Ok(Command::Fragment { rules, main, alt, bytes });
     }
     if usage == &PAPER {
         return paper(&words);
@@ -188,6 +217,19 @@ fn sub_command(usage: &'static Usage, words: &[OsString]) -> Result<Command, Sto
     }
     if usage == &SUMS {
         return Ok(Command::Sums { registers: words.files("register")? });
+    }
+    if usage == &ASM {
+        let [listing] = words.exactly()?;
+        let listing = Listing::parse(listing).map_err(|wrong| words.wrong(wrong))?;
+        return Ok(Command::Asm { hex: words.has("--hex"), listing });
+    }
+    if usage == &LIST {
+        let [bytes] = words.exactly()?;
+        return Ok(Command::List { bytes: words.bytes(bytes)? });
+    }
+    if usage == &MAP {
+        let [] = words.exactly()?;
+        return Ok(Command::Map);
     }
     debug_assert_eq!(usage, &COMPARE);
     Ok(Command::Compare { papers: words.files("paper")? })
@@ -215,14 +257,14 @@ fn paper(words: &Words) -> Result<Command, Stop> {
     }
     let inputs = entries.iter().map(|entry| &entry.body).chain([&init]).filter(|bytes| **bytes == Bytes::Of(Source::Input));
     if inputs.count() > 1 {
-        return Err(words.wrong("@- is named twice, and standard input can be read once"));
+        return Err(words.twice("@-"));
     }
     Ok(Command::Paper { fields, init, entries })
 }
 
 #[cfg(test)]
 mod tests {
-    use super::{Bytes, Command, Entry, Form, Source, parse};
+    use super::{Bytes, Command, Entry, Form, Listing, Named, Source, parse};
     use crate::Stop;
     use crate::usage::{ALL, MARK};
     use std::ffi::OsString;
@@ -245,7 +287,7 @@ mod tests {
 
     #[test]
     fn marking() {
-        let mark = |form, papers: &[&str]| Command::Mark { form, papers: words(papers) };
+        let mark = |form, papers: &[&str]| Command::Mark { form, rules: Named::default(), papers: words(papers) };
         assert_eq!(parsed(&["mark", "a"]), mark(Form::Lines, &["a"]));
         assert_eq!(parsed(&["mark", "a b", "-", "c\n"]), mark(Form::Lines, &["a b", "-", "c\n"]));
         assert_eq!(parsed(&["mark", "--csv", "a"]), mark(Form::Csv, &["a"]));
@@ -256,17 +298,22 @@ mod tests {
 
     #[test]
     fn the_others() {
-        assert_eq!(parsed(&["log", "-"]), Command::Log { paper: "-".into() });
+        let rules = Named::default;
+        assert_eq!(parsed(&["log", "-"]), Command::Log { rules: rules(), paper: "-".into() });
         let bytes = Bytes::Given(vec![0x51]);
-        assert_eq!(parsed(&["fragment", "1", "0", "51"]), Command::Fragment { main: 1, alt: 0, bytes: bytes.clone() });
+        let fragment = |main, bytes: &Bytes| Command::Fragment { rules: rules(), main, alt: 0, bytes: bytes.clone() };
+        assert_eq!(parsed(&["fragment", "1", "0", "51"]), fragment(1, &bytes));
         let none = Bytes::Given(Vec::new());
-        assert_eq!(
-            parsed(&["fragment", "4294967295", "0", "-"]),
-            Command::Fragment { main: u32::MAX, alt: 0, bytes: none.clone() }
-        );
+        assert_eq!(parsed(&["fragment", "4294967295", "0", "-"]), fragment(u32::MAX, &none));
+        assert_eq!(parsed(&["map"]), Command::Map);
         assert_eq!(parsed(&["limits", "@-"]), Command::Limits { bytes: Bytes::Of(Source::Input) });
         assert_eq!(parsed(&["explain", "22"]), Command::Explain { number: 22 });
         assert_eq!(parsed(&["sums", "a", "-"]), Command::Sums { registers: words(&["a", "-"]) });
+        let listing = |text: &[u8]| Listing::Given(text.into());
+        assert_eq!(parsed(&["asm", "OpDup Op1"]), Command::Asm { hex: false, listing: listing(b"OpDup Op1") });
+        assert_eq!(parsed(&["asm", "--hex", ""]), Command::Asm { hex: true, listing: listing(b"") });
+        assert_eq!(parsed(&["asm", "-", "--hex"]), Command::Asm { hex: true, listing: Listing::Of(Source::Input) });
+        assert_eq!(parsed(&["list", "@a"]), Command::List { bytes: Bytes::Of(Source::File("a".into())) });
         assert_eq!(parsed(&["compare", "a"]), Command::Compare { papers: words(&["a"]) });
         assert_eq!(
             parsed(&["paper", "3:51", "--init", "-", "--fields", "65535", "0:@a:b"]),
@@ -279,6 +326,38 @@ mod tests {
                 ]
             }
         );
+    }
+
+    #[test]
+    fn maps_and_limits() {
+        let file = |name: &str| Some(Source::File(name.into()));
+        let mark = |map, limit| Command::Mark { form: Form::Lines, rules: Named { map, limit }, papers: words(&["a"]) };
+        assert_eq!(parsed(&["mark", "--map", "m", "a"]), mark(file("m"), None));
+        assert_eq!(parsed(&["mark", "a", "--limit", "5"]), mark(None, Some(5)));
+        assert_eq!(parsed(&["mark", "--limit", "0", "--map", "-", "a"]), mark(Some(Source::Input), Some(0)));
+        // what is outside 1 to 244 is judged later
+        assert_eq!(parsed(&["mark", "--limit", "4294967295", "a"]), mark(None, Some(u32::MAX)));
+        let rules = || Named { map: file("m"), limit: Some(244) };
+        assert_eq!(
+            parsed(&["mark", "--json", "--map", "m", "--limit", "244", "-"]),
+            Command::Mark { form: Form::Json, rules: rules(), papers: words(&["-"]) }
+        );
+        assert_eq!(parsed(&["log", "--map", "m", "--limit", "244", "-"]), Command::Log { rules: rules(), paper: "-".into() });
+        assert_eq!(
+            parsed(&["fragment", "--map", "m", "1", "0", "@-", "--limit", "244"]),
+            Command::Fragment { rules: rules(), main: 1, alt: 0, bytes: Bytes::Of(Source::Input) }
+        );
+        let both = "are both standard input";
+        for line in
+            [&["mark", "--map", "-", "a", "-"][..], &["log", "--map", "-", "-"], &["fragment", "--map", "-", "0", "0", "@-"]]
+        {
+            let (what, usage) = wrong(line);
+            assert!(what.contains(both) && usage == Some(line[0]), "{what}");
+        }
+        // no bytes are no standard input
+        assert!(parse(&words(&["fragment", "--map", "-", "0", "0", "-"])).is_ok());
+        assert!(wrong(&["mark", "--limit", "4294967296", "a"]).0.contains("the limit is at most 244, and 4294967296 is more"));
+        assert!(wrong(&["mark", "--limit", "-5", "a"]).0.contains("the limit is a decimal number, and '-5' is none"));
     }
 
     #[test]
@@ -313,6 +392,17 @@ mod tests {
             &["log"],
             &["log", "a", "b"],
             &["log", "--csv", "a"],
+            &["mark", "--map"],
+            &["mark", "--map", "m"],
+            &["mark", "--map", "m", "--map", "m", "a"],
+            &["mark", "--limit", "", "a"],
+            &["mark", "--limit", "5x", "a"],
+            &["mark", "--limit=5", "a"],
+            &["log", "a", "--limit"],
+            &["limits", "--limit", "5", "51"],
+            &["compare", "--map", "m", "a"],
+            &["map", "m"],
+            &["map", "--hex"],
             &["fragment"],
             &["fragment", "0", "51"],
             &["fragment", "0", "0", "51", "52"],
@@ -339,6 +429,13 @@ mod tests {
             &["sums"],
             &["sums", "-", "-"],
             &["sums", "--csv", "a"],
+            &["asm"],
+            &["asm", "OpDup", "Op1"],
+            &["asm", "@"],
+            &["asm", "--raw", "OpDup"],
+            &["list"],
+            &["list", "5"],
+            &["list", "--hex", "51"],
             &["compare"],
         ] {
             assert_eq!(wrong(line).1, Some(line[0]), "{line:?}");

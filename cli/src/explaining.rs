@@ -165,12 +165,34 @@ pub const MEANINGS: [Meaning; listochur::NUMBERS] = [
         "listochur fragment 1 0 '4f 79'",
         "refused 25 at offset 1, negative index: top bit of the last byte set (81 is minus 1)",
     ),
+    meaning(
+        "assembling: a word of the listing is no opcode name, no data push in small hexadecimal letters, and no unmodelled code; \
+         the offset is that of the first such word",
+        "0, 0",
+        "listochur asm 'OpDup opdup' 2>&1",
+        "listochur: refused 26 at offset 6, strange word: 'opdup'",
+    ),
+    Meaning { given: "assembling and listing: the lent buffer cannot take the whole result", figures: "0, 0", example: None },
+    meaning(
+        "the count or the offset of the lent map is wrong, its rows do not lie within the lent bytes, a class byte is no class, a \
+         code up to 60 differs from the built-in table, or a later one is push",
+        "0, 0",
+        "listochur map | tr '\\2' '\\1' | listochur fragment --map - 0 0 51 2>&1",
+        "listochur: standard input: bad map (28): row 61, at offset 101, is push (1), which no code above 60 may be",
+    ),
+    meaning(
+        "the lent limit is outside 1 to 244",
+        "0, 0",
+        "listochur fragment --limit 245 0 0 51 2>&1",
+        "listochur: --limit 245: bad limit (29): a limit is 1 to 244",
+    ),
 ];
 
 /// Said where no bytes get the number from this command.
 fn without_example(number: usize) -> &'static str {
     match number {
         4 => "No bytes get it here: this command lends a log that is long enough for any of them.",
+        27 => "No listing and no bytes get it here: this command lends a buffer that is long enough.",
         _ => "No paper gets it: it is the tally's answer to one more verdict, and the summary says so.",
     }
 }

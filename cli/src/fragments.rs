@@ -3,20 +3,29 @@ use std::fmt::Write;
 
 use listochur::{DEAD, Item, Verdict};
 
+use crate::listings::listed;
 use crate::marking::reason;
+use crate::rules::Rules;
 use crate::streams::Output;
 use crate::{Status, Stop};
 
 /// Numbers of the log for the longest fragment that is analysed, of 10,000 instructions.
 const LOG: usize = 30_000;
 
-/// As many bytes of an instruction are shown.
+/// As many bytes of an instruction are shown, and as many of data in a word whole; of more data the first six are.
 const SHOWN: usize = 8;
+const FIRST: usize = 6;
+
+/// The columns of `SHOWN` bytes and ` ..`.
+const BYTES: usize = 3 * SHOWN + 2;
 
 /// `fragment`: the verdict, the items at the end from the bottom up, the log.
-pub fn fragment(out: &mut Output, main: u32, alt: u32, fragment: &[u8]) -> Result<Status, Stop> {
+pub fn fragment(out: &mut Output, rules: Option<&Rules>, main: u32, alt: u32, fragment: &[u8]) -> Result<Status, Stop> {
     let mut log = vec![0; LOG];
-    let (verdict, end) = listochur::analyze_items(fragment, main, alt, &mut log);
+    let (verdict, end) = match rules {
+        None => listochur::analyze_items(fragment, main, alt, &mut log),
+        Some(Rules { map, options }) => listochur::analyze_with(fragment, main, alt, map, *options, &mut log),
+    };
     out.write(analysed(fragment, &verdict, end.main(), end.alt(), &log).as_bytes())?;
     Ok(Status::of(verdict.number))
 }
@@ -38,13 +47,13 @@ pub fn analysed(fragment: &[u8], verdict: &Verdict, main: &[Item], alt: &[Item],
         }
     }
     if verdict.rows > 0 {
-        text += "offset  main   alt  bytes\n";
+        add(&mut text, format_args!("offset  main   alt  {:BYTES$}  instruction\n", "bytes"));
     }
     for [offset, main, alt] in log.as_chunks::<3>().0.iter().take(verdict.rows) {
         let bytes = listochur::display(fragment, &[], usize::from(*offset), 0);
         let more = if bytes.len() > SHOWN { " .." } else { "" };
-        let bytes = spaced(&bytes[..bytes.len().min(SHOWN)]);
-        add(&mut text, format_args!("{offset:6} {} {}  {bytes}{more}\n", height(*main), height(*alt)));
+        let shown = spaced(&bytes[..bytes.len().min(SHOWN)]) + more;
+        add(&mut text, format_args!("{offset:6} {} {}  {shown:BYTES$}  {}\n", height(*main), height(*alt), word(bytes)));
     }
     text
 }
@@ -56,6 +65,17 @@ fn known(item: &Item) -> String {
         Some([]) => "exact, no bytes".into(),
         Some(bytes) => format!("exact {}", spaced(bytes)),
     }
+}
+
+/// The word of an instruction as a listing writes it, cut where it has more than `SHOWN` bytes of data.
+fn word(bytes: &[u8]) -> String {
+    // the letters of a listing are ASCII
+    let mut word: String = listed(bytes).1.into_iter().map(char::from).collect();
+    if word.starts_with('<') && word.len() > 2 * SHOWN + 2 {
+        word.truncate(2 * FIRST + 1);
+        word += "..>";
+    }
+    word
 }
 
 fn height(number: u16) -> String {
@@ -71,12 +91,12 @@ fn add(text: &mut String, part: std::fmt::Arguments) {
     let _ = text.write_fmt(part);
 }
 
-/// A verdict's number, place and words. 1, 2, 4 and 17 to 22 are about no instruction.
+/// A verdict's number, place and words. 1, 2, 4, 17 to 22 and 27 to 29 are about no place.
 pub fn told(number: u32, offset: usize, first: u64, second: u64) -> String {
     let words = reason(number, first, second);
     match number {
         0 => words,
-        1 | 2 | 4 | 17..=22 => format!("refused {number}, {words}"),
+        1 | 2 | 4 | 17..=22 | 27..=29 => format!("refused {number}, {words}"),
         _ => format!("refused {number} at offset {offset}, {words}"),
     }
 }
@@ -90,7 +110,7 @@ pub fn limits(out: &mut Output, bytecode: &[u8]) -> Result<Status, Stop> {
 
 #[cfg(test)]
 mod tests {
-    use super::{analysed, told};
+    use super::{analysed, told, word};
     use listochur::{DEAD, Heights, Item, Value, Verdict};
 
     #[test]
@@ -114,11 +134,20 @@ mod tests {
             analysed(&fragment, &verdict, &main, &alt, &log),
             "accepted, peak 4, end main 3 alt 1\n\
              \x20 main 0 unknown\n  main 1 exact, no bytes\n  main 2 exact 01 02\n  alt 0 exact ff ff ff ff ff ff ff ff\n\
-             offset  main   alt  bytes\n\
-             \x20    0     2     1  51\n\
-             \x20    1  dead  dead  4c 09 07 07 07 07 07 07 ..\n\
-             \x20   12   244     0  61\n"
+             offset  main   alt  bytes                       instruction\n\
+             \x20    0     2     1  51                          Op1\n\
+             \x20    1  dead  dead  4c 09 07 07 07 07 07 07 ..  <070707070707..>\n\
+             \x20   12   244     0  61                          OpNop\n"
         );
+    }
+
+    #[test]
+    fn words() {
+        assert_eq!(word(&[0x00]), "Op0");
+        assert_eq!(word(&[0x50]), "0x50");
+        assert_eq!(word(&[0xd9]), "OpCheckSigFromStackECDSA");
+        assert_eq!(word(&[&[8][..], &[0xab; 8]].concat()), "<abababababababab>");
+        assert_eq!(word(&[&[9][..], &[0xab; 9]].concat()), "<abababababab..>");
     }
 
     #[test]

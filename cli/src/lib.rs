@@ -8,10 +8,12 @@ pub mod bytes;
 pub mod comparing;
 pub mod explaining;
 pub mod fragments;
+pub mod listings;
 pub mod marking;
 pub mod names;
 pub mod papers;
 pub mod register;
+pub mod rules;
 pub mod streams;
 pub mod summary;
 pub mod summing;
@@ -84,13 +86,19 @@ fn carry_out(command: Command) -> Result<Status, Stop> {
             out.write(usage::version().as_bytes())?;
             Status::Good
         }
-        Command::Mark { form, papers } => marking::mark(&mut out, form, &papers)?,
-        Command::Log { paper } => marking::log(&mut out, &paper)?,
-        Command::Fragment { main, alt, bytes } => fragments::fragment(&mut out, main, alt, &bytes.read()?)?,
+        Command::Mark { form, rules, papers } => marking::mark(&mut out, form, rules.read()?, &papers)?,
+        Command::Log { rules, paper } => marking::log(&mut out, rules.read()?, &paper)?,
+        Command::Fragment { rules, main, alt, bytes } => {
+            let rules = rules.read()?;
+            fragments::fragment(&mut out, rules.as_ref(), main, alt, &bytes.read()?)?
+        }
         Command::Limits { bytes } => fragments::limits(&mut out, &bytes.read()?)?,
         Command::Paper { fields, init, entries } => writing::paper(&mut out, fields, init, entries)?,
         Command::Explain { number } => explaining::explain(&mut out, number)?,
         Command::Sums { registers } => summing::sums(&mut out, &registers)?,
+        Command::Asm { hex, listing } => listings::asm(&mut out, hex, &listing.read()?)?,
+        Command::Map => rules::map(&mut out)?,
+        Command::List { bytes } => listings::list(&mut out, &bytes.read()?)?,
         Command::Compare { papers } => comparing::compare(&mut out, &papers)?,
     };
     out.finish()?;

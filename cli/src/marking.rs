@@ -1,11 +1,12 @@
 //! `mark` and `log`: papers to the proved functions, and what those write to standard output.
 use std::ffi::{OsStr, OsString};
 
-use listochur::{Lines, PaperVerdict};
+use listochur::{Lines, Options, PaperVerdict};
 
 use crate::arguments::Form;
 use crate::names::shown;
 use crate::papers::{self, Source};
+use crate::rules::Rules;
 use crate::streams::{Output, Progress, say};
 use crate::summary::Summary;
 use crate::{Status, Stop, register};
@@ -16,19 +17,29 @@ const LOG: usize = 24_000;
 /// No log is lent for more bytes than this: a longer paper is refused for its length, whatever it is lent.
 const LOGGED: usize = 1 << 20;
 
-/// The proved functions with the log and the text that they are lent, which serve paper after paper.
+/// The proved functions with the map and the limit that they are lent, if any are, and the log and the text, which serve paper
+/// after paper.
 pub struct Marker {
+    rules: Option<Rules>,
     log: Vec<u16>,
     text: Vec<u8>,
 }
 
 impl Default for Marker {
     fn default() -> Self {
-        Self { log: vec![0; LOG], text: vec![0; listochur::LINES_BYTES] }
+        Self::by(None)
     }
 }
 
+/// A function that writes a text of a paper, and the same by a map and a limit.
+type Write = fn(&[u8], &mut [u16], &mut [u8]) -> Lines;
+type WriteWith = fn(&[u8], &[u8], Options, &mut [u16], &mut [u8]) -> Lines;
+
 impl Marker {
+    pub fn by(rules: Option<Rules>) -> Self {
+        Self { rules, log: vec![0; LOG], text: vec![0; listochur::LINES_BYTES] }
+    }
+
     /// A log with three numbers for each byte, so for each instruction, of the paper.
     fn lend(&mut self, paper: &[u8]) {
         let wanted = 3 * paper.len().min(LOGGED);
@@ -37,30 +48,38 @@ impl Marker {
         }
     }
 
-    /// What `write` writes, however long it is, and its verdict number.
-    fn text(&mut self, paper: &[u8], write: fn(&[u8], &mut [u16], &mut [u8]) -> Lines) -> (u32, &[u8]) {
+    /// What is written, however long it is, and its verdict number.
+    fn text(&mut self, paper: &[u8], write: Write, write_with: WriteWith) -> (u32, &[u8]) {
         self.lend(paper);
-        let mut lines = write(paper, &mut self.log, &mut self.text);
-        if lines.size > self.text.len() {
-            self.text.resize(lines.size, 0);
-            lines = write(paper, &mut self.log, &mut self.text);
+        let Self { rules, log, text } = self;
+        let mut put = |text: &mut [u8]| match rules {
+            None => write(paper, log, text),
+            Some(Rules { map, options }) => write_with(paper, map, *options, log, text),
+        };
+        let mut lines = put(text);
+        if lines.size > text.len() {
+            text.resize(lines.size, 0);
+            lines = put(text);
         }
-        (lines.number, &self.text[..lines.size])
+        (lines.number, &text[..lines.size])
     }
 
     /// The verdict number and the lines that `stackmark` prints.
     pub fn lines(&mut self, paper: &[u8]) -> (u32, &[u8]) {
-        self.text(paper, listochur::mark_lines)
+        self.text(paper, listochur::mark_lines, listochur::mark_lines_with)
     }
 
     /// The verdict number and the lines that `stacklog` prints.
     pub fn log(&mut self, paper: &[u8]) -> (u32, &[u8]) {
-        self.text(paper, listochur::log_lines)
+        self.text(paper, listochur::log_lines, listochur::log_lines_with)
     }
 
     pub fn verdict(&mut self, paper: &[u8]) -> PaperVerdict {
         self.lend(paper);
-        listochur::mark_paper(paper, &mut self.log)
+        match &self.rules {
+            None => listochur::mark_paper(paper, &mut self.log),
+            Some(Rules { map, options }) => listochur::mark_paper_with(paper, map, *options, &mut self.log),
+        }
     }
 }
 
@@ -83,9 +102,9 @@ pub fn under_name(name: &[u8], text: &[u8]) -> Vec<u8> {
 }
 
 /// `mark`.
-pub fn mark(out: &mut Output, form: Form, words: &[OsString]) -> Result<Status, Stop> {
+pub fn mark(out: &mut Output, form: Form, rules: Option<Rules>, words: &[OsString]) -> Result<Status, Stop> {
     let pile = papers::pile(words);
-    let mut marker = Marker::default();
+    let mut marker = Marker::by(rules);
     let mut summary = Summary { unread: pile.unread, ..Summary::default() };
     let mut status = if pile.unread == 0 { Status::Good } else { Status::Failed };
     let mut progress = Progress::new(pile.papers.len(), out);
@@ -151,9 +170,9 @@ fn one(
 }
 
 /// `log`.
-pub fn log(out: &mut Output, word: &OsStr) -> Result<Status, Stop> {
+pub fn log(out: &mut Output, rules: Option<Rules>, word: &OsStr) -> Result<Status, Stop> {
     let paper = papers::single(word)?;
-    let mut marker = Marker::default();
+    let mut marker = Marker::by(rules);
     let (number, text) = marker.log(&paper);
     out.write(text)?;
     Ok(Status::of(number))
@@ -162,6 +181,7 @@ pub fn log(out: &mut Output, word: &OsStr) -> Result<Status, Stop> {
 #[cfg(test)]
 mod tests {
     use super::{Marker, reason, under_name};
+    use crate::rules::{Named, Rules};
 
     const SAMPLE: [u8; 20] = [1, 0, 1, 0, 0x0e, 0, 0, 0, 1, 0, 0x0e, 0, 6, 0, 0x63, 0x51, 0x67, 0x52, 0x68, 0x75];
 
@@ -174,10 +194,28 @@ mod tests {
 
     #[test]
     fn a_text_that_is_too_short_grows() {
-        let mut marker = Marker { log: Vec::new(), text: Vec::new() };
-        assert_eq!(marker.lines(&SAMPLE), (0, &b"entry 0 peak 2 end 1 0\naccepted\n"[..]));
-        let mut marker = Marker { log: Vec::new(), text: Vec::new() };
-        assert_eq!(marker.log(&SAMPLE), Marker::default().log(&SAMPLE));
+        for limit in [None, Some(5)] {
+            let short = || Marker { rules: rules(limit), log: Vec::new(), text: Vec::new() };
+            assert_eq!(short().lines(&SAMPLE), (0, &b"entry 0 peak 2 end 1 0\naccepted\n"[..]));
+            assert_eq!(short().log(&SAMPLE), Marker::default().log(&SAMPLE));
+        }
+    }
+
+    /// The built-in map and this limit, or none of both.
+    fn rules(limit: Option<u32>) -> Option<Rules> {
+        Named { map: None, limit }.read().unwrap()
+    }
+
+    #[test]
+    fn by_a_limit() {
+        let mut marker = Marker::by(rules(Some(4)));
+        assert_eq!(marker.lines(&SAMPLE), (20, &b"refused 20 at 0 0 5 4\n"[..]));
+        let verdict = marker.verdict(&SAMPLE);
+        assert_eq!((verdict.number, verdict.first, verdict.second), (20, 5, 4));
+        assert_eq!(marker.log(&SAMPLE).0, 20);
+        assert!(rules(None).is_none());
+        let mut marker = Marker::by(rules(Some(5)));
+        assert_eq!((marker.verdict(&SAMPLE).number, marker.verdict(&SAMPLE).peak), (0, 2));
     }
 
     #[test]

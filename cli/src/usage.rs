@@ -12,7 +12,7 @@ pub struct Usage {
 
 pub static MARK: Usage = Usage {
     name: "mark",
-    line: "listochur mark [--csv | --json] PAPER..",
+    line: "listochur mark [--csv | --json] [--map FILE] [--limit N] PAPER..",
     about: "\
 Marks papers. Of one paper the lines are those of document 01: a line for each fragment that is accepted, then
 `accepted` or `refused N at K O A B`. Of several, or of a folder, each line begins with the paper's name and `: `,
@@ -21,44 +21,64 @@ and a summary stands at the end.
   PAPER     a file, - for standard input, or a folder: every file in it, in the order of their names
   --csv     a record for each paper in its stead, comma-separated, under a line of column names
   --json    the same as a JSON array, a paper to a line
+  --map     marks by the opcode map in FILE, or on standard input for -, in place of the built-in one (`help map`)
+  --limit   lets both stacks hold N items together, 1 to 244, in place of 244
   --        what follows are papers, whatever they begin with
 
 In a name a backslash is shown as \\\\, a newline as \\n, a byte that is no UTF-8 as \\xNN. With --csv and --json the
 summary goes to standard error. A paper that cannot be read is said there and gets no verdict and no record. Over 200
-papers are counted there as they are marked, where it is a terminal.
-Status 0: all accepted. 1: some refused. 2: a paper could not be read, or a write failed; the others are marked.
+papers are counted there as they are marked, where it is a terminal. Of a bad map (28) or limit (29) is said what is
+wrong with it, and nothing is marked.
+Status 0: all accepted. 1: some refused. 2: a paper could not be read, or a write failed; the others are marked. 2 also
+where the map or the limit is bad.
 ",
     examples: &[
         "listochur mark sample.paper",
         "listochur mark room1 room2 late.paper",
         "listochur mark --csv room1 >register.csv",
+        "listochur mark --map next.map --limit 100 room1",
         "head -c 100 draft.paper | listochur mark -",
     ],
 };
 
 pub static LOG: Usage = Usage {
     name: "log",
-    line: "listochur log PAPER",
+    line: "listochur log [--map FILE] [--limit N] PAPER",
     about: "\
-Prints the log of one paper as a person reads it: a line for each instruction with the heights before it, and the
-verdict in words. PAPER is a file, or - for standard input.
-Status 0: accepted. 1: refused. 2: the paper could not be read, or a write failed.
+Prints the log of one paper as a person reads it: a line for each instruction with the heights before it, its bytes,
+and the instruction as a listing writes it (`list`); and the verdict in words. The words of the instructions are those
+of the built-in map, also where another is lent.
+
+  PAPER     a file, or - for standard input
+  --map     marks by the opcode map in FILE, or on standard input for -, in place of the built-in one (`help map`)
+  --limit   lets both stacks hold N items together, 1 to 244, in place of 244
+
+Status 0: accepted. 1: refused. 2: the paper could not be read, the map or the limit is bad, or a write failed.
 ",
-    examples: &["listochur log sample.paper"],
+    examples: &["listochur log sample.paper", "listochur log --limit 100 sample.paper"],
 };
 
 pub static FRAGMENT: Usage = Usage {
     name: "fragment",
-    line: "listochur fragment MAIN ALT BYTES",
+    line: "listochur fragment [--map FILE] [--limit N] MAIN ALT BYTES",
     about: "\
 Analyses a fragment from so many unknown items on main and alt: the verdict, the items that it ends with, from the
-bottom up, and a line of the log for each instruction met.
+bottom up, and a line of the log for each instruction met: its offset, the heights before it, its bytes, and the
+instruction as a listing writes it (`list`), also where another map than the built-in one is lent.
 
   BYTES     hexadecimal digits, - for none, @FILE for the bytes of a file, @- for those of standard input
+  --map     analyses by the opcode map in FILE, or on standard input for -, in place of the built-in one (`help map`)
+  --limit   lets both stacks hold N items together, 1 to 244, in place of 244
 
-Status 0: accepted. 1: refused. 2: bad words, a file that could not be read, or a write that failed.
+Status 0: accepted. 1: refused. 2: bad words, a file that could not be read, a map or a limit that is bad, or a write
+that failed.
 ",
-    examples: &["listochur fragment 2 0 635167526875", "listochur fragment 1 0 '51 79'", "listochur fragment 0 0 @body.bin"],
+    examples: &[
+        "listochur fragment 2 0 635167526875",
+        "listochur fragment 1 0 '51 79'",
+        "listochur fragment 0 0 @body.bin",
+        "listochur fragment --map next.map --limit 2 2 0 63ff685168",
+    ],
 };
 
 pub static PAPER: Usage = Usage {
@@ -119,6 +139,75 @@ summed, or a write that failed.
     examples: &["listochur sums register.csv", "listochur mark --csv room1 room2 | listochur sums -"],
 };
 
+pub static ASM: Usage = Usage {
+    name: "asm",
+    line: "listochur asm [--hex] LISTING",
+    about: "\
+Assembles a listing and writes the bytes of the fragment to standard output. A listing is words parted by one space:
+the name of an opcode, as OpDup or Op16; a data push as its bytes in hexadecimal, small letters, between < and >;
+Op0 for data of 0 bytes; 0x and two digits for an opcode that the marker has no effect for. A push is written in its
+shortest form among 01 to 4e, so <05> is 0105 and not 55. The first word outside this form is refused with 26 and its
+offset. A newline has no place in it, also not at the end of a file: write it with printf, or cut it off by
+`tr -d '\\n'`.
+
+  LISTING   the words, as one word of the shell; @FILE for those of a file, - for standard input
+  --hex     the bytes in hexadecimal, on a line
+
+Status 0: assembled. 1: refused, said on standard error. 2: bad words, a file that could not be read, or a write that
+failed.
+",
+    examples: &[
+        "listochur asm --hex 'OpDup <05> OpAdd'",
+        "listochur asm @body.listing >body.bin",
+        "tr -d '\\n' <body.listing | listochur asm - >body.bin",
+    ],
+};
+
+pub static LIST: Usage = Usage {
+    name: "list",
+    line: "listochur list BYTES",
+    about: "\
+Lists a fragment in the words that `asm` reads; data pushes are listed alike whatever their length form. A newline
+stands behind the listing where standard output is a terminal, else nothing does, so that `asm -` reads it.
+
+  BYTES     hexadecimal digits, - for none, @FILE for the bytes of a file, @- for those of standard input
+
+Status 0: listed. 1: refused, said on standard error: the bytes are malformed. 2: bad words, a file that could not be
+read, or a write that failed.
+",
+    examples: &["listochur list 760105", "listochur list @body.bin >body.listing"],
+};
+
+pub static MAP: Usage = Usage {
+    name: "map",
+    line: "listochur map",
+    about: "\
+Writes the built-in opcode map to standard output, 260 bytes, to be changed and lent with --map. A map is a header of
+two 16-bit numbers, lowest byte first, the count of rows (256, so 00 01) and the offset of the first (4 or more, here
+04 00), then a row for each code from 00 to ff: a byte, its class number. Bytes before the rows and behind them are
+free. So here the row of a code is at offset 4 + code; that of ff, the last, at 259.
+
+   0 unmodelled   8 to alt    16 ZK
+   1 push         9 from alt  17 to 21 copies (depth, count): (1,1) (2,2) (3,3) (2,1) (4,2)
+   2 nothing     10 DEPTH     22 to 25 rotations (count, shift): (3,1) (6,2) (2,1) (4,2)
+   3 IF          11 SIZE      26 pops 1, pushes 0
+   4 NOTIF       12 NIP       27 pops 2, pushes 0
+   5 ELSE        13 TUCK      28 pops 0, pushes 1
+   6 ENDIF       14 PICK      29 pops 1, pushes 1
+   7 RETURN      15 ROLL      30 pops 3, pushes 1
+                              31 pops 2, pushes 1
+
+The rows of the codes up to 60 are those of the built-in map, and no later one is push. Several codes may be of one
+class, and a class may be of none.
+Status 0: written. 2: bad words, or a write that failed.
+",
+    examples: &[
+        "listochur map >next.map",
+        "printf '\\3' | dd of=next.map bs=1 seek=259 conv=notrunc   # ff is one more IF",
+        "listochur map | od -An -v -tx1 -j4   # sixteen codes to a line",
+    ],
+};
+
 pub static COMPARE: Usage = Usage {
     name: "compare",
     line: "listochur compare PAPER..",
@@ -138,14 +227,14 @@ Status 0: no difference. 1: some differ. 2: no driver, a paper could not be read
 };
 
 /// All sub-commands.
-pub static ALL: [&Usage; 8] = [&MARK, &LOG, &FRAGMENT, &PAPER, &LIMITS, &EXPLAIN, &SUMS, &COMPARE];
+pub static ALL: [&Usage; 11] = [&MARK, &LOG, &FRAGMENT, &PAPER, &LIMITS, &EXPLAIN, &SUMS, &ASM, &LIST, &MAP, &COMPARE];
 
 /// Said after a usage line.
 pub const HINT: &str = "listochur help shows more.";
 
 /// Said where no sub-command is named.
 pub const SHORT: &str = "\
-usage: listochur mark | log | fragment | paper | limits | explain | sums | compare ..
+usage: listochur mark | log | fragment | paper | limits | explain | sums | asm | list | map | compare ..
 listochur help shows more.";
 
 /// The sub-command of this name.
@@ -174,6 +263,9 @@ pub fn all() -> String {
         "the limit check",
         "a verdict number in words",
         "sums over the papers of registers",
+        "the bytes of a listing",
+        "the listing of bytes",
+        "writes the built-in opcode map",
         "our verdicts beside the Rust's",
     ]) {
         text += &format!("  {}\n      {about}\n", usage.line);
@@ -183,10 +275,13 @@ pub fn all() -> String {
   listochur --version
 
 PAPER is a file, - for standard input, or, for mark and compare, a folder: every file in it, in the order of their
-names. REGISTER is a file that mark --csv wrote, or - for standard input. BYTES are hexadecimal digits, - for none, @FILE for the bytes of a file, @- for those of standard input.
+names. REGISTER is a file that mark --csv wrote, or - for standard input. BYTES are hexadecimal digits, - for none,
+@FILE for the bytes of a file, @- for those of standard input. LISTING is the words of a listing, @FILE for those of a
+file, - for standard input. --map and --limit have papers marked by another opcode map than the built-in one, and with
+fewer items on both stacks than 244.
 
-Exit status: 0 all accepted, or equal; 1 some refused, or different; 2 bad usage, something that cannot be read, a write
-that failed. 2 goes before 1, and the other papers are marked all the same.
+Exit status: 0 all accepted, assembled, listed or equal; 1 some refused, or different; 2 bad usage, a bad map or limit,
+something that cannot be read, a write that failed. 2 goes before 1, and the other papers are marked all the same.
 
 For example:
 

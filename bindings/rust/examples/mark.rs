@@ -1,5 +1,6 @@
 //! Marks the sample paper of document 01, section 6, prints its lines and its log, analyses a fragment that is refused and says
-//! why in words, shows the items of an end, keeps a tally, and sums up a sitting.
+//! why in words, shows the items of an end, keeps a tally, sums up a sitting, and lists a fragment and
+//! assembles it again.
 use listochur::Item;
 use std::io::{self, Write};
 
@@ -54,5 +55,12 @@ fn main() -> io::Result<()> {
         "{} with 0, {} with 7, peaks of the accepted: sum {}, count {}",
         sums.counts[0], sums.counts[7], sums.sum, sums.count
     );
+
+    let mut listing = [0; 80];
+    let listed = listochur::list(&[0x76, 0x4c, 0x01, 0x05, 0x50], &mut listing);
+    println!("{}", String::from_utf8_lossy(&listing[..listed.size]));
+    let mut shortest = [0; 80];
+    let assembled = listochur::assemble(&listing[..listed.size], &mut shortest);
+    println!("{}", shortest[..assembled.size].iter().map(|b| format!("{b:02x}")).collect::<String>());
     Ok(())
 }

@@ -1,9 +1,9 @@
 //! A proved stack marker for Kaspa script: analyse a fragment, check limits, mark a paper, display, print, say why in words, keep
-//! a tally, sum up a sitting.
+//! a tally, sum up a sitting, assemble and list; and mark by an opcode map and a stack limit of the caller's own.
 //!
 //! The functions hand their slices and numbers to the proved ones of the crate `export` and read the numbers that come
-//! back. They test nothing. A fragment that is too long, heights over the limit, a short log, a bad header or a mark that is
-//! neither 0 nor 1 reach the callee as they are: it takes every input and has refused them, with a number of document 01,
+//! back. They test nothing. A fragment that is too long, heights over the limit, a short log, a bad header, a bad map or a mark
+//! that is neither 0 nor 1 reach the callee as they are: it takes every input and has refused them, with a number of document 01,
 //! section 7, or of document 02, before anything here could. Nothing panics and nothing is allocated.
 //!
 //! What is proved is that the answer and the log are those of the documents, for every input, and the texts those of the
@@ -94,6 +94,80 @@ mod callee {
         // Four counters, with no length.
         pub fn listochur_gain(tally: *mut u32, number: u32, rows: u64, peak: u32) -> u32;
         pub fn listochur_sums(sitting: *const u32, sitting_len: usize, out: *mut u64, out_len: usize) -> u32;
+        pub fn listochur_assemble(
+            text: *const u8,
+            text_len: usize,
+            fragment: *mut u8,
+            fragment_len: usize,
+            out: *mut u64,
+            out_len: usize,
+        ) -> u32;
+        pub fn listochur_list(
+            fragment: *const u8,
+            fragment_len: usize,
+            text: *mut u8,
+            text_len: usize,
+            out: *mut u64,
+            out_len: usize,
+        ) -> u32;
+        // Nothing but the map is written.
+        pub fn listochur_map(year: u32, map: *mut u8, map_len: usize) -> u32;
+        pub fn listochur_analyze_with(
+            fragment: *const u8,
+            fragment_len: usize,
+            main: u32,
+            alt: u32,
+            map: *const u8,
+            map_len: usize,
+            limit: u32,
+            mode: u32,
+            log: *mut u16,
+            log_len: usize,
+            items: *mut u64,
+            items_len: usize,
+            out: *mut u64,
+            out_len: usize,
+        ) -> u32;
+        pub fn listochur_mark_paper_with(
+            paper: *const u8,
+            paper_len: usize,
+            map: *const u8,
+            map_len: usize,
+            limit: u32,
+            mode: u32,
+            log: *mut u16,
+            log_len: usize,
+            out: *mut u64,
+            out_len: usize,
+        ) -> u32;
+        pub fn listochur_mark_lines_with(
+            paper: *const u8,
+            paper_len: usize,
+            map: *const u8,
+            map_len: usize,
+            limit: u32,
+            mode: u32,
+            log: *mut u16,
+            log_len: usize,
+            text: *mut u8,
+            text_len: usize,
+            out: *mut u64,
+            out_len: usize,
+        ) -> u32;
+        pub fn listochur_log_lines_with(
+            paper: *const u8,
+            paper_len: usize,
+            map: *const u8,
+            map_len: usize,
+            limit: u32,
+            mode: u32,
+            log: *mut u16,
+            log_len: usize,
+            text: *mut u8,
+            text_len: usize,
+            out: *mut u64,
+            out_len: usize,
+        ) -> u32;
     }
 }
 
@@ -107,7 +181,13 @@ pub const LINES_BYTES: usize = 4_096;
 pub const REASON_BYTES: usize = 80;
 
 /// How many verdict numbers are in use, from 0 on.
-pub const NUMBERS: usize = 26;
+pub const NUMBERS: usize = 30;
+
+/// How many bytes the built-in map has.
+pub const MAP_BYTES: usize = 260;
+
+/// The built-in stack limit, and the greatest there is.
+pub const LIMIT: u32 = 244;
 
 /// The verdict on a fragment.
 #[derive(Clone, Copy, Debug, PartialEq, Eq)]
@@ -135,6 +215,17 @@ pub struct Heights {
     pub main: u32,
     /// Items on alt.
     pub alt: u32,
+}
+
+/// The answer of [`assemble`] and [`list`].
+#[derive(Clone, Copy, Debug, PartialEq, Eq)]
+pub struct Converted {
+    /// 0 where all is written, else why nothing is.
+    pub number: u32,
+    /// Where the first strange word or the malformed instruction stands; 0 for the other numbers.
+    pub offset: usize,
+    /// How many bytes are written.
+    pub size: usize,
 }
 
 /// The answer of the limit check.
@@ -328,6 +419,11 @@ pub fn analyze_items(fragment: &[u8], main: u32, alt: u32, log: &mut [u16]) -> (
             out.len(),
         )
     };
+    ended(number, out, &numbers)
+}
+
+/// The verdict of a call that has answered this number and left these in its places, with the end stacks out of its items.
+fn ended(number: u32, out: [u64; 9], numbers: &[u64; 3 * 244]) -> (Verdict, EndStacks) {
     let mut items = [Item { value: Value::Unknown, mark: 0 }; 244];
     for (item, &[len, number, mark]) in items.iter_mut().zip(numbers.as_chunks().0) {
         *item = Item::read(len, number, mark);
@@ -358,6 +454,11 @@ pub fn mark_paper(paper: &[u8], log: &mut [u16]) -> PaperVerdict {
     let number = unsafe {
         callee::listochur_mark_paper(paper.as_ptr(), paper.len(), log.as_mut_ptr(), log.len(), out.as_mut_ptr(), out.len())
     };
+    paper_verdict(number, out)
+}
+
+/// The verdict of a call that has answered this number and left these in its places.
+fn paper_verdict(number: u32, out: [u64; 7]) -> PaperVerdict {
     let [_, entry, offset, first, second, rows, peak] = out;
     PaperVerdict { number, entry: entry as usize, offset: offset as usize, first, second, rows: rows as usize, peak: peak as u32 }
 }
@@ -466,4 +567,225 @@ pub fn sums(sitting: &[u32]) -> Sums {
     let [_, sum, count, counts @ ..] = out;
     // The places hold numbers of these widths, widened by the callee.
     Sums { number, counts: counts.map(|times| times as u32), sum, count: count as u32 }
+}
+
+/// A listing, words parted by one space, assembled into a fragment: 0; 26 where a word is outside the form, with the offset of the
+/// first; 27 where `fragment` cannot take all bytes, which as many as the listing has always can. The bytes are written to the
+/// start of `fragment` where the number is 0, else none is; the rest of it stays as lent.
+///
+/// Tests nothing: bytes of any kind are the callee's to judge.
+///
+/// ```
+/// let mut fragment = [0; 16];
+/// let c = listochur::assemble(b"OpDup <05>", &mut fragment);
+/// assert_eq!((c.number, &fragment[..c.size]), (0, &[0x76, 0x01, 0x05][..]));
+/// let c = listochur::assemble(b"OpDup opdup", &mut fragment);
+/// assert_eq!((c.number, c.offset, c.size), (26, 6, 0));
+/// ```
+pub fn assemble(listing: &[u8], fragment: &mut [u8]) -> Converted {
+    let mut out = [0; 3];
+    // SAFETY: each slice is passed whole, with its own length, and the borrows keep `fragment` and `out` apart from the rest.
+    let number = unsafe {
+        callee::listochur_assemble(
+            listing.as_ptr(),
+            listing.len(),
+            fragment.as_mut_ptr(),
+            fragment.len(),
+            out.as_mut_ptr(),
+            out.len(),
+        )
+    };
+    let [_, offset, size] = out;
+    Converted { number, offset: offset as usize, size: size as usize }
+}
+
+/// A fragment as a listing: 0; 3 where it is malformed, with the offset; 27 where `text` cannot take all of it, which 25 bytes for
+/// each of the fragment's always can. The listing is written to the start of `text` where the number is 0, else nothing is; the
+/// rest of it stays as lent.
+///
+/// Tests nothing: a fragment of any bytes is the callee's to judge.
+///
+/// ```
+/// let mut text = [0; 80];
+/// let c = listochur::list(&[0x76, 0x4c, 0x01, 0x05, 0x50], &mut text);
+/// assert_eq!((c.number, &text[..c.size]), (0, &b"OpDup <05> 0x50"[..]));
+/// ```
+pub fn list(fragment: &[u8], text: &mut [u8]) -> Converted {
+    let mut out = [0; 3];
+    // SAFETY: each slice is passed whole, with its own length, and the borrows keep `text` and `out` apart from the rest.
+    let number = unsafe {
+        callee::listochur_list(fragment.as_ptr(), fragment.len(), text.as_mut_ptr(), text.len(), out.as_mut_ptr(), out.len())
+    };
+    let [_, offset, size] = out;
+    Converted { number, offset: offset as usize, size: size as usize }
+}
+
+/// What is lent beside a map. It is made by [`Options::built_in`] or [`Options::limited`]: a later request adds a field.
+#[derive(Clone, Copy, Debug, PartialEq, Eq)]
+#[non_exhaustive]
+pub struct Options {
+    /// The stack limit, 1 to 244; another one is refused, 29. It stands for 244 everywhere, in figures too.
+    pub limit: u32,
+}
+
+impl Options {
+    /// The built-in limit of 244.
+    pub const fn built_in() -> Self {
+        Self::limited(LIMIT)
+    }
+
+    /// This limit, and the rest as it is built in.
+    pub const fn limited(limit: u32) -> Self {
+        Self { limit }
+    }
+
+    /// The callee's `mode`, which it does not read yet.
+    const fn mode(self) -> u32 {
+        0
+    }
+}
+
+impl Default for Options {
+    /// As [`Options::built_in`].
+    fn default() -> Self {
+        Self::built_in()
+    }
+}
+
+/// A map to lend: that of year 0 is the built-in one, 00 01 04 00 and the 256 class numbers. Answers [`MAP_BYTES`], or 0 for
+/// another year and where `map` is shorter. The bytes are written to the start of `map` where the answer is not 0, else none is;
+/// the rest of it stays as lent.
+///
+/// Tests nothing: any year and a map of any length are the callee's to judge.
+pub fn map(year: u32, map: &mut [u8]) -> usize {
+    // SAFETY: the slice is passed whole, with its own length.
+    let size = unsafe { callee::listochur_map(year, map.as_mut_ptr(), map.len()) };
+    size as usize
+}
+
+/// The built-in map, by [`map`].
+///
+/// ```
+/// let map = listochur::built_in_map();
+/// // a count of 256 rows, the first at offset 4; 61 is nothing, 63 is IF
+/// assert_eq!((&map[..4], map[4 + 0x61], map[4 + 0x63]), (&[0x00, 0x01, 0x04, 0x00][..], 2, 3));
+/// ```
+pub fn built_in_map() -> [u8; MAP_BYTES] {
+    let mut bytes = [0; MAP_BYTES];
+    map(0, &mut bytes);
+    bytes
+}
+
+/// The same as [`analyze_items`], by a lent map and limit.
+///
+/// Tests nothing: a bad map (28) and then a bad limit (29) are the callee's to refuse, before all else.
+///
+/// ```
+/// use listochur::{Options, analyze_with, built_in_map};
+///
+/// // ff as an IF, and no ELSE
+/// let mut map = built_in_map();
+/// map[4 + 0xff] = 3;
+/// map[4 + 0x67] = 0;
+/// let fragment = [0x63, 0xff, 0x68, 0x51, 0x68];
+/// let (v, end) = analyze_with(&fragment, 2, 0, &map, Options::limited(2), &mut [0; 15]);
+/// assert_eq!((v.number, v.peak, end.main().len()), (0, 2, 1));
+/// assert_eq!(analyze_with(&fragment, 2, 0, &map, Options::limited(1), &mut [0; 15]).0.number, 2);
+/// assert_eq!(analyze_with(&fragment, 2, 0, &map[..259], Options::built_in(), &mut [0; 15]).0.number, 28);
+/// ```
+pub fn analyze_with(fragment: &[u8], main: u32, alt: u32, map: &[u8], options: Options, log: &mut [u16]) -> (Verdict, EndStacks) {
+    let mut out = [0; 9];
+    let mut numbers = [0; 3 * 244];
+    // SAFETY: each slice is passed whole, with its own length, and the borrows keep `log`, `numbers` and `out` apart from the
+    // rest.
+    let number = unsafe {
+        callee::listochur_analyze_with(
+            fragment.as_ptr(),
+            fragment.len(),
+            main,
+            alt,
+            map.as_ptr(),
+            map.len(),
+            options.limit,
+            options.mode(),
+            log.as_mut_ptr(),
+            log.len(),
+            numbers.as_mut_ptr(),
+            numbers.len(),
+            out.as_mut_ptr(),
+            out.len(),
+        )
+    };
+    ended(number, out, &numbers)
+}
+
+/// The same as [`mark_paper`], by a lent map and limit.
+///
+/// Tests nothing: a bad map (28) and then a bad limit (29) are the callee's to refuse, before all else.
+pub fn mark_paper_with(paper: &[u8], map: &[u8], options: Options, log: &mut [u16]) -> PaperVerdict {
+    let mut out = [0; 7];
+    // SAFETY: each slice is passed whole, with its own length, and the borrows keep `log` and `out` apart from the rest.
+    let number = unsafe {
+        callee::listochur_mark_paper_with(
+            paper.as_ptr(),
+            paper.len(),
+            map.as_ptr(),
+            map.len(),
+            options.limit,
+            options.mode(),
+            log.as_mut_ptr(),
+            log.len(),
+            out.as_mut_ptr(),
+            out.len(),
+        )
+    };
+    paper_verdict(number, out)
+}
+
+/// The same as [`mark_lines`], by a lent map and limit.
+///
+/// Tests nothing: a bad map (28) and then a bad limit (29) are the callee's to refuse, before all else; the lines then say so.
+pub fn mark_lines_with(paper: &[u8], map: &[u8], options: Options, log: &mut [u16], text: &mut [u8]) -> Lines {
+    // SAFETY: it reads the paper and the map and writes the other three, each within its length.
+    unsafe { lines_with(callee::listochur_mark_lines_with, paper, map, options, log, text) }
+}
+
+/// A function that puts a text of a paper into lent bytes, by a lent map and limit.
+type TextWith =
+    unsafe extern "C" fn(*const u8, usize, *const u8, usize, u32, u32, *mut u16, usize, *mut u8, usize, *mut u64, usize) -> u32;
+
+/// What such a function answers.
+///
+/// # Safety
+/// `call` reads and writes no more than the slices that it is passed.
+unsafe fn lines_with(call: TextWith, paper: &[u8], map: &[u8], options: Options, log: &mut [u16], text: &mut [u8]) -> Lines {
+    let mut out = [0; 1];
+    // SAFETY: each slice is passed whole, with its own length, and the borrows keep `log`, `text` and `out` apart from the rest.
+    let number = unsafe {
+        call(
+            paper.as_ptr(),
+            paper.len(),
+            map.as_ptr(),
+            map.len(),
+            options.limit,
+            options.mode(),
+            log.as_mut_ptr(),
+            log.len(),
+            text.as_mut_ptr(),
+            text.len(),
+            out.as_mut_ptr(),
+            out.len(),
+        )
+    };
+    let [size] = out;
+    Lines { number, size: size as usize }
+}
+
+/// The same as [`log_lines`], by a lent map and limit. The words of the instructions are those of the built-in map; which of them
+/// open and close a conditional goes by the lent one.
+///
+/// Tests nothing: a bad map (28) and then a bad limit (29) are the callee's to refuse, before all else; the lines then say so.
+pub fn log_lines_with(paper: &[u8], map: &[u8], options: Options, log: &mut [u16], text: &mut [u8]) -> Lines {
+    // SAFETY: it reads the paper and the map and writes the other three, each within its length.
+    unsafe { lines_with(callee::listochur_log_lines_with, paper, map, options, log, text) }
 }

@@ -1,7 +1,8 @@
 //! The functions from Rust: what document 01 says of them, bad input included.
 use listochur::{
-    DEAD, Heights, Item, LINES_BYTES, Limits, Lines, NUMBERS, PaperVerdict, REASON_BYTES, Sums, Tally, Value, Verdict, analyze,
-    analyze_items, check_limits, display, gain, log_lines, mark_lines, mark_paper, reason, sums,
+    Converted, DEAD, EndStacks, Heights, Item, LIMIT, LINES_BYTES, Limits, Lines, MAP_BYTES, NUMBERS, Options, PaperVerdict,
+    REASON_BYTES, Sums, Tally, Value, Verdict, analyze, analyze_items, analyze_with, assemble, built_in_map, check_limits,
+    display, gain, list, log_lines, log_lines_with, map, mark_lines, mark_lines_with, mark_paper, mark_paper_with, reason, sums,
 };
 
 /// What stands in a log that no row has been written to.
@@ -251,14 +252,14 @@ fn log_of_a_paper() {
     let paper = paper(1, 0, &[0x75], &[0x6c, 0x6d]);
     let expected = b"\
 entry 0: length 1, from main 1 alt 0
-offset main  alt total |of 8            | bytes
-     0    1    0     1 |##..............| 75
+offset main  alt total |of 8            | bytes       instruction
+     0    1    0     1 |##..............| 75          OpDrop
 accepted: peak 1, end main 0 alt 0
 
 state: length 2, from main 0 alt 1
-offset main  alt total |of 8            | bytes
-     0    0    1     1 |##..............| 6c
-     1    1    0     1 |##..............| 6d
+offset main  alt total |of 8            | bytes       instruction
+     0    0    1     1 |##..............| 6c          OpFromAltStack
+     1    1    0     1 |##..............| 6d          Op2Drop
      ^ refused 7, main dry: needed 2, had 1
 
 refused 7 at 1 1 2 1
@@ -322,6 +323,10 @@ fn reasons() {
         "bad sitting",
         "crooked number: a needless 00 (05 00) or 80 (negative zero)",
         "negative index: top bit of the last byte set (81 is minus 1)",
+        "strange word",
+        "output short",
+        "bad map",
+        "bad limit",
     ];
     assert_eq!(words.len(), NUMBERS);
     for (number, expected) in (0..).zip(words) {
@@ -417,6 +422,324 @@ fn bad_sittings_have_zeros() {
     }
 }
 
+/// Request L4: each answer, and what is left in the lent buffer, with just enough room, with one byte less, and with more.
+#[test]
+fn listings() {
+    type Call = fn(&[u8], &mut [u8]) -> Converted;
+    let good: [(Call, &[u8], &[u8]); 8] = [
+        (assemble, b"", &[]),
+        (assemble, b"Op0 OpDup <05> 0x50", &[0x00, 0x76, 0x01, 0x05, 0x50]),
+        (assemble, b"Op1Negate Op16 <0a0b>", &[0x4f, 0x60, 0x02, 0x0a, 0x0b]),
+        (assemble, b"0xff OpCheckSigFromStackECDSA", &[0xff, 0xd9]),
+        (list, &[], b""),
+        (list, &[0x4c, 0x00, 0x76], b"Op0 OpDup"),
+        (list, &[0x4e, 2, 0, 0, 0, 0xab, 0xcd, 0x51], b"<abcd> Op1"),
+        (list, &[0x50, 0xd9], b"0x50 OpCheckSigFromStackECDSA"),
+    ];
+    for (call, from, to) in good {
+        for more in [0, 1, 9] {
+            let mut lent = vec![b'#'; to.len() + more];
+            assert_eq!(call(from, &mut lent), Converted { number: 0, offset: 0, size: to.len() }, "{from:?}");
+            assert_eq!(lent, [to, &vec![b'#'; more]].concat(), "{from:?}");
+        }
+        if !to.is_empty() {
+            let mut lent = vec![b'#'; to.len() - 1];
+            assert_eq!(call(from, &mut lent), Converted { number: 27, offset: 0, size: 0 }, "{from:?}");
+            assert!(lent.iter().all(|&byte| byte == b'#'), "{from:?}");
+        }
+    }
+    let bad: [(Call, &[u8], u32, usize); 5] = [
+        (assemble, b"OpDup OpDup x", 26, 12),
+        (assemble, b"OpDup ", 26, 6),
+        (assemble, b"<0A>", 26, 0),
+        (list, &[0x76, 0x05, 1], 3, 1),
+        (list, &[0x4d, 1], 3, 0),
+    ];
+    for (call, from, number, offset) in bad {
+        for room in [0, 1, 99] {
+            let mut lent = vec![b'#'; room];
+            assert_eq!(call(from, &mut lent), Converted { number, offset, size: 0 }, "{from:?}");
+            assert!(lent.iter().all(|&byte| byte == b'#'), "{from:?}");
+        }
+    }
+}
+
+/// The built-in map with these rows in place of its own.
+fn with_rows(rows: &[(u8, u8)]) -> [u8; MAP_BYTES] {
+    let mut map = built_in_map();
+    for (code, class) in rows {
+        map[4 + usize::from(*code)] = *class;
+    }
+    map
+}
+
+/// Request L6: the class numbers of document 01, section 2, one to a code.
+#[test]
+fn the_built_in_map() {
+    let own = built_in_map();
+    assert_eq!(own[..4], [0x00, 0x01, 0x04, 0x00]);
+    let mut wanted = [0; 256];
+    let mut set = |class: u8, codes: &[std::ops::RangeInclusive<usize>]| {
+        for code in codes.iter().cloned().flatten() {
+            wanted[code] = class;
+        }
+    };
+    set(1, &[0x00..=0x4f, 0x51..=0x60]);
+    set(2, &[0x61..=0x61]);
+    // each a class of its own: IF to ZK, copies, rotations
+    let each = [
+        0x63, 0x64, 0x67, 0x68, 0x6a, 0x6b, 0x6c, 0x74, 0x82, 0x77, 0x7d, 0x79, 0x7a, 0xa6, 0x76, 0x6e, 0x6f, 0x78, 0x70, 0x7b,
+        0x71, 0x7c, 0x72,
+    ];
+    for (class, code) in (3..).zip(each) {
+        set(class, &[code..=code]);
+    }
+    set(26, &[0x69..=0x69, 0x75..=0x75, 0xb0..=0xb1]);
+    set(27, &[0x6d..=0x6d, 0x88..=0x88, 0x9d..=0x9d, 0xad..=0xad]);
+    set(28, &[0xb2..=0xb9]);
+    set(29, &[0x83..=0x83, 0x8b..=0x8c, 0x8f..=0x92, 0xa8..=0xa8, 0xaa..=0xaa, 0xba..=0xce]);
+    set(30, &[0x7f..=0x7f, 0xa5..=0xa5, 0xd5..=0xd9]);
+    set(31, &[0x7e..=0x7e, 0x84..=0x87, 0x93..=0x97, 0x9a..=0x9c, 0x9e..=0xa4, 0xa7..=0xa7, 0xab..=0xac, 0xcf..=0xd4]);
+    assert_eq!(own[4..], wanted);
+    // more room than is needed, just enough, too little, another year
+    let mut lent = [b'#'; 270];
+    assert_eq!(map(0, &mut lent), MAP_BYTES);
+    assert_eq!((&lent[..260], &lent[260..]), (&own[..], &[b'#'; 10][..]));
+    for (year, room) in [(0, 259), (0, 4), (0, 0), (2, 270), (256, 270), (u32::MAX, 270)] {
+        let mut lent = [b'#'; 270];
+        assert_eq!(map(year, &mut lent[..room]), 0, "{year} {room}");
+        assert_eq!(lent, [b'#'; 270], "{year} {room}");
+    }
+}
+
+#[test]
+fn options() {
+    assert_eq!((Options::built_in().limit, LIMIT), (244, 244));
+    assert_eq!(Options::default(), Options::built_in());
+    assert_eq!(Options::limited(244), Options::built_in());
+    assert_eq!(Options::limited(5).limit, 5);
+}
+
+/// By the built-in map at 244 each function answers as the one without them, log and items included.
+#[test]
+fn the_built_in_map_lent() {
+    let fragments: [&[u8]; 8] = [
+        &[],
+        &[0x51, 0x02, 0x05, 0x06, 0x6b, 0x57, 0x6b, 0xb2],
+        &[0x75],
+        &[0x6a, 0xff],
+        &[0x63, 0x51, 0x67, 0x52, 0x68, 0x79],
+        &nested(25),
+        &[0x61; 10_001],
+        &[0x4c],
+    ];
+    for fragment in fragments {
+        for (main, alt) in [(0, 0), (3, 1), (243, 1), (244, 1), (u32::MAX, u32::MAX)] {
+            for lent in [90, 3] {
+                let (mut one, mut other) = (vec![LENT; lent], vec![LENT; lent]);
+                let wanted = analyze_items(fragment, main, alt, &mut one);
+                let answer = analyze_with(fragment, main, alt, &built_in_map(), Options::built_in(), &mut other);
+                assert_eq!((answer, other), (wanted, one), "{fragment:02x?} {main} {alt} {lent}");
+            }
+        }
+    }
+    let papers: [&[u8]; 6] = [
+        &paper(1, 1, &[0x63, 0x51, 0x67, 0x52, 0x68, 0x75], &[0x6c, 0x6d]),
+        &paper(0, 2, &[0x75], &[]),
+        &paper(65_535, 65_535, &[], &[]),
+        &paper(0, 0, &[0x61; 40], &[]),
+        &[0; 8_001],
+        &[],
+    ];
+    for paper in papers {
+        let map = built_in_map();
+        let mut logs = [[LENT; 90]; 6];
+        let mut texts = [[b'#'; 2_000]; 4];
+        let verdict = mark_paper(paper, &mut logs[0]);
+        assert_eq!(mark_paper_with(paper, &map, Options::built_in(), &mut logs[1]), verdict);
+        let lines = mark_lines(paper, &mut logs[2], &mut texts[0]);
+        assert_eq!(mark_lines_with(paper, &map, Options::built_in(), &mut logs[3], &mut texts[1]), lines);
+        let lines = log_lines(paper, &mut logs[4], &mut texts[2]);
+        assert_eq!(log_lines_with(paper, &map, Options::built_in(), &mut logs[5], &mut texts[3]), lines);
+        assert!(logs.iter().all(|log| *log == logs[0]));
+        assert_eq!((texts[0], texts[2]), (texts[1], texts[3]));
+    }
+}
+
+/// Two IFs and no ELSE; no RETURN; everything nothing; codes exchanged.
+#[test]
+fn other_maps() {
+    let by = |rows: &[(u8, u8)], fragment: &[u8], main| {
+        analyze_with(fragment, main, 0, &with_rows(rows), Options::built_in(), &mut [LENT; 30]).0
+    };
+    let rows = [(0xff, 3), (0x67, 0)];
+    assert_eq!(by(&rows, &[0x63, 0xff, 0x68, 0x51, 0x68], 2), accepted(5, 2, 1, 0));
+    assert_eq!(by(&[], &[0x63, 0xff, 0x68, 0x51, 0x68], 2), refused(11, 1, 255, 0, 2));
+    assert_eq!(by(&rows, &[0xff, 0x67, 0x68], 1), refused(11, 1, 0x67, 0, 2));
+    assert_eq!(by(&[(0x6a, 0)], &[0x6a, 0xff], 0), refused(11, 0, 106, 0, 1));
+    assert_eq!(by(&[], &[0x6a, 0xff], 0), dead(2, 0));
+    let nothing: Vec<(u8, u8)> = (0x61..=0xff).map(|code| (code, 2)).collect();
+    assert_eq!(by(&nothing, &[0x51, 0x63, 0x6a, 0x75, 0xff, 0x4f], 0), accepted(6, 2, 2, 0));
+    // every later code as each class but push, from ten items
+    for class in (0..=31).filter(|class| *class != 1) {
+        let own = (0..=255u8).find(|code| built_in_map()[4 + usize::from(*code)] == class).unwrap();
+        for code in 0x61..=0xff {
+            let mut logs = [[LENT; 9]; 2];
+            let verdict = analyze_with(&[0x51, code], 9, 1, &with_rows(&[(code, class)]), Options::built_in(), &mut logs[0]);
+            let mut wanted = analyze_items(&[0x51, own], 9, 1, &mut logs[1]);
+            if class == 0 {
+                // the opcode that is told
+                wanted.0.first = code.into();
+            }
+            assert_eq!((verdict, logs[0]), (wanted, logs[1]), "{code:02x} {class}");
+        }
+    }
+}
+
+/// The paper of section 6, and fragments, at some limits.
+#[test]
+fn limits_lent() {
+    let sample = paper(1, 1, &[0x63, 0x51, 0x67, 0x52, 0x68, 0x75], &[]);
+    let map = built_in_map();
+    let at = |limit| mark_paper_with(&sample, &map, Options::limited(limit), &mut [LENT; 18]);
+    for limit in [0, 245, 256 + 5, u32::MAX] {
+        assert_eq!(at(limit), refused_paper(29, 0, 0, 0, 0), "{limit}");
+    }
+    for limit in 1..=4 {
+        assert_eq!(at(limit), refused_paper(20, 0, 5, limit.into(), 0), "{limit}");
+    }
+    for limit in 5..=244 {
+        assert_eq!(at(limit), PaperVerdict { number: 0, entry: 0, offset: 0, first: 0, second: 0, rows: 6, peak: 2 }, "{limit}");
+    }
+    let mut text = [b'#'; 100];
+    let lines = mark_lines_with(&sample, &map, Options::limited(4), &mut [LENT; 18], &mut text);
+    assert_eq!((lines.number, &text[..lines.size]), (20, &b"refused 20 at 0 0 5 4\n"[..]));
+    let lines = mark_lines_with(&sample, &map, Options::limited(5), &mut [LENT; 18], &mut text);
+    assert_eq!((lines.number, &text[..lines.size]), (0, &b"entry 0 peak 2 end 1 0\naccepted\n"[..]));
+    let by = |fragment: &[u8], main, limit| analyze_with(fragment, main, 0, &map, Options::limited(limit), &mut [LENT; 30]).0;
+    assert_eq!(by(&[0x51], 0, 1), accepted(1, 1, 1, 0));
+    assert_eq!(by(&[0x51, 0x76], 0, 1), refused(6, 1, 2, 1, 2));
+    assert_eq!(by(&[], 2, 1), refused(2, 0, 2, 1, 0));
+    assert_eq!(by(&[0x6f], 3, 5), refused(6, 0, 6, 5, 1));
+    assert_eq!(by(&[0x6f], 3, 6), accepted(1, 6, 6, 0));
+    assert_eq!(by(&[0x76], 243, 243), refused(6, 0, 244, 243, 1));
+    // one fragment at every limit: accepted from its peak on, with the same log, and 2 or 6 below
+    let fragment = [0x51, 0x6f, 0x75, 0x75, 0x6b, 0x63, 0x51, 0x67, 0x52, 0x68];
+    let mut wanted = [LENT; 30];
+    let verdict = analyze_items(&fragment, 2, 0, &mut wanted);
+    assert_eq!((verdict.0.number, verdict.0.peak), (0, 6));
+    for limit in 1..=244 {
+        let mut log = [LENT; 30];
+        let answer = analyze_with(&fragment, 2, 0, &map, Options::limited(limit), &mut log);
+        match limit {
+            1 => assert_eq!(answer.0, refused(2, 0, 2, 1, 0)),
+            2 => assert_eq!(answer.0, refused(6, 0, 3, 2, 1)),
+            3..=5 => assert_eq!(answer.0, refused(6, 1, 6, limit.into(), 2)),
+            _ => assert_eq!((answer, log), (verdict, wanted), "{limit}"),
+        }
+    }
+}
+
+/// What each function answers to a map and a limit that are bad; all that is lent stays but the line. 1 and 21 would come next.
+fn judged(map: &[u8], limit: u32, number: u32) {
+    let options = Options::limited(limit);
+    let line = format!("refused {number} at 0 0 0 0\n");
+    let mut log = [LENT; 6];
+    for size in [1, 10_001] {
+        let none: EndStacks = analyze_items(&[0x6a], 0, 0, &mut [0; 3]).1;
+        let (verdict, end) = analyze_with(&vec![0x61; size], 0, 0, map, options, &mut log);
+        assert_eq!(verdict, refused(number, 0, 0, 0, 0), "{map:02x?} {limit}");
+        assert_eq!((end.main(), end.alt()), (none.main(), none.alt()));
+        let mut paper = paper(0, 0, &[0x61], &[]);
+        paper.resize(paper.len().max(size), 0);
+        assert_eq!(mark_paper_with(&paper, map, options, &mut log), refused_paper(number, 0, 0, 0, 0), "{map:02x?} {limit}");
+        let mut text = [b'#'; 64];
+        assert_eq!(mark_lines_with(&paper, map, options, &mut log, &mut text), Lines { number, size: line.len() });
+        assert_eq!(&text[..line.len()], line.as_bytes());
+        assert!(text[line.len()..].iter().all(|&b| b == b'#'));
+        let mut text = [b'#'; 64];
+        let lines = log_lines_with(&paper, map, options, &mut log, &mut text);
+        assert_eq!(lines.number, number);
+        assert!(text[..lines.size].ends_with(line.as_bytes()), "{}", String::from_utf8_lossy(&text[..lines.size]));
+        assert!(text[lines.size..].iter().all(|&b| b == b'#'));
+    }
+    assert_eq!(log, [LENT; 6]);
+}
+
+/// Each way in which a map is bad; 28 goes before 29.
+#[test]
+fn bad_maps_and_limits() {
+    let own = built_in_map();
+    for length in 0..260 {
+        judged(&own[..length], 244, 28);
+    }
+    // the count: 257, 511, 0, 512, 1; the offset: 0, 3, 5 with too few rows, 260, 65,535
+    for (place, byte) in [(0, 1), (0, 255), (1, 0), (1, 2), (2, 0), (2, 3), (2, 5), (3, 1), (3, 255)] {
+        let mut bad = own;
+        bad[place] = byte;
+        judged(&bad, 244, 28);
+    }
+    let mut turned = own;
+    turned[..4].copy_from_slice(&[0x01, 0x00, 0x00, 0x04]);
+    judged(&turned, 244, 28);
+    for limit in [0, 245, 256, 256 + 5, 65_536 + 5, u32::MAX] {
+        judged(&own, limit, 29);
+        judged(&own[..259], limit, 28);
+        judged(&with_rows(&[(0x61, 1)]), limit, 28);
+    }
+    // each row with each byte
+    for code in 0..=255u8 {
+        for class in 0..=255u8 {
+            let map = with_rows(&[(code, class)]);
+            let early = code <= 0x60 && class != own[4 + usize::from(code)];
+            let number = if early || class > 31 || code > 0x60 && class == 1 { 28 } else { 0 };
+            let verdict = analyze_with(&[], 0, 0, &map, Options::built_in(), &mut []).0;
+            assert_eq!(verdict.number, number, "{code:02x} {class}");
+        }
+    }
+    judged(&with_rows(&[(0x50, 1)]), 244, 28);
+    judged(&with_rows(&[(0xff, 1)]), 244, 28);
+    judged(&with_rows(&[(0xff, 32)]), 1, 28);
+}
+
+/// Bytes before the rows and behind them are free, also where the rows end behind 65,535.
+#[test]
+fn rows_further_behind() {
+    for offset in [4, 5, 300, 65_535] {
+        let mut moved = vec![0xff; offset + 256 + 9];
+        moved[..4].copy_from_slice(&[0x00, 0x01, offset as u8, (offset >> 8) as u8]);
+        moved[offset..offset + 256].copy_from_slice(&with_rows(&[(0x61, 28)])[4..]);
+        let by = |map: &[u8]| analyze_with(&[0x61, 0x61], 0, 0, map, Options::limited(2), &mut [LENT; 6]).0;
+        assert_eq!(by(&moved), accepted(2, 2, 2, 0), "{offset}");
+        assert_eq!(by(&moved[..offset + 256]), accepted(2, 2, 2, 0), "{offset}");
+        assert_eq!(by(&moved[..offset + 255]), refused(28, 0, 0, 0, 0), "{offset}");
+    }
+}
+
+/// The indentation of a log goes by the lent map, the words of the instructions by the built-in one.
+#[test]
+fn a_log_by_another_map() {
+    let map = with_rows(&[(0xff, 3), (0x67, 0)]);
+    let paper = paper(0, 2, &[0x63, 0xff, 0x68, 0x51, 0x68], &[]);
+    let expected = "\
+entry 0: length 5, from main 2 alt 0
+offset main  alt total |of 8            | bytes       instruction
+     0    2    0     2 |####............| 63          OpIf
+     1    1    0     1 |##..............| ff           0xff
+     2    0    0     0 |................| 68           OpEndIf
+     3    0    0     0 |................| 51           Op1
+     4    1    0     1 |##..............| 68          OpEndIf
+accepted: peak 2, end main 1 alt 0
+
+accepted
+";
+    let mut text = [b'#'; 1_000];
+    let mut log = [LENT; 15];
+    let lines = log_lines_with(&paper, &map, Options::limited(5), &mut log, &mut text);
+    assert_eq!((lines.number, String::from_utf8_lossy(&text[..lines.size])), (0, expected.into()));
+    assert_eq!(log, [0, 2, 0, 1, 1, 0, 2, 0, 0, 3, 0, 0, 4, 1, 0]);
+}
+
 #[test]
 fn half_a_megabyte_of_stack_is_enough() {
     let mut fragment = [0x51, 0x63].repeat(24);
@@ -433,6 +756,11 @@ fn half_a_megabyte_of_stack_is_enough() {
         assert_eq!(mark_lines(&paper, &mut log, &mut text).number, 0);
         let mut text = vec![0; log_lines(&paper, &mut log, &mut []).size];
         assert_eq!(log_lines(&paper, &mut log, &mut text).number, 0);
+        assert!(text.ends_with(b"accepted\n"));
+        let map = built_in_map();
+        assert_eq!(analyze_with(&fragment, 200, 0, &map, Options::built_in(), &mut log).0, verdict);
+        assert_eq!(mark_paper_with(&paper, &map, Options::built_in(), &mut log).number, 0);
+        assert_eq!(log_lines_with(&paper, &map, Options::built_in(), &mut log, &mut text).number, 0);
         assert!(text.ends_with(b"accepted\n"));
     };
     // 512 KiB for the callee, 32 for the thread itself

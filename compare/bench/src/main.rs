@@ -1,6 +1,11 @@
 //! Times the proved marker and the Rust's analysis on the same fragments and papers in one run, both built for release. Ours
 //! is lent a log of 30,000 numbers, written anew in each run and not cleared before; the Rust keeps no log. Answers are
-//! compared first. With a number as its argument it runs that one row once more and nothing else, for counts of instructions.
+//! compared first. The assembler and the lister of request L4 stand beside a plain version in Rust (`plain`), which makes a
+//! vector where ours is lent one. With a number as its argument it runs that one row
+//! once more and nothing else, for counts of instructions; with `listings` it times the rows of request L4 alone.
+mod plain;
+
+use plain::Names;
 use std::hint::black_box;
 use std::time::Instant;
 
@@ -171,6 +176,62 @@ fn fragments_row(name: &str, fragments: Vec<Vec<u8>>, main: u32, times: u32) -> 
     }
 }
 
+/// The corpus by a lent map: fragments with the items of their ends, in the built-in form and by the built-in map, and papers.
+fn map_rows(fragments: Vec<Vec<u8>>, times: u32) -> [Row; 3] {
+    let bytes = fragments.iter().map(Vec::len).sum();
+    let papers = papers(&fragments);
+    let map = listochur::built_in_map();
+    let mut log = vec![0u16; 30_000];
+    for f in &fragments {
+        let (v, end) = listochur::analyze_with(f, 12, 0, &map, listochur::Options::built_in(), &mut log);
+        let (w, other) = listochur::analyze_items(f, 12, 0, &mut log);
+        assert_eq!((v, end), (w, other), "{f:02x?}");
+    }
+    for p in &papers {
+        let v = listochur::mark_paper_with(p, &map, listochur::Options::built_in(), &mut log);
+        assert_eq!(v, listochur::mark_paper(p, &mut log));
+    }
+    let row = |name: &str, bytes: usize, ours: Box<dyn FnMut()>| Row {
+        name: name.to_string(),
+        bytes,
+        times,
+        ours,
+        theirs: Box::new(|| ()),
+    };
+    let (first, second) = (fragments.clone(), fragments);
+    let paper_bytes = papers.iter().map(Vec::len).sum();
+    let (mut a, mut b, mut c) = (log.clone(), log.clone(), log);
+    [
+        row(
+            "corpus with items",
+            bytes,
+            Box::new(move || {
+                for f in &first {
+                    black_box(listochur::analyze_items(black_box(f), 12, 0, &mut a));
+                }
+            }),
+        ),
+        row(
+            "corpus with items, by the built-in map",
+            bytes,
+            Box::new(move || {
+                for f in &second {
+                    black_box(listochur::analyze_with(black_box(f), 12, 0, &map, listochur::Options::built_in(), &mut b));
+                }
+            }),
+        ),
+        row(
+            "papers, by the built-in map",
+            paper_bytes,
+            Box::new(move || {
+                for p in &papers {
+                    black_box(listochur::mark_paper_with(black_box(p), &map, listochur::Options::built_in(), &mut c));
+                }
+            }),
+        ),
+    ]
+}
+
 fn papers_row(name: &str, papers: Vec<Vec<u8>>, times: u32) -> Row {
     let mut log = vec![0u16; 30_000];
     for p in &papers {
@@ -198,6 +259,71 @@ fn papers_row(name: &str, papers: Vec<Vec<u8>>, times: u32) -> Row {
             }
         }),
     }
+}
+
+/// Rows of assembling and of listing these fragments. The bytes are those of the fragments for both.
+fn listing_rows(name: &str, fragments: Vec<Vec<u8>>, times: u32) -> [Row; 3] {
+    let bytes = fragments.iter().map(Vec::len).sum();
+    let names = Names::new();
+    let listings: Vec<Vec<u8>> = fragments.iter().map(|f| names.list(f).expect("whole instructions")).collect();
+    let longest = listings.iter().map(Vec::len).max().unwrap_or(0);
+    let mut text = vec![0u8; longest];
+    for (f, l) in fragments.iter().zip(&listings) {
+        let c = listochur::list(f, &mut text);
+        assert_eq!((c.number, &text[..c.size]), (0, &l[..]), "{name}");
+        let c = listochur::assemble(l, &mut text);
+        assert_eq!((c.number, Ok(text[..c.size].to_vec())), (0, names.assemble(l)), "{name}");
+    }
+    let mut fragment = vec![0u8; longest];
+    let (copy, listings_copy, names_copy) = (fragments.clone(), listings.clone(), Names::new());
+    let (own, theirs, array, mut other) = (fragments.clone(), fragments.clone(), Names::new(), text.clone());
+    [
+        Row {
+            name: format!("assembling, {name}"),
+            bytes,
+            times,
+            ours: Box::new(move || {
+                for l in &listings {
+                    black_box(listochur::assemble(black_box(l), &mut fragment));
+                }
+            }),
+            theirs: Box::new(move || {
+                for l in &listings_copy {
+                    let _ = black_box(names.assemble(black_box(l)));
+                }
+            }),
+        },
+        Row {
+            name: format!("listing, {name}"),
+            bytes,
+            times,
+            ours: Box::new(move || {
+                for f in &fragments {
+                    black_box(listochur::list(black_box(f), &mut text));
+                }
+            }),
+            theirs: Box::new(move || {
+                for f in &copy {
+                    let _ = black_box(names_copy.list(black_box(f)));
+                }
+            }),
+        },
+        Row {
+            name: format!("listing, {name}, by array"),
+            bytes,
+            times,
+            ours: Box::new(move || {
+                for f in &own {
+                    black_box(listochur::list(black_box(f), &mut other));
+                }
+            }),
+            theirs: Box::new(move || {
+                for f in &theirs {
+                    let _ = black_box(array.list_by_array(black_box(f)));
+                }
+            }),
+        },
+    ]
 }
 
 /// Conditionals nested so deep, around pushes and drops, of about 9,000 bytes in all.
@@ -250,20 +376,54 @@ fn rows() -> Vec<Row> {
         }
         rows.push(fragments_row(&format!("statements, {size} bytes"), vec![f], 12, 40));
     }
+    rows.extend(listing_rows("corpus", self::corpus(), 20));
+    let mut rng = Rng(7);
+    let mut statements = Vec::new();
+    while statements.len() < 1_100_000 {
+        statement(&mut rng, &mut statements, 0);
+    }
+    for (size, times) in [(20, 10_000), (10_000, 40), (100_000, 10), (1_000_000, 3)] {
+        rows.extend(listing_rows(&format!("{size} bytes"), vec![whole(&statements, size)], times));
+    }
+    rows.extend(listing_rows(
+        "one push of 1,000,000",
+        vec![[&[0x4e, 0x40, 0x42, 0x0f, 0x00][..], &[0xa5; 1_000_000]].concat()],
+        3,
+    ));
+    rows.extend(map_rows(self::corpus(), 20));
     rows
 }
 
+/// The instructions at the front that fit into so many bytes, and 61 for what is left.
+fn whole(code: &[u8], size: usize) -> Vec<u8> {
+    let mut at = 0;
+    while at + 1 + usize::from(code[at]) * usize::from(code[at] < 0x4c) <= size {
+        at += 1 + usize::from(code[at]) * usize::from(code[at] < 0x4c);
+        if at >= code.len() {
+            break;
+        }
+    }
+    let mut out = code[..at].to_vec();
+    out.resize(size, 0x61);
+    out
+}
+
 fn main() {
-    let only: Option<usize> = std::env::args().nth(1).map(|k| k.parse().expect("the number of a row, from 0"));
+    let word = std::env::args().nth(1);
+    let listings = word.as_deref() == Some("listings");
+    let only: Option<usize> = word.filter(|_| !listings).map(|k| k.parse().expect("the number of a row, from 0"));
     let theirs = std::env::args().nth(2).is_some();
     for (k, mut row) in rows().into_iter().enumerate() {
+        if listings && !row.name.contains("listing") && !row.name.contains("assembling") {
+            continue;
+        }
         let per_byte = 1e9 / row.bytes as f64;
         match only {
             None => {
                 let a = time(row.times, &mut row.ours) * per_byte;
                 let b = time(row.times, &mut row.theirs) * per_byte;
                 println!(
-                    "{k:2} {:<30} {:>7} bytes   ours {a:7.1} ns/byte   Rust {b:7.1} ns/byte   ratio {:.2}",
+                    "{k:2} {:<42} {:>7} bytes   ours {a:7.1} ns/byte   Rust {b:7.1} ns/byte   ratio {:.2}",
                     row.name,
                     row.bytes,
                     a / b

@@ -4,22 +4,27 @@ use std::fmt;
 use std::panic::{AssertUnwindSafe, catch_unwind};
 
 use reference::{Answer, PaperAnswer, as_message};
-use tools::definition::{self, Item, Stacks};
+use tools::definition::{self, BUILT_IN, Item, Rules, Stacks, Verdict, built_in_map};
 
-use crate::marker::{Marker, UNWRITTEN};
+use crate::marker::{Lent, Marker, UNWRITTEN};
 use crate::replays;
 
 /// A case. `lent` is the length of the lent log in numbers; `seed` gives the byte strings and the choices of the replays; `other`
-/// differs from `bytes` only within long data.
+/// differs from `bytes` only within long data. `by` is the map and the limit that are lent, the built-in ones where it is none;
+/// `limit` is another than that.
 #[derive(Clone, Debug, PartialEq, Eq)]
 pub enum Case {
     Fragment { main: u32, alt: u32, bytes: Vec<u8>, lent: usize },
-    Replays { main: u32, alt: u32, bytes: Vec<u8>, seed: u64 },
+    Replays { by: Option<Lent>, main: u32, alt: u32, bytes: Vec<u8>, seed: u64 },
     Limits { bytes: Vec<u8> },
     Paper { bytes: Vec<u8>, lent: usize },
     Fragments { main: u32, alt: u32, bytes: Vec<u8>, other: Vec<u8>, lent: usize },
     Papers { bytes: Vec<u8>, other: Vec<u8>, lent: usize },
     Display { body: Vec<u8>, initialiser: Vec<u8>, offset: usize, mark: u32 },
+    FragmentBy { by: Lent, main: u32, alt: u32, bytes: Vec<u8>, lent: usize },
+    PaperBy { by: Lent, bytes: Vec<u8>, lent: usize },
+    FragmentAt { by: Lent, limit: u32, main: u32, alt: u32, bytes: Vec<u8> },
+    PaperAt { by: Lent, limit: u32, bytes: Vec<u8> },
 }
 
 /// In the form of the protocol, without the short form of a tail.
@@ -29,8 +34,9 @@ impl fmt::Display for Case {
             Self::Fragment { main, alt, bytes, lent } => {
                 write!(f, "fragment {main} {alt} {}   (a log of {lent})", hex(bytes))
             }
-            Self::Replays { main, alt, bytes, seed } => {
-                write!(f, "fragment {main} {alt} {}   (replays of seed {seed})", hex(bytes))
+            Self::Replays { by, main, alt, bytes, seed } => {
+                let by = by.as_ref().map_or_else(String::new, |by| format!("; {by}"));
+                write!(f, "fragment {main} {alt} {}   (replays of seed {seed}{by})", hex(bytes))
             }
             Self::Limits { bytes } => write!(f, "limits {}", hex(bytes)),
             Self::Paper { bytes, lent } => write!(f, "paper {}   (a log of {lent})", hex(bytes)),
@@ -43,6 +49,30 @@ impl fmt::Display for Case {
             Self::Display { body, initialiser, offset, mark } => {
                 write!(f, "display {offset} {mark} {} {}", hex(body), hex(initialiser))
             }
+            Self::FragmentBy { by, main, alt, bytes, lent } => {
+                write!(f, "fragment {main} {alt} {}   (a log of {lent}; {by})", hex(bytes))
+            }
+            Self::PaperBy { by, bytes, lent } => write!(f, "paper {}   (a log of {lent}; {by})", hex(bytes)),
+            Self::FragmentAt { by, limit, main, alt, bytes } => {
+                write!(f, "fragment {main} {alt} {}   ({by}, and at {limit})", hex(bytes))
+            }
+            Self::PaperAt { by, limit, bytes } => write!(f, "paper {}   ({by}, and at {limit})", hex(bytes)),
+        }
+    }
+}
+
+/// The limit and the map: the rows in which it is not the built-in one, or all its bytes where it is not laid out as that is.
+impl fmt::Display for Lent {
+    fn fmt(&self, f: &mut fmt::Formatter<'_>) -> fmt::Result {
+        let own = built_in_map();
+        let rows = (self.map.len() == own.len() && self.map[..4] == own[..4]).then(|| {
+            let other = |code: &usize| self.map[4 + code] != own[4 + code];
+            (0..256).filter(other).map(|code| format!(" {code:02x} is {}", self.map[4 + code])).collect::<Vec<_>>().join(",")
+        });
+        match rows.as_deref() {
+            Some("") => write!(f, "the built-in map at {}", self.limit),
+            Some(rows) => write!(f, "the built-in map with{rows}, at {}", self.limit),
+            None => write!(f, "the map {} at {}", hex(&self.map), self.limit),
         }
     }
 }
@@ -63,6 +93,16 @@ fn differ(against: &'static str, ours: impl fmt::Debug, theirs: impl fmt::Debug)
     Box::new(Difference { against, ours: format!("{ours:?}"), theirs: format!("{theirs:?}") })
 }
 
+/// A verdict in the order of the places.
+fn numbers(verdict: &Verdict) -> [u64; 9] {
+    let Answer { number, offset, a, b } = verdict.answer;
+    let (ended, main, alt) = match &verdict.end {
+        Some(end) => (1, end.main.len() as u64, end.alt.len() as u64),
+        None => (0, 0, 0),
+    };
+    [u64::from(number), offset, a, b, verdict.rows as u64, verdict.peak as u64, ended, main, alt]
+}
+
 /// Asks the Rust, which answers by words: words without a verdict number stop it, and so does a paper's answer by parts that
 /// is not the one for the whole.
 fn ask<T>(ours: impl fmt::Debug, question: impl FnOnce() -> T) -> Result<T, Box<Difference>> {
@@ -81,6 +121,8 @@ const ITEMS: &str = "document 01: the items of the end";
 const AGAIN: &str = "the same without the items";
 const BLANKED: &str = "ours with other long data";
 const RUST_BLANKED: &str = "the Rust's, both with other long data";
+const RAISED: &str = "the same at another limit: accepted from the peak on, else 2 or 6";
+const RAISED_PAPER: &str = "the same at a higher limit";
 const PART: &str = "document 01: start and length of the part";
 
 /// What a number of the log is until it is written. No height and no offset is this large, and dead rows have 65,535.
@@ -125,7 +167,7 @@ impl<'m, M: Marker> Checker<'m, M> {
         self.lend(lent);
         let ours = self.marker.analyze(bytes, main, alt, &mut self.ours);
         let verdict = definition::analysis(bytes, main, alt, &mut self.theirs);
-        let Answer { number, offset, a, b } = verdict.answer;
+        let number = verdict.answer.number;
         match number {
             4 => {}
             1 | 5 => {
@@ -141,12 +183,7 @@ impl<'m, M: Marker> Checker<'m, M> {
                 }
             }
         }
-        let (ended, end_main, end_alt) = match &verdict.end {
-            Some(end) => (1, end.main.len() as u64, end.alt.len() as u64),
-            None => (0, 0, 0),
-        };
-        let (rows, peak) = (verdict.rows as u64, verdict.peak as u64);
-        let theirs = [u64::from(number), offset, a, b, rows, peak, ended, end_main, end_alt];
+        let theirs = numbers(&verdict);
         if ours != theirs {
             return Err(differ(NUMBERS, ours, theirs));
         }
@@ -166,15 +203,25 @@ impl<'m, M: Marker> Checker<'m, M> {
         end: Option<&Stacks>,
     ) -> Result<(), Box<Difference>> {
         self.ours.fill(LENT);
-        for items in [&mut self.items, &mut self.wanted] {
-            items.clear();
-            items.resize(3 * 245, UNWRITTEN);
-        }
+        self.lend_items();
         let again = self.marker.analyze_items(bytes, main, alt, &mut self.ours, &mut self.items);
         if again != ours {
             return Err(differ(AGAIN, again, ours));
         }
         self.same_log()?;
+        self.items_of(end)
+    }
+
+    /// Places for the items, as lent, and those that are wanted.
+    fn lend_items(&mut self) {
+        for items in [&mut self.items, &mut self.wanted] {
+            items.clear();
+            items.resize(3 * 245, UNWRITTEN);
+        }
+    }
+
+    /// The items that were written are those of this end.
+    fn items_of(&mut self, end: Option<&Stacks>) -> Result<(), Box<Difference>> {
         if let Some(end) = end {
             for (item, places) in end.main.iter().chain(&end.alt).zip(self.wanted.chunks_exact_mut(3)) {
                 let (length, number) = match item {
@@ -193,15 +240,27 @@ impl<'m, M: Marker> Checker<'m, M> {
         }
     }
 
-    /// Demand 3 by replays; nothing if the fragment is not accepted.
-    pub fn replays(&mut self, main: u32, alt: u32, bytes: &[u8], seed: u64) -> Result<replays::Counts, Box<Difference>> {
+    /// Demand 3 by replays, by the built-in map and limit or by lent ones; nothing if the fragment is not accepted.
+    pub fn replays(
+        &mut self,
+        by: Option<&Lent>,
+        main: u32,
+        alt: u32,
+        bytes: &[u8],
+        seed: u64,
+    ) -> Result<replays::Counts, Box<Difference>> {
         self.lend(3 * bytes.len());
-        let ours = self.marker.analyze(bytes, main, alt, &mut self.ours);
+        let rules = by.map_or_else(|| Ok(BUILT_IN.clone()), |by| Rules::read(&by.map, by.limit));
+        let ours = match by {
+            None => self.marker.analyze(bytes, main, alt, &mut self.ours),
+            Some(by) => self.marker.analyze_with(by, bytes, main, alt, &mut self.ours, &mut []),
+        };
         if ours[0] != 0 {
             return Ok(replays::Counts::default());
         }
-        let verdict = definition::analysis(bytes, main, alt, &mut self.theirs);
-        replays::demand_3(bytes, main, alt, seed, &ours, &self.ours, verdict.end.as_ref())
+        let rules = rules.map_err(|number| differ("document 02: a bad map or limit", "accepted", number))?;
+        let verdict = definition::analysis_by(&rules, bytes, main, alt, &mut self.theirs);
+        replays::demand_3(&rules, bytes, main, alt, seed, &ours, &self.ours, verdict.end.as_ref())
             .map_err(|(ours, theirs)| Box::new(Difference { against: "demand 3, by replays", ours, theirs }))
     }
 
@@ -251,10 +310,7 @@ impl<'m, M: Marker> Checker<'m, M> {
     /// answers are the same. The verdict number.
     pub fn blanked(&mut self, main: u32, alt: u32, bytes: &[u8], other: &[u8], lent: usize) -> Result<u32, Box<Difference>> {
         self.lend(lent);
-        for items in [&mut self.items, &mut self.wanted] {
-            items.clear();
-            items.resize(3 * 245, UNWRITTEN);
-        }
+        self.lend_items();
         let one = self.marker.analyze_items(bytes, main, alt, &mut self.ours, &mut self.items);
         let two = self.marker.analyze_items(other, main, alt, &mut self.theirs, &mut self.wanted);
         if one != two {
@@ -303,16 +359,88 @@ impl<'m, M: Marker> Checker<'m, M> {
         Ok(())
     }
 
+    /// Request L6: a fragment by a lent map and limit, which may be bad, against the plain reading. The verdict number.
+    pub fn fragment_by(&mut self, by: &Lent, main: u32, alt: u32, bytes: &[u8], lent: usize) -> Result<u32, Box<Difference>> {
+        self.lend(lent);
+        self.lend_items();
+        let ours = self.marker.analyze_with(by, bytes, main, alt, &mut self.ours, &mut self.items);
+        let verdict = definition::analysis_with(&by.map, by.limit, bytes, main, alt, &mut self.theirs);
+        let theirs = numbers(&verdict);
+        if ours != theirs {
+            return Err(differ(NUMBERS, ours, theirs));
+        }
+        self.same_log()?;
+        self.items_of(verdict.end.as_ref())?;
+        Ok(verdict.answer.number)
+    }
+
+    /// The same of a paper.
+    pub fn paper_by(&mut self, by: &Lent, bytes: &[u8], lent: usize) -> Result<u32, Box<Difference>> {
+        self.lend(lent);
+        let ours = self.marker.mark_paper_with(by, bytes, &mut self.ours);
+        let verdict = definition::mark_with(&by.map, by.limit, bytes, &mut self.theirs);
+        let PaperAnswer { number, entry, offset, a, b } = verdict.answer;
+        let theirs = [u64::from(number), entry, offset, a, b, verdict.rows as u64, verdict.peak as u64];
+        if ours != theirs {
+            return Err(differ(PAPER, ours, theirs));
+        }
+        self.same_log()?;
+        Ok(number)
+    }
+
+    /// "Raising the limit under one map never turns acceptance into refusal, and peak, log and end stay equal", and more: a
+    /// fragment that is accepted by a map at its limit is accepted at another from its peak on, with the same numbers, log and
+    /// items, and below it is 2 or 6. Ours alone.
+    pub fn fragment_at(&mut self, by: &Lent, limit: u32, main: u32, alt: u32, bytes: &[u8]) -> Result<(), Box<Difference>> {
+        self.lend(3 * bytes.len());
+        self.lend_items();
+        let one = self.marker.analyze_with(by, bytes, main, alt, &mut self.ours, &mut self.items);
+        if one[0] != 0 || !(1..=244).contains(&limit) {
+            return Ok(());
+        }
+        let at = Lent { map: by.map.clone(), limit };
+        let two = self.marker.analyze_with(&at, bytes, main, alt, &mut self.theirs, &mut self.wanted);
+        if u64::from(limit) < one[5] {
+            return if matches!(two[0], 2 | 6) { Ok(()) } else { Err(differ(RAISED, one, two)) };
+        }
+        if one != two {
+            return Err(differ(RAISED, one, two));
+        }
+        if (&self.ours, &self.items) != (&self.theirs, &self.wanted) {
+            return Err(differ(RAISED, (&self.ours, &self.items), (&self.theirs, &self.wanted)));
+        }
+        Ok(())
+    }
+
+    /// The same of a paper, at a higher limit.
+    pub fn paper_at(&mut self, by: &Lent, limit: u32, bytes: &[u8]) -> Result<(), Box<Difference>> {
+        self.lend(3 * bytes.len());
+        let one = self.marker.mark_paper_with(by, bytes, &mut self.ours);
+        if one[0] != 0 || !(by.limit..=244).contains(&limit) {
+            return Ok(());
+        }
+        let at = Lent { map: by.map.clone(), limit };
+        let two = self.marker.mark_paper_with(&at, bytes, &mut self.theirs);
+        if (one, &self.ours) != (two, &self.theirs) {
+            return Err(differ(RAISED_PAPER, (one, &self.ours), (two, &self.theirs)));
+        }
+        Ok(())
+    }
+
     /// A case of any kind.
     pub fn check(&mut self, case: &Case) -> Result<(), Box<Difference>> {
         match case {
             Case::Fragment { main, alt, bytes, lent } => self.fragment(*main, *alt, bytes, *lent).map(drop),
-            Case::Replays { main, alt, bytes, seed } => self.replays(*main, *alt, bytes, *seed).map(drop),
+            Case::Replays { by, main, alt, bytes, seed } => self.replays(by.as_ref(), *main, *alt, bytes, *seed).map(drop),
             Case::Limits { bytes } => self.limits(bytes).map(drop),
             Case::Paper { bytes, lent } => self.paper(bytes, *lent).map(drop),
             Case::Fragments { main, alt, bytes, other, lent } => self.blanked(*main, *alt, bytes, other, *lent).map(drop),
             Case::Papers { bytes, other, lent } => self.blanked_papers(bytes, other, *lent).map(drop),
             Case::Display { body, initialiser, offset, mark } => self.display(body, initialiser, *offset, *mark),
+            Case::FragmentBy { by, main, alt, bytes, lent } => self.fragment_by(by, *main, *alt, bytes, *lent).map(drop),
+            Case::PaperBy { by, bytes, lent } => self.paper_by(by, bytes, *lent).map(drop),
+            Case::FragmentAt { by, limit, main, alt, bytes } => self.fragment_at(by, *limit, *main, *alt, bytes),
+            Case::PaperAt { by, limit, bytes } => self.paper_at(by, *limit, bytes),
         }
     }
 }

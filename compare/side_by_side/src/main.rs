@@ -82,18 +82,29 @@ fn report(outcome: &Outcome) {
     }
     line("all", &sum, seconds);
 
-    println!("\nverdict number{:>14}{:>13}{:>13}{:>13}", "fragments", "limit checks", "papers", "pairs");
+    let row = |first: &str, kinds: [String; 6]| {
+        println!("{first:>14}{}", kinds.map(|kind| format!("{kind:>14}")).concat());
+    };
+    println!();
+    let kinds = ["fragments", "limit checks", "papers", "pairs", "by a map", "papers by one"];
+    row("verdict number", kinds.map(String::from));
     for number in 0..sum.fragments.numbers.len() {
-        let row = [&sum.fragments, &sum.limits, &sum.papers, &sum.pairs].map(|counts| counts.numbers[number]);
-        if row != [0; 4] {
-            println!("{number:>14}{:>14}{:>13}{:>13}{:>13}", row[0], row[1], row[2], row[3]);
+        let times = sum.judged().map(|counts| counts.numbers[number]);
+        if times != [0; 6] {
+            row(&number.to_string(), times.map(|times| times.to_string()));
         }
     }
     // The additions of document 01: see README.md.
     let unasked = |counts: &Counts| [1, 4, 5, 19, 21].iter().map(|number| counts.numbers[*number]).sum::<u64>();
-    let alone =
-        unasked(&sum.fragments) + unasked(&sum.papers) + sum.pairs.numbers[19] + sum.pairs.numbers[21] + sum.displays.cases;
-    println!("\nanswered by the Rust: {}; not by it (1, 4, 5, 19, 21, display): {alone}", sum.cases() - alone);
+    let by_maps = sum.fragments_by.cases + sum.papers_by.cases;
+    let alone = unasked(&sum.fragments)
+        + unasked(&sum.papers)
+        + sum.pairs.numbers[19]
+        + sum.pairs.numbers[21]
+        + sum.displays.cases
+        + by_maps;
+    println!("\nanswered by the Rust: {}; not by it (1, 4, 5, 19, 21, display, maps): {alone}", sum.cases() - alone);
+    println!("by lent maps and limits: {by_maps}; accepted ones asked again at another limit: {}", sum.raised);
     let r = sum.replays;
     println!(
         "replays: {} of {} accepted fragments, all choices tried for {}; {} instructions reached, {} ran off the end",

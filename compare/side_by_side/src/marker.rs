@@ -1,5 +1,12 @@
 //! Our side: what is asked of it, and the proved functions of the crate `export`.
 
+/// A map and a limit as they are lent (request L6), good or bad.
+#[derive(Clone, Debug, PartialEq, Eq)]
+pub struct Lent {
+    pub map: Vec<u8>,
+    pub limit: u32,
+}
+
 /// Answers are numbers in the order of the functions of the crate `export`.
 pub trait Marker: Sync {
     /// Number, offset, two figures, rows, peak, whether there is an end, its main and alt heights.
@@ -16,6 +23,12 @@ pub trait Marker: Sync {
 
     /// Where the part starts in its fragment, and its length.
     fn display(&self, body: &[u8], initialiser: &[u8], offset: usize, mark: u32) -> [u64; 2];
+
+    /// As `analyze_items`, by a lent map and limit.
+    fn analyze_with(&self, by: &Lent, fragment: &[u8], main: u32, alt: u32, log: &mut [u16], items: &mut [u64]) -> [u64; 9];
+
+    /// As `mark_paper`, by a lent map and limit.
+    fn mark_paper_with(&self, by: &Lent, paper: &[u8], log: &mut [u16]) -> [u64; 7];
 }
 
 /// What a place holds until something is written to it.
@@ -72,8 +85,39 @@ mod proved {
             out: *mut u64,
             places: usize,
         ) -> usize;
+        pub fn listochur_analyze_with(
+            fragment: *const u8,
+            len: usize,
+            main: u32,
+            alt: u32,
+            map: *const u8,
+            map_len: usize,
+            limit: u32,
+            mode: u32,
+            log: *mut u16,
+            numbers: usize,
+            items: *mut u64,
+            items_len: usize,
+            out: *mut u64,
+            places: usize,
+        ) -> u32;
+        pub fn listochur_mark_paper_with(
+            paper: *const u8,
+            len: usize,
+            map: *const u8,
+            map_len: usize,
+            limit: u32,
+            mode: u32,
+            log: *mut u16,
+            numbers: usize,
+            out: *mut u64,
+            places: usize,
+        ) -> u32;
     }
 }
+
+/// The `mode` that is passed. It is not read yet.
+const PLAIN: u32 = 0;
 
 /// The proved functions. They ask nothing of their caller: each slice is passed whole, with its own length.
 pub struct Proved;
@@ -121,5 +165,50 @@ impl Marker for Proved {
             proved::listochur_display(body.as_ptr(), body.len(), init, init_len, offset, mark, out.as_mut_ptr(), out.len())
         };
         answered(length as u64, 1, out)
+    }
+
+    fn analyze_with(&self, by: &Lent, fragment: &[u8], main: u32, alt: u32, log: &mut [u16], items: &mut [u64]) -> [u64; 9] {
+        let mut out = [UNWRITTEN; 9];
+        let number = unsafe {
+            proved::listochur_analyze_with(
+                fragment.as_ptr(),
+                fragment.len(),
+                main,
+                alt,
+                by.map.as_ptr(),
+                by.map.len(),
+                by.limit,
+                PLAIN,
+                log.as_mut_ptr(),
+                log.len(),
+                items.as_mut_ptr(),
+                items.len(),
+                out.as_mut_ptr(),
+                out.len(),
+            )
+        };
+        answered(u64::from(number), 0, out)
+    }
+
+    fn mark_paper_with(&self, by: &Lent, paper: &[u8], log: &mut [u16]) -> [u64; 7] {
+        let mut out = [UNWRITTEN; 7];
+        let number = unsafe {
+            let (map, map_len) = (by.map.as_ptr(), by.map.len());
+            let (log, numbers) = (log.as_mut_ptr(), log.len());
+            let (bytes, len) = (paper.as_ptr(), paper.len());
+            proved::listochur_mark_paper_with(
+                bytes,
+                len,
+                map,
+                map_len,
+                by.limit,
+                PLAIN,
+                log,
+                numbers,
+                out.as_mut_ptr(),
+                out.len(),
+            )
+        };
+        answered(u64::from(number), 0, out)
     }
 }

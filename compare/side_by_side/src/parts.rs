@@ -1,13 +1,15 @@
-//! What is compared: every small fragment, then generated cases.
+//! What is compared: every small fragment, then generated cases; then the same by lent maps and limits.
 
 use tools::blank::{changed, free_in_paper, long_data, with_long_data};
 use tools::case;
 use tools::case::Case;
+use tools::definition::{self, Rules, built_in_map};
 use tools::generate::{Draft, Kind, body, case, mutate, planned, start};
+use tools::maps::{self, Codes, damaged_map, good_map};
 use tools::model::{FAULTS, Fault, Writer};
 use tools::rng::Rng;
 
-use crate::marker::Marker;
+use crate::marker::{Lent, Marker};
 use crate::run::{Found, Part, Worker};
 
 /// How much of each part. Fields are numbers of cases unless they say otherwise.
@@ -25,6 +27,11 @@ pub struct Sizes {
     pub long: u64,
     pub nested: u64,
     pub displays: u64,
+    /// By good maps and limits.
+    pub mapped: u64,
+    pub mapped_papers: u64,
+    /// By damaged maps, and limits of every kind.
+    pub bad_maps: u64,
 }
 
 impl Sizes {
@@ -38,6 +45,9 @@ impl Sizes {
         long: 150,
         nested: 30_000,
         displays: 200_000,
+        mapped: 700_000,
+        mapped_papers: 60_000,
+        bad_maps: 100_000,
     };
 
     pub const FULL: Self = Self {
@@ -50,6 +60,9 @@ impl Sizes {
         long: 4_000,
         nested: 500_000,
         displays: 2_000_000,
+        mapped: 10_000_000,
+        mapped_papers: 1_000_000,
+        bad_maps: 1_000_000,
     };
 }
 
@@ -117,6 +130,10 @@ pub fn parts<M: Marker>(sizes: &Sizes) -> Vec<Part<M>> {
     part("papers", sizes.papers / 100, Box::new(|worker, _| papers(worker, 100)));
     part("long data", sizes.blanked / 1_000, Box::new(|worker, _| blanked(worker, 1_000)));
     part("display", 1 + sizes.displays / 1_000, Box::new(|worker, chunk| displays(worker, chunk, 1_000)));
+    part("small limits", 25, Box::new(|worker, chunk| small_limits(worker, chunk as usize)));
+    part("maps", sizes.mapped / 1_000, Box::new(|worker, _| mapped(worker, 1_000)));
+    part("papers by maps", sizes.mapped_papers / 100, Box::new(|worker, _| mapped_papers(worker, 100)));
+    part("bad maps", 257 + sizes.bad_maps / 1_000, Box::new(|worker, chunk| bad_maps(worker, chunk, 1_000)));
     parts
 }
 
@@ -131,7 +148,7 @@ fn enough(bytes: &[u8]) -> usize {
 fn fragment<M: Marker>(worker: &mut Worker<M>, main: u32, alt: u32, bytes: &[u8], one_in: usize) -> Done {
     let number = worker.fragment(main, alt, bytes, enough(bytes))?;
     if number == 0 && worker.rng.below(one_in) == 0 {
-        worker.replays(main, alt, bytes)?;
+        worker.replays(None, main, alt, bytes)?;
     }
     Ok(())
 }
@@ -263,7 +280,7 @@ fn one_fragment<M: Marker>(worker: &mut Worker<M>, main: u32, alt: u32, bytes: &
     let lent = if worker.rng.percent(5) { worker.rng.below(enough(bytes)) } else { enough(bytes) };
     let number = worker.fragment(main, alt, bytes, lent)?;
     if number == 0 && worker.rng.percent(4) {
-        worker.replays(main, alt, bytes)?;
+        worker.replays(None, main, alt, bytes)?;
     }
     Ok(())
 }
@@ -278,7 +295,7 @@ fn long<M: Marker>(worker: &mut Worker<M>, chunk: u64) -> Done {
         let (main, alt) = (main as u32, alt as u32);
         let number = worker.fragment(main, alt, &bytes, enough(&bytes))?;
         if number == 0 && worker.rng.percent(2) {
-            worker.replays(main, alt, &bytes)?;
+            worker.replays(None, main, alt, &bytes)?;
         }
         // A log that is just long enough, or one number short.
         let needed = tools::definition::decode(&bytes).map_or(0, |instructions| 3 * instructions.len());
@@ -583,6 +600,190 @@ fn displays<M: Marker>(worker: &mut Worker<M>, chunk: u64, cases: usize) -> Done
             worker.display(&parts[0], &parts[1], offset, mark)?;
         }
         left -= left.min(25);
+    }
+    Ok(())
+}
+
+// Request L6: lent maps and limits. The Rust knows neither; the built-in map at 244 is held against it as well.
+
+/// Every fragment of up to 3 instructions that begins with this one of the alphabet, by the built-in map at the limits 1 to 6.
+fn small_limits<M: Marker>(worker: &mut Worker<M>, first: usize) -> Done {
+    let bys: Vec<Lent> = (1..=6).map(|limit| Lent { map: built_in_map(), limit }).collect();
+    let numbers = 0..ALPHABET.len();
+    let longer = numbers.clone().flat_map(|second| numbers.clone().map(move |third| vec![first, second, third]));
+    let all = [vec![first]].into_iter().chain(numbers.clone().map(|second| vec![first, second])).chain(longer);
+    for chosen in all {
+        let bytes = chosen.iter().map(|k| ALPHABET[*k]).collect::<Vec<_>>().concat();
+        for (main, alt) in [(0, 0), (1, 0), (2, 0), (2, 1), (4, 1)] {
+            for by in &bys {
+                by_rules(worker, by, main, alt, &bytes, 100)?;
+            }
+        }
+    }
+    Ok(())
+}
+
+/// By a map and a limit. Of those accepted some are replayed, and asked again at their peak, just below it and at 244.
+fn by_rules<M: Marker>(worker: &mut Worker<M>, by: &Lent, main: u32, alt: u32, bytes: &[u8], one_in: usize) -> Done {
+    let lent = if worker.rng.percent(3) { worker.rng.below(enough(bytes)) } else { enough(bytes) };
+    let number = worker.fragment_by(by, main, alt, bytes, lent)?;
+    if number == 0 && worker.rng.below(one_in) == 0 {
+        worker.replays(Some(by), main, alt, bytes)?;
+        let peak = definition::analysis_with(&by.map, by.limit, bytes, main, alt, &mut vec![0; 3 * bytes.len()]).peak as u32;
+        for limit in [peak.saturating_sub(1), peak, by.limit + 1, 244] {
+            worker.fragment_at(by, limit, main, alt, bytes)?;
+        }
+    }
+    Ok(())
+}
+
+/// Fragments of the generated kinds in the codes of good maps, some in those of the built-in one, half of them damaged, at limits
+/// about the height that they come to. Ten to a map.
+fn mapped<M: Marker>(worker: &mut Worker<M>, cases: usize) -> Done {
+    for _ in 0..cases / 20 {
+        let map = good_map(&mut worker.rng);
+        let rules = Rules::read(&map, 244).expect("a good map");
+        let codes = Codes::of(&rules);
+        let mut by = Lent { map, limit: 244 };
+        for _ in 0..10 {
+            let (main, alt, mut bytes) = if worker.rng.percent(50) { small(&mut worker.rng) } else { generated(&mut worker.rng) };
+            if worker.rng.percent(85) {
+                codes.rewrite(&mut worker.rng, &mut bytes);
+            }
+            let height = height(&rules, main, alt, &bytes);
+            for damaged in [false, true] {
+                if damaged {
+                    mutate(&mut worker.rng, &mut bytes);
+                }
+                by.limit = maps::limit(&mut worker.rng, height);
+                by_rules(worker, &by, main, alt, &bytes, 10)?;
+                if by.limit == 244 && by.map == built_in_map() {
+                    worker.fragment(main, alt, &bytes, enough(&bytes))?;
+                }
+            }
+        }
+    }
+    Ok(())
+}
+
+/// Few items to start from, few instructions, few items on the way.
+fn small(rng: &mut Rng) -> (u32, u32, Vec<u8>) {
+    let (main, alt) = (rng.below(5), rng.below(3));
+    let steps = rng.within(0, 14);
+    let bytes = if rng.percent(60) {
+        let fault = rng.percent(30).then(|| Fault { after: rng.below(steps + 1), number: rng.pick(&FAULTS) });
+        let aim = rng.within(2, 10);
+        let mut writer = Writer::new(rng, main, alt).aim(aim).fault(fault);
+        writer.steps(steps);
+        writer.finish()
+    } else {
+        (0..steps).flat_map(|_| rng.pick(&ALPHABET)).copied().collect()
+    };
+    (main as u32, alt as u32, bytes)
+}
+
+/// The most items that these rules let the fragment hold, as far as it comes.
+fn height(rules: &Rules, main: u32, alt: u32, bytes: &[u8]) -> usize {
+    let mut log = vec![0; 3 * bytes.len()];
+    let verdict = definition::analysis_by(rules, bytes, main, alt, &mut log);
+    let totals = log.chunks_exact(3).take(verdict.rows).filter(|row| row[1] != 65_535).map(|row| usize::from(row[1] + row[2]));
+    totals.chain([verdict.peak]).max().unwrap_or(0)
+}
+
+/// Papers in the codes of good maps, half of them damaged copies, at limits about the sum that their dispatch check needs or the
+/// peak. Five to a map.
+fn mapped_papers<M: Marker>(worker: &mut Worker<M>, cases: usize) -> Done {
+    for _ in 0..cases / 10 {
+        let map = good_map(&mut worker.rng);
+        let rules = Rules::read(&map, 244).expect("a good map");
+        let codes = Codes::of(&rules);
+        let mut by = Lent { map, limit: 244 };
+        for _ in 0..5 {
+            let mut whole = bytes_of(case(&mut worker.rng, Kind::Paper));
+            if worker.rng.percent(85) {
+                codes.rewrite_paper(&mut worker.rng, &mut whole);
+            }
+            let peak = definition::mark_with(&by.map, 244, &whole, &mut vec![0; 3 * whole.len()]).peak;
+            let height = match worker.rng.below(10) {
+                0 => peak,
+                1 => dispatched(&whole),
+                _ => peak.max(dispatched(&whole)),
+            };
+            let mut damaged = whole.clone();
+            mutate(&mut worker.rng, &mut damaged);
+            for bytes in [&whole, &damaged] {
+                let lent = if worker.rng.percent(8) { worker.rng.below(bytes.len() + 1) } else { enough(bytes) };
+                by.limit = maps::limit(&mut worker.rng, height);
+                let number = worker.paper_by(&by, bytes, lent)?;
+                if number == 0 && worker.rng.percent(30) {
+                    let limit = worker.rng.within(by.limit as usize, 244) as u32;
+                    worker.paper_at(&by, limit, bytes)?;
+                }
+                if by.limit == 244 && by.map == built_in_map() {
+                    worker.paper(bytes, lent)?;
+                }
+            }
+        }
+    }
+    Ok(())
+}
+
+/// The greatest sum of a paper's dispatch check, as far as its header can be read.
+fn dispatched(paper: &[u8]) -> usize {
+    let field = |at: usize| paper.get(at..at + 2).map_or(0, |two| usize::from(u16::from_le_bytes([two[0], two[1]])));
+    (0..field(0).min(32)).map(|k| field(8 + 6 * k) + field(2) + 3).max().unwrap_or(0)
+}
+
+/// The built-in map with each byte in each place, a place or two to a chunk, each shorter one, and each limit up to 300; then
+/// damaged maps with limits of every kind. Fragments and papers by them, long and malformed ones too: 28 and 29 come first.
+fn bad_maps<M: Marker>(worker: &mut Worker<M>, chunk: u64, cases: usize) -> Done {
+    if chunk == 256 {
+        for limit in (0..=300).chain([511, 512, 65_535, 65_536, 65_541, 1 << 31, u32::MAX - 1, u32::MAX]) {
+            each_kind(worker, &Lent { map: built_in_map(), limit })?;
+        }
+        for length in 0..260 {
+            each_kind(worker, &Lent { map: built_in_map()[..length].to_vec(), limit: 244 })?;
+        }
+        return Ok(());
+    }
+    if chunk < 256 {
+        let chunk = chunk as usize;
+        for place in [chunk, 256 + chunk].into_iter().filter(|place| *place < 260) {
+            for byte in 0..=255 {
+                let mut by = Lent { map: built_in_map(), limit: 244 };
+                by.map[place] = byte;
+                worker.fragment_by(&by, 1, 0, &[0x61, 0xff], 9)?;
+            }
+        }
+        return Ok(());
+    }
+    for _ in 0..cases / 2 {
+        let limit = match worker.rng.below(8) {
+            0 => 0,
+            1 => 245,
+            2 => worker.rng.number() as u32,
+            _ => worker.rng.within(1, 244) as u32,
+        };
+        let by = Lent { map: damaged_map(&mut worker.rng), limit };
+        let (main, alt, bytes) = generated(&mut worker.rng);
+        worker.fragment_by(&by, main, alt, &bytes, enough(&bytes))?;
+        let bytes = if worker.rng.percent(20) { bytes } else { bytes_of(case(&mut worker.rng, Kind::Paper)) };
+        worker.paper_by(&by, &bytes, enough(&bytes))?;
+    }
+    Ok(())
+}
+
+/// Fragments and papers that get 0, 1, 2, 3, 4, 7, 19, 20 or 21 by a good map at most limits.
+fn each_kind<M: Marker>(worker: &mut Worker<M>, by: &Lent) -> Done {
+    let long = [0x61; 10_001];
+    let fragments: [(u32, &[u8], usize); 6] =
+        [(0, &[], 0), (1, &long, 9), (400, &[0x61], 9), (0, &[0x4c], 9), (0, &[0x61], 2), (0, &[0x75], 9)];
+    for (main, bytes, lent) in fragments {
+        worker.fragment_by(by, main, 0, bytes, lent)?;
+    }
+    let sample = [1, 0, 1, 0, 0x0e, 0, 0, 0, 1, 0, 0x0e, 0, 6, 0, 0x63, 0x51, 0x67, 0x52, 0x68, 0x75];
+    for bytes in [&sample[..], &sample[..19], &[], &long[..8_001]] {
+        worker.paper_by(by, bytes, 20)?;
     }
     Ok(())
 }

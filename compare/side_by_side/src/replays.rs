@@ -1,6 +1,6 @@
 //! Demand 3 on one accepted fragment: what was answered, held against replays.
 
-use tools::definition::{Item, Stacks, decode, written};
+use tools::definition::{Item, Rules, Stacks, decode, written};
 use tools::replay::{Ending, Trace, replay};
 use tools::rng::Rng;
 
@@ -50,8 +50,10 @@ fn byte_string(rng: &mut Rng) -> Vec<u8> {
 /// Ours, then what a replay shows.
 type Against = (String, String);
 
-/// Holds a verdict's nine numbers, its log and the bytes of its end stacks against replays.
+/// Holds a verdict's nine numbers, its log and the bytes of its end stacks against replays by the same rules.
+#[allow(clippy::too_many_arguments)]
 pub fn demand_3(
+    rules: &Rules,
     bytes: &[u8],
     main: u32,
     alt: u32,
@@ -86,8 +88,8 @@ pub fn demand_3(
             used += 1;
             choices[used - 1]
         };
-        let trace = replay(&instructions, start_main, start_alt, &mut choose, &mut || byte_string(&mut strings));
-        one_replay(&trace, ours, log, end).map_err(|(ours, theirs)| (ours, format!("{theirs} (choices {choices:?})")))?;
+        let trace = replay(rules, &instructions, start_main, start_alt, &mut choose, &mut || byte_string(&mut strings));
+        one_replay(rules, &trace, ours, log, end).map_err(|(ours, theirs)| (ours, format!("{theirs} (choices {choices:?})")))?;
         for (place, _, _) in &trace.reached {
             reached[*place] = true;
         }
@@ -116,8 +118,8 @@ pub fn demand_3(
     Ok(counts)
 }
 
-/// No fault, never over 244 nor over the peak, the logged heights at each instruction reached, the end stacks at the end.
-fn one_replay(trace: &Trace, ours: &[u64; 9], log: &[u16], end: Option<&Stacks>) -> Result<(), Against> {
+/// No fault, never over the limit nor over the peak, the logged heights at each instruction reached, the end stacks at the end.
+fn one_replay(rules: &Rules, trace: &Trace, ours: &[u64; 9], log: &[u16], end: Option<&Stacks>) -> Result<(), Against> {
     for (place, main, alt) in &trace.reached {
         let logged = &log[3 * place + 1..3 * place + 3];
         if logged != [*main as u16, *alt as u16] {
@@ -125,7 +127,7 @@ fn one_replay(trace: &Trace, ours: &[u64; 9], log: &[u16], end: Option<&Stacks>)
         }
     }
     let peak = ours[5];
-    if trace.peak > 244 || trace.peak as u64 > peak {
+    if trace.peak > rules.limit || trace.peak as u64 > peak {
         return Err((format!("peak {peak}"), format!("a total of {}", trace.peak)));
     }
     match &trace.ending {

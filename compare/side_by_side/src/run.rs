@@ -10,7 +10,7 @@ use std::time::{Duration, Instant};
 use tools::rng::Rng;
 
 use crate::check::{Case, Checker, Difference};
-use crate::marker::Marker;
+use crate::marker::{Lent, Marker};
 use crate::replays;
 use crate::shrink::shrink;
 
@@ -22,7 +22,7 @@ pub type Found = Box<(Case, Box<Difference>)>;
 pub struct Counts {
     pub cases: u64,
     pub bytes: u64,
-    pub numbers: [u64; 26],
+    pub numbers: [u64; 30],
 }
 
 impl Counts {
@@ -50,6 +50,11 @@ pub struct Tally {
     pub displays: Counts,
     /// Pairs that differ only within long data.
     pub pairs: Counts,
+    /// By a lent map and limit.
+    pub fragments_by: Counts,
+    pub papers_by: Counts,
+    /// Accepted ones that were asked again at another limit; they are among those.
+    pub raised: u64,
     pub replays: replays::Counts,
 }
 
@@ -60,21 +65,29 @@ impl Tally {
         self.papers.add(&other.papers);
         self.displays.add(&other.displays);
         self.pairs.add(&other.pairs);
+        self.fragments_by.add(&other.fragments_by);
+        self.papers_by.add(&other.papers_by);
+        self.raised += other.raised;
         self.replays.add(&other.replays);
     }
 
-    /// All but the replays, whose fragments are among the others.
+    /// Those that have a verdict number.
+    pub fn judged(&self) -> [&Counts; 6] {
+        [&self.fragments, &self.limits, &self.papers, &self.pairs, &self.fragments_by, &self.papers_by]
+    }
+
+    /// All but the replays and what was asked again, whose fragments and papers are among the others.
     pub fn cases(&self) -> u64 {
-        self.fragments.cases + self.limits.cases + self.papers.cases + self.displays.cases + self.pairs.cases
+        self.judged().iter().map(|counts| counts.cases).sum::<u64>() + self.displays.cases
     }
 
     /// Verdicts of number 0.
     pub fn accepted(&self) -> u64 {
-        self.fragments.numbers[0] + self.limits.numbers[0] + self.papers.numbers[0] + self.pairs.numbers[0]
+        self.judged().iter().map(|counts| counts.numbers[0]).sum()
     }
 
     pub fn bytes(&self) -> u64 {
-        self.fragments.bytes + self.limits.bytes + self.papers.bytes + self.displays.bytes + self.pairs.bytes
+        self.judged().iter().map(|counts| counts.bytes).sum::<u64>() + self.displays.bytes
     }
 }
 
@@ -97,14 +110,14 @@ impl<M: Marker> Worker<'_, M> {
         }
     }
 
-    pub fn replays(&mut self, main: u32, alt: u32, bytes: &[u8]) -> Result<(), Found> {
+    pub fn replays(&mut self, by: Option<&Lent>, main: u32, alt: u32, bytes: &[u8]) -> Result<(), Found> {
         let seed = self.rng.number();
-        match self.checker.replays(main, alt, bytes, seed) {
+        match self.checker.replays(by, main, alt, bytes, seed) {
             Ok(counts) => {
                 self.tally.replays.add(&counts);
                 Ok(())
             }
-            Err(difference) => self.found(Case::Replays { main, alt, bytes: bytes.to_vec(), seed }, difference),
+            Err(difference) => self.found(Case::Replays { by: by.cloned(), main, alt, bytes: bytes.to_vec(), seed }, difference),
         }
     }
 
@@ -152,6 +165,52 @@ impl<M: Marker> Worker<'_, M> {
                 let (bytes, other) = (bytes.to_vec(), other.to_vec());
                 self.found(Case::Papers { bytes, other, lent }, difference)
             }
+        }
+    }
+
+    /// By a lent map and limit: the verdict number.
+    pub fn fragment_by(&mut self, by: &Lent, main: u32, alt: u32, bytes: &[u8], lent: usize) -> Result<u32, Found> {
+        match self.checker.fragment_by(by, main, alt, bytes, lent) {
+            Ok(number) => {
+                self.tally.fragments_by.count(bytes.len(), number);
+                Ok(number)
+            }
+            Err(difference) => {
+                self.found(Case::FragmentBy { by: by.clone(), main, alt, bytes: bytes.to_vec(), lent }, difference)
+            }
+        }
+    }
+
+    pub fn paper_by(&mut self, by: &Lent, bytes: &[u8], lent: usize) -> Result<u32, Found> {
+        match self.checker.paper_by(by, bytes, lent) {
+            Ok(number) => {
+                self.tally.papers_by.count(bytes.len(), number);
+                Ok(number)
+            }
+            Err(difference) => self.found(Case::PaperBy { by: by.clone(), bytes: bytes.to_vec(), lent }, difference),
+        }
+    }
+
+    /// What is accepted by a map and a limit, at another limit.
+    pub fn fragment_at(&mut self, by: &Lent, limit: u32, main: u32, alt: u32, bytes: &[u8]) -> Result<(), Found> {
+        match self.checker.fragment_at(by, limit, main, alt, bytes) {
+            Ok(()) => {
+                self.tally.raised += 1;
+                Ok(())
+            }
+            Err(difference) => {
+                self.found(Case::FragmentAt { by: by.clone(), limit, main, alt, bytes: bytes.to_vec() }, difference)
+            }
+        }
+    }
+
+    pub fn paper_at(&mut self, by: &Lent, limit: u32, bytes: &[u8]) -> Result<(), Found> {
+        match self.checker.paper_at(by, limit, bytes) {
+            Ok(()) => {
+                self.tally.raised += 1;
+                Ok(())
+            }
+            Err(difference) => self.found(Case::PaperAt { by: by.clone(), limit, bytes: bytes.to_vec() }, difference),
         }
     }
 

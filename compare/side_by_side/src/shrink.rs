@@ -4,11 +4,11 @@
 use std::time::{Duration, Instant};
 
 use tools::blank::{papers_related, related};
-use tools::definition::decode;
+use tools::definition::{built_in_map, decode};
 use tools::generate::Draft;
 
 use crate::check::{Case, Checker, Difference};
-use crate::marker::Marker;
+use crate::marker::{Lent, Marker};
 
 /// No longer than this: a long fragment that needs all its bytes takes many attempts.
 const MOST_TIME: Duration = Duration::from_secs(10);
@@ -43,11 +43,25 @@ fn smaller(case: &Case) -> Box<dyn Iterator<Item = Case>> {
             let log = (lent > 3 * bytes.len()).then(|| Case::Fragment { main, alt, lent: 3 * bytes.len(), bytes });
             Box::new(shorter.chain(lower).chain(log))
         }
-        Case::Replays { main, alt, bytes, seed } => {
-            let again = bytes.clone();
-            let shorter = fewer(bytes).map(move |bytes| Case::Replays { main, alt, bytes, seed });
-            let lower = lower_starts(main, alt).map(move |(main, alt)| Case::Replays { main, alt, bytes: again.clone(), seed });
-            Box::new(shorter.chain(lower))
+        Case::Replays { by, main, alt, bytes, seed } => {
+            let (again, same) = (bytes.clone(), by.clone());
+            let (twice, simpler) = (bytes.clone(), by.clone());
+            let shorter = fewer(bytes).map(move |bytes| Case::Replays { by: by.clone(), main, alt, bytes, seed });
+            let lower = lower_starts(main, alt).map(move |(main, alt)| Case::Replays {
+                by: same.clone(),
+                main,
+                alt,
+                bytes: again.clone(),
+                seed,
+            });
+            let simpler = simpler.into_iter().flat_map(simpler_rules).map(move |by| Case::Replays {
+                by: Some(by),
+                main,
+                alt,
+                bytes: twice.clone(),
+                seed,
+            });
+            Box::new(shorter.chain(lower).chain(simpler))
         }
         Case::Limits { bytes } => Box::new(fewer(bytes).map(|bytes| Case::Limits { bytes })),
         Case::Paper { bytes, lent } => {
@@ -92,7 +106,103 @@ fn smaller(case: &Case) -> Box<dyn Iterator<Item = Case>> {
             });
             Box::new(bodies.chain(rest).chain(lower))
         }
+        Case::FragmentBy { by, main, alt, bytes, lent } => {
+            let with = move |by: &Lent, main, alt, bytes: &[u8]| {
+                let (by, bytes) = (by.clone(), bytes.to_vec());
+                // A log that was long enough stays so.
+                let lent = if lent >= 3 * bytes.len() { 3 * bytes.len() } else { lent };
+                Case::FragmentBy { by, main, alt, bytes, lent }
+            };
+            // Where the log alone would be shorter there is nothing else to gain.
+            let log = (lent > 3 * bytes.len()).then(|| with(&by, main, alt, &bytes));
+            Box::new(smaller_by(by, main, alt, bytes, with).chain(log))
+        }
+        Case::FragmentAt { by, limit, main, alt, bytes } => {
+            let (same, again) = (by.clone(), bytes.clone());
+            let lower = lower_limits(limit).map(move |limit| Case::FragmentAt {
+                by: same.clone(),
+                limit,
+                main,
+                alt,
+                bytes: again.clone(),
+            });
+            // A shorter fragment has a lower peak, which the other limit may have to follow.
+            let shorter = (0..=4).flat_map(move |less| {
+                smaller_by(by.clone(), main, alt, bytes.clone(), move |by, main, alt, bytes| Case::FragmentAt {
+                    by: by.clone(),
+                    limit: limit.saturating_sub(less),
+                    main,
+                    alt,
+                    bytes: bytes.to_vec(),
+                })
+            });
+            Box::new(shorter.chain(lower))
+        }
+        Case::PaperBy { by, bytes, lent } => {
+            let (same, again) = (by.clone(), bytes.clone());
+            let drafts = smaller_papers(&bytes).into_iter().chain(fewer(bytes));
+            let shorter = drafts.map(move |bytes| Case::PaperBy { by: same.clone(), bytes, lent });
+            let simpler = simpler_rules(by).into_iter().map(move |by| Case::PaperBy { by, bytes: again.clone(), lent });
+            Box::new(shorter.chain(simpler))
+        }
+        Case::PaperAt { by, limit, bytes } => {
+            let (same, again) = (by.clone(), bytes.clone());
+            let drafts = smaller_papers(&bytes).into_iter().chain(fewer(bytes));
+            let shorter = drafts.map(move |bytes| Case::PaperAt { by: same.clone(), limit, bytes });
+            let simpler = simpler_rules(by).into_iter().map(move |by| Case::PaperAt { by, limit, bytes: again.clone() });
+            Box::new(shorter.chain(simpler))
+        }
     }
+}
+
+/// A fragment by a map and a limit: fewer bytes, lower starts, a simpler map.
+fn smaller_by(
+    by: Lent,
+    main: u32,
+    alt: u32,
+    bytes: Vec<u8>,
+    with: impl Fn(&Lent, u32, u32, &[u8]) -> Case + Clone + 'static,
+) -> Box<dyn Iterator<Item = Case>> {
+    let (shorter, same, all) = (with.clone(), by.clone(), bytes.clone());
+    let shorter = fewer(all).map(move |bytes| shorter(&same, main, alt, &bytes));
+    let (lower, same, all) = (with.clone(), by.clone(), bytes.clone());
+    let lower = lower_starts(main, alt).map(move |(main, alt)| lower(&same, main, alt, &all));
+    let simpler = simpler_rules(by).into_iter().map(move |by| with(&by, main, alt, &bytes));
+    Box::new(shorter.chain(lower).chain(simpler))
+}
+
+/// Nearer to the built-in map: that itself, its layout, runs of its rows; and lower limits. A map that has no rows where its header
+/// says becomes a shorter one.
+fn simpler_rules(by: Lent) -> Vec<Lent> {
+    let own = built_in_map();
+    let mut maps = vec![own.clone()];
+    let field = |at: usize| by.map.get(at..at + 2).map_or(0, |two| usize::from(u16::from_le_bytes([two[0], two[1]])));
+    match by.map.get(field(2)..field(2) + 256) {
+        Some(rows) if field(0) == 256 && field(2) >= 4 => {
+            maps.push([&own[..4], rows].concat());
+            let mut run = 256;
+            while run > 0 {
+                for from in (0..256).step_by(run) {
+                    let mut nearer = by.map.clone();
+                    nearer[field(2) + from..field(2) + from + run].copy_from_slice(&own[4 + from..4 + from + run]);
+                    maps.push(nearer);
+                }
+                run /= 2;
+            }
+        }
+        _ => maps.extend([0, 1, 3, 4, by.map.len() / 2, by.map.len().saturating_sub(1)].map(|length| {
+            let length = length.min(by.map.len());
+            by.map[..length].to_vec()
+        })),
+    }
+    // How far a map is from the built-in one, so that it comes to an end.
+    let far = |map: &[u8]| {
+        let other = map.iter().zip(&own).filter(|(a, b)| a != b).count();
+        (map.len() > own.len(), other, map.len())
+    };
+    maps.retain(|map| if map == &own { by.map != own } else { far(map) < far(&by.map) });
+    let lower = lower_limits(by.limit).map(|limit| Lent { map: by.map.clone(), limit });
+    maps.into_iter().map(|map| Lent { map, limit: by.limit }).chain(lower).collect()
 }
 
 /// The bytes without a piece or two of them.
@@ -134,6 +244,11 @@ fn pieces(bytes: &[u8]) -> Vec<[usize; 4]> {
     }
     pieces.extend((0..size).map(|at| [at, at + 1, size, size]));
     pieces
+}
+
+/// Lower limits; of those above 244 the least such first.
+fn lower_limits(limit: u32) -> impl Iterator<Item = u32> {
+    [245, 1, limit / 2, limit.saturating_sub(1)].into_iter().filter(move |now| *now < limit)
 }
 
 /// Lower main, lower alt.

@@ -1,11 +1,11 @@
 //! A marker that is wrong in one thing is reported, and with the smallest case.
 
 use side_by_side::check::Case;
-use side_by_side::marker::{Marker, Proved};
+use side_by_side::marker::{Lent, Marker, Proved};
 use side_by_side::parts::{Sizes, parts};
 use side_by_side::replays::demand_3;
 use side_by_side::run::{Outcome, run};
-use tools::definition::{self, Item, Stacks};
+use tools::definition::{self, BUILT_IN, Item, Rules, Stacks, built_in_map};
 
 const SMALL: Sizes = Sizes {
     three_bytes: Some(2_000),
@@ -17,6 +17,9 @@ const SMALL: Sizes = Sizes {
     long: 10,
     nested: 500,
     displays: 3_000,
+    mapped: 20_000,
+    mapped_papers: 3_000,
+    bad_maps: 2_000,
 };
 
 type OnFragment = fn(&[u8], u32, u32, &mut [u16], [u64; 9]) -> [u64; 9];
@@ -24,6 +27,8 @@ type OnItems = fn(&mut [u64]);
 type OnLimits = fn([u64; 4]) -> [u64; 4];
 type OnPaper = fn(&mut [u16], [u64; 7]) -> [u64; 7];
 type OnDisplay = fn([u64; 2]) -> [u64; 2];
+type By = fn(&Lent, &[u8], u32, u32, &mut [u16], &mut [u64]) -> [u64; 9];
+type PaperBy = fn(&Lent, &[u8], &mut [u16]) -> [u64; 7];
 
 /// The proved marker with one thing changed.
 #[derive(Clone, Copy)]
@@ -33,10 +38,23 @@ struct Changed {
     limits: OnLimits,
     paper: OnPaper,
     display: OnDisplay,
+    by: By,
+    paper_by: PaperBy,
 }
 
-const UNCHANGED: Changed =
-    Changed { fragment: |_, _, _, _, out| out, items: |_| {}, limits: |out| out, paper: |_, out| out, display: |out| out };
+const UNCHANGED: Changed = Changed {
+    fragment: |_, _, _, _, out| out,
+    items: |_| {},
+    limits: |out| out,
+    paper: |_, out| out,
+    display: |out| out,
+    by: proved,
+    paper_by: |by, paper, log| Proved.mark_paper_with(by, paper, log),
+};
+
+fn proved(by: &Lent, bytes: &[u8], main: u32, alt: u32, log: &mut [u16], items: &mut [u64]) -> [u64; 9] {
+    Proved.analyze_with(by, bytes, main, alt, log, items)
+}
 
 impl Marker for Changed {
     fn analyze(&self, fragment: &[u8], main: u32, alt: u32, log: &mut [u16]) -> [u64; 9] {
@@ -62,6 +80,14 @@ impl Marker for Changed {
     fn display(&self, body: &[u8], initialiser: &[u8], offset: usize, mark: u32) -> [u64; 2] {
         (self.display)(Proved.display(body, initialiser, offset, mark))
     }
+
+    fn analyze_with(&self, by: &Lent, fragment: &[u8], main: u32, alt: u32, log: &mut [u16], items: &mut [u64]) -> [u64; 9] {
+        (self.by)(by, fragment, main, alt, log, items)
+    }
+
+    fn mark_paper_with(&self, by: &Lent, paper: &[u8], log: &mut [u16]) -> [u64; 7] {
+        (self.paper_by)(by, paper, log)
+    }
 }
 
 /// Runs the parts of these names.
@@ -79,7 +105,18 @@ fn reported(marker: Changed, name: &str) -> (Case, String) {
 }
 
 /// Parts that take little time.
-const SHORT: [&str; 7] = ["bytes, 3, a sample", "fragments", "nesting", "limit checks", "papers", "long data", "display"];
+const SHORT: [&str; 10] = [
+    "bytes, 3, a sample",
+    "fragments",
+    "nesting",
+    "limit checks",
+    "papers",
+    "long data",
+    "display",
+    "maps",
+    "papers by maps",
+    "bad maps",
+];
 
 fn fragment(main: u32, alt: u32, bytes: &[u8], lent: usize) -> Case {
     Case::Fragment { main, alt, bytes: bytes.to_vec(), lent }
@@ -407,6 +444,224 @@ fn display() {
     assert!(against.starts_with("document 01"), "{against}");
 }
 
+/// Request L6: what is easily got wrong with a lent map and limit, each found in this part.
+#[test]
+fn maps_and_limits() {
+    let wrong: [(&str, By); 12] = [
+        // The built-in table in place of the lent rows, or the rows always right behind the header.
+        ("maps", |by, bytes, main, alt, log, items| {
+            let out = proved(by, bytes, main, alt, log, items);
+            if matches!(out[0], 28 | 29) {
+                return out;
+            }
+            log.fill(0xfefe);
+            proved(&Lent { map: built_in_map(), limit: by.limit }, bytes, main, alt, log, items)
+        }),
+        ("maps", |by, bytes, main, alt, log, items| {
+            let mut map = by.map.clone();
+            if map.len() >= 260 {
+                map[2..4].copy_from_slice(&[4, 0]);
+            }
+            proved(&Lent { map, limit: by.limit }, bytes, main, alt, log, items)
+        }),
+        // 244 in place of the limit, in all and in figures alone; a limit that is one off.
+        ("small limits", |by, bytes, main, alt, log, items| {
+            let limit = if (1..=244).contains(&by.limit) { 244 } else { by.limit };
+            proved(&Lent { map: by.map.clone(), limit }, bytes, main, alt, log, items)
+        }),
+        ("maps", |by, bytes, main, alt, log, items| {
+            let mut out = proved(by, bytes, main, alt, log, items);
+            if out[0] == 6 {
+                out[3] = 244;
+            }
+            out
+        }),
+        ("maps", |by, bytes, main, alt, log, items| {
+            let limit = if (1..=243).contains(&by.limit) { by.limit + 1 } else { by.limit };
+            proved(&Lent { map: by.map.clone(), limit }, bytes, main, alt, log, items)
+        }),
+        // Bad maps let through: push at a later code, a class above 31, a row up to 60 of another class, one row too few.
+        ("bad maps", |by, bytes, main, alt, log, items| {
+            let mut map = by.map.clone();
+            if map.len() == 260 {
+                map[4 + 0x61..].iter_mut().filter(|class| **class == 1).for_each(|class| *class = 0);
+            }
+            proved(&Lent { map, limit: by.limit }, bytes, main, alt, log, items)
+        }),
+        ("bad maps", |by, bytes, main, alt, log, items| {
+            let mut map = by.map.clone();
+            if map.len() == 260 {
+                map[4 + 0x61..].iter_mut().filter(|class| **class == 32).for_each(|class| *class = 31);
+            }
+            proved(&Lent { map, limit: by.limit }, bytes, main, alt, log, items)
+        }),
+        ("bad maps", |by, bytes, main, alt, log, items| {
+            let mut map = by.map.clone();
+            if map.len() == 260 && map[4 + 0x50] == 1 {
+                map[4 + 0x50] = 0;
+            }
+            proved(&Lent { map, limit: by.limit }, bytes, main, alt, log, items)
+        }),
+        ("bad maps", |by, bytes, main, alt, log, items| {
+            let mut map = by.map.clone();
+            if map.len() == 259 {
+                map.push(0);
+            }
+            proved(&Lent { map, limit: by.limit }, bytes, main, alt, log, items)
+        }),
+        // 0 taken for a limit; the limit judged first; a row written at 28.
+        ("bad maps", |by, bytes, main, alt, log, items| {
+            proved(&Lent { map: by.map.clone(), limit: by.limit.max(1) }, bytes, main, alt, log, items)
+        }),
+        ("bad maps", |by, bytes, main, alt, log, items| {
+            let mut out = proved(by, bytes, main, alt, log, items);
+            if out[0] == 28 && !(1..=244).contains(&by.limit) {
+                out[0] = 29;
+            }
+            out
+        }),
+        ("bad maps", |by, bytes, main, alt, log, items| {
+            let out = proved(by, bytes, main, alt, log, items);
+            if let Some(first) = log.first_mut().filter(|_| out[0] == 28) {
+                *first = 0;
+            }
+            out
+        }),
+    ];
+    for (number, (part, by)) in wrong.into_iter().enumerate() {
+        let (case, against) = reported(Changed { by, ..UNCHANGED }, part);
+        // A limit that is one off may be seen first where an accepted fragment is asked again at another.
+        let (bytes, wanted) = match &case {
+            Case::FragmentBy { bytes, .. } => (bytes, "document 01"),
+            Case::FragmentAt { bytes, .. } => (bytes, "the same at another limit"),
+            _ => panic!("{number}: {case}"),
+        };
+        assert!(against.starts_with(wanted), "{number}: {against}");
+        assert!(bytes.len() <= 3, "{number}: {case}");
+    }
+}
+
+/// The smallest case names what is wrong: the rows that matter, and no others.
+#[test]
+fn the_smallest_map_is_printed() {
+    // Wrong where ff is IF and an ff stands in the bytes.
+    let by: By = |by, bytes, main, alt, log, items| {
+        let mut out = proved(by, bytes, main, alt, log, items);
+        let rules = Rules::read(&by.map, by.limit);
+        out[5] += u64::from(rules.is_ok_and(|rules| rules.class(0xff) == definition::Class::If) && bytes.contains(&0xff));
+        out
+    };
+    let (case, _) = reported(Changed { by, ..UNCHANGED }, "maps");
+    assert_eq!(case.to_string(), "fragment 0 0 ff   (a log of 3; the built-in map with ff is 3, at 1)");
+}
+
+/// An item or a row that changes with the limit, and acceptance that a higher limit takes away.
+#[test]
+fn raised_limits() {
+    let wrong: [By; 3] = [
+        |by, bytes, main, alt, log, items| {
+            let out = proved(by, bytes, main, alt, log, items);
+            if out[0] == 0 && by.limit == 244 && log.len() == 3 * bytes.len() && log.len() > 3 {
+                log[3] ^= 1;
+            }
+            out
+        },
+        |by, bytes, main, alt, log, items| {
+            let out = proved(by, bytes, main, alt, log, items);
+            if out[0] == 0 && by.limit == 244 && log.len() == 3 * bytes.len() && items.len() > 3 {
+                items[3] ^= 1;
+            }
+            out
+        },
+        |by, bytes, main, alt, log, items| {
+            let mut out = proved(by, bytes, main, alt, log, items);
+            // Just above the peak.
+            if out[0] == 0 && u64::from(by.limit) == out[5] + 1 && log.len() == 3 * bytes.len() && !items.is_empty() {
+                out[0] = 6;
+            }
+            out
+        },
+    ];
+    for (number, by) in wrong.into_iter().enumerate() {
+        // The log is just long enough where a case is asked again, and longer where it is held against the plain reading.
+        let (case, against) = reported(Changed { by, ..UNCHANGED }, "maps");
+        assert!(matches!(case, Case::FragmentAt { .. }), "{number}: {case}");
+        assert!(against.starts_with("the same at another limit"), "{number}: {against}");
+    }
+}
+
+#[test]
+fn papers_by_maps() {
+    let wrong: [PaperBy; 5] = [
+        // By the built-in map; at 244; the dispatch check at 244; its figure; the entry of 6.
+        |by, paper, log| Proved.mark_paper_with(&Lent { map: built_in_map(), limit: by.limit }, paper, log),
+        |by, paper, log| Proved.mark_paper_with(&Lent { map: by.map.clone(), limit: 244 }, paper, log),
+        |by, paper, log| {
+            let out = Proved.mark_paper_with(by, paper, log);
+            if out[0] == 20 { Proved.mark_paper_with(&Lent { map: by.map.clone(), limit: 244 }, paper, log) } else { out }
+        },
+        |by, paper, log| {
+            let mut out = Proved.mark_paper_with(by, paper, log);
+            if out[0] == 20 {
+                out[4] = 244;
+            }
+            out
+        },
+        |by, paper, log| {
+            let mut out = Proved.mark_paper_with(by, paper, log);
+            if out[0] == 6 {
+                out[1] += 1;
+            }
+            out
+        },
+    ];
+    for (number, paper_by) in wrong.into_iter().enumerate() {
+        let (case, against) = reported(Changed { paper_by, ..UNCHANGED }, "papers by maps");
+        let Case::PaperBy { bytes, .. } = &case else { panic!("{number}: {case}") };
+        // One entry, and a part or two of few bytes.
+        assert!(bytes.len() <= 24, "{number}: {case}");
+        assert!(against.starts_with("document 01"), "{number}: {against}");
+    }
+    // What is accepted stays so at a higher limit.
+    let paper_by: PaperBy = |by, paper, log| {
+        let mut out = Proved.mark_paper_with(by, paper, log);
+        if out[0] == 0 && by.limit > 200 && log.len() == 3 * paper.len() {
+            out[6] += 1;
+        }
+        out
+    };
+    let (case, against) = reported(Changed { paper_by, ..UNCHANGED }, "papers by maps");
+    assert!(matches!(case, Case::PaperAt { .. }), "{case}");
+    assert!(against.starts_with("the same at a higher limit"), "{against}");
+}
+
+/// Demand 3 by a map and a limit, with the answer for a fragment changed in one thing.
+#[test]
+fn replays_by_a_map() {
+    let mut map = built_in_map();
+    map[4 + 0xff] = 3;
+    map[4 + 0xfe] = 6;
+    let by = Lent { map, limit: 3 };
+    let rules = Rules::read(&by.map, by.limit).expect("good rules");
+    // ff 51 fe 61: an IF, a push, an ENDIF; from two items, so that the arms differ; with 75 they do not.
+    let bytes = [0xff, 0x51, 0x75, 0xfe, 0x51];
+    let mut log = [0; 15];
+    let ours = Proved.analyze_with(&by, &bytes, 2, 0, &mut log, &mut []);
+    assert_eq!(ours, [0, 0, 0, 0, 5, 2, 1, 2, 0]);
+    let end = definition::analysis_by(&rules, &bytes, 2, 0, &mut [0; 15]).end.expect("an end");
+    let check = |rules: &Rules, ours: &[u64; 9], log: &[u16]| demand_3(rules, &bytes, 2, 0, 9, ours, log, Some(&end));
+    let counts = check(&rules, &ours, &log).expect("it is true of these");
+    assert_eq!((counts.replays, counts.exhaustive, counts.ran_off), (2, 1, 2));
+    // By the built-in map there is a fault; at a lower limit too.
+    assert!(check(&BUILT_IN, &ours, &log).is_err());
+    assert!(check(&Rules::read(&by.map, 1).expect("good rules"), &ours, &log).is_err());
+    for (place, wrong) in [(5, 1), (5, 3), (6, 0), (7, 1)] {
+        let mut ours = ours;
+        ours[place] = wrong;
+        assert!(check(&rules, &ours, &log).is_err(), "{ours:?}");
+    }
+}
+
 /// Demand 3 alone, with the answer for a fragment changed in one thing.
 #[test]
 fn replays() {
@@ -416,7 +671,7 @@ fn replays() {
     let ours = Proved.analyze(&bytes, 2, 0, &mut log);
     let end = definition::analysis(&bytes, 2, 0, &mut [0; 18]).end.expect("an end");
     assert_eq!((ours, &log[12..15]), ([0, 0, 0, 0, 6, 2, 1, 1, 1], &[4, 65_535, 65_535][..]));
-    let check = |ours: &[u64; 9], log: &[u16], end: Option<&Stacks>| demand_3(&bytes, 2, 0, 9, ours, log, end);
+    let check = |ours: &[u64; 9], log: &[u16], end: Option<&Stacks>| demand_3(&BUILT_IN, &bytes, 2, 0, 9, ours, log, end);
 
     let counts = check(&ours, &log, Some(&end)).expect("it is true of these");
     assert_eq!((counts.replays, counts.exhaustive, counts.ran_off, counts.reached), (2, 1, 1, 6));
@@ -446,12 +701,12 @@ fn replays() {
     // An end where none runs off, and a fault.
     let mut log = [0; 3];
     let mut ours = Proved.analyze(&[0x6a], 0, 0, &mut log);
-    assert!(demand_3(&[0x6a], 0, 0, 9, &ours, &log, None).is_ok());
+    assert!(demand_3(&BUILT_IN, &[0x6a], 0, 0, 9, &ours, &log, None).is_ok());
     ours[6] = 1;
-    assert!(demand_3(&[0x6a], 0, 0, 9, &ours, &log, None).is_err());
+    assert!(demand_3(&BUILT_IN, &[0x6a], 0, 0, 9, &ours, &log, None).is_err());
     let accepted = [0, 0, 0, 0, 1, 0, 1, 0, 0];
     for code in [0x75, 0x6c, 0xff, 0x79, 0xa6, 0x63] {
-        assert!(demand_3(&[code], 0, 0, 9, &accepted, &[0, 0, 0], None).is_err(), "{code:02x}");
+        assert!(demand_3(&BUILT_IN, &[code], 0, 0, 9, &accepted, &[0, 0, 0], None).is_err(), "{code:02x}");
     }
 }
 

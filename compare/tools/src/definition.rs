@@ -1,5 +1,5 @@
 //! Document 01 once more, written from its text alone: sections 1 to 4, 6 and 7, with
-//! request L2 of document 02. Section 5 is in `replay.rs`.
+//! requests L2 and L6 of document 02. Section 5 is in `replay.rs`.
 
 use reference::{Answer, PaperAnswer};
 
@@ -104,7 +104,176 @@ pub fn index(bytes: &[u8]) -> Result<u64, NoIndex> {
     Ok(number)
 }
 
-// Sections 2 and 3.
+// Section 2, and the map and the limit of request L6.
+
+#[derive(Clone, Copy, Debug, PartialEq, Eq)]
+pub enum Class {
+    Unmodelled,
+    Push,
+    Nothing,
+    If,
+    NotIf,
+    Else,
+    EndIf,
+    Return,
+    ToAlt,
+    FromAlt,
+    Depth,
+    Size,
+    Nip,
+    Tuck,
+    Pick,
+    Roll,
+    Zk,
+    /// Depth, count.
+    Copy(usize, usize),
+    /// Count, shift.
+    Rotation(usize, usize),
+    /// Pops, pushes.
+    Plain(u64, usize),
+}
+
+/// The classes at their numbers: "unmodelled 0, push 1, nothing 2, then IF 3 to (2 and 1) 31 as listed".
+pub const CLASSES: [Class; 32] = [
+    Class::Unmodelled,
+    Class::Push,
+    Class::Nothing,
+    Class::If,
+    Class::NotIf,
+    Class::Else,
+    Class::EndIf,
+    Class::Return,
+    Class::ToAlt,
+    Class::FromAlt,
+    Class::Depth,
+    Class::Size,
+    Class::Nip,
+    Class::Tuck,
+    Class::Pick,
+    Class::Roll,
+    Class::Zk,
+    Class::Copy(1, 1),
+    Class::Copy(2, 2),
+    Class::Copy(3, 3),
+    Class::Copy(2, 1),
+    Class::Copy(4, 2),
+    Class::Rotation(3, 1),
+    Class::Rotation(6, 2),
+    Class::Rotation(2, 1),
+    Class::Rotation(4, 2),
+    Class::Plain(1, 0),
+    Class::Plain(2, 0),
+    Class::Plain(0, 1),
+    Class::Plain(1, 1),
+    Class::Plain(3, 1),
+    Class::Plain(2, 1),
+];
+
+/// The class of an opcode by the ranges.
+pub const fn class_of(opcode: u8) -> Class {
+    match opcode {
+        0x00..=0x4f | 0x51..=0x60 => Class::Push,
+        0x61 => Class::Nothing,
+        0x63 => Class::If,
+        0x64 => Class::NotIf,
+        0x67 => Class::Else,
+        0x68 => Class::EndIf,
+        0x6a => Class::Return,
+        0x6b => Class::ToAlt,
+        0x6c => Class::FromAlt,
+        0x74 => Class::Depth,
+        0x82 => Class::Size,
+        0x77 => Class::Nip,
+        0x7d => Class::Tuck,
+        0x79 => Class::Pick,
+        0x7a => Class::Roll,
+        0xa6 => Class::Zk,
+        0x76 => Class::Copy(1, 1),
+        0x6e => Class::Copy(2, 2),
+        0x6f => Class::Copy(3, 3),
+        0x78 => Class::Copy(2, 1),
+        0x70 => Class::Copy(4, 2),
+        0x7b => Class::Rotation(3, 1),
+        0x71 => Class::Rotation(6, 2),
+        0x7c => Class::Rotation(2, 1),
+        0x72 => Class::Rotation(4, 2),
+        0x69 | 0x75 | 0xb0 | 0xb1 => Class::Plain(1, 0),
+        0x6d | 0x88 | 0x9d | 0xad => Class::Plain(2, 0),
+        0xb2..=0xb9 => Class::Plain(0, 1),
+        0x83 | 0x8b | 0x8c | 0x8f..=0x92 | 0xa8 | 0xaa | 0xba..=0xce => Class::Plain(1, 1),
+        0x7f | 0xa5 | 0xd5..=0xd9 => Class::Plain(3, 1),
+        0x7e | 0x84..=0x87 | 0x93..=0x97 | 0x9a..=0x9c | 0x9e..=0xa4 | 0xa7 | 0xab | 0xac | 0xcf..=0xd4 => Class::Plain(2, 1),
+        _ => Class::Unmodelled,
+    }
+}
+
+/// The class of each opcode, and how many items both stacks hold at most.
+#[derive(Clone, Debug, PartialEq, Eq)]
+pub struct Rules {
+    classes: [Class; 256],
+    pub limit: usize,
+}
+
+/// Document 01's own.
+pub static BUILT_IN: Rules = Rules { classes: built_in_classes(), limit: 244 };
+
+const fn built_in_classes() -> [Class; 256] {
+    let mut classes = [Class::Unmodelled; 256];
+    let mut code = 0;
+    while code < 256 {
+        classes[code] = class_of(code as u8);
+        code += 1;
+    }
+    classes
+}
+
+impl Rules {
+    /// Those of a lent map and limit, or the number that is given of them: 28 goes before 29.
+    pub fn read(map: &[u8], limit: u32) -> Result<Self, u32> {
+        let classes = classes_of_map(map).ok_or(28u32)?;
+        if limit < 1 || limit > 244 {
+            return Err(29);
+        }
+        Ok(Self { classes, limit: limit as usize })
+    }
+
+    pub fn class(&self, opcode: u8) -> Class {
+        self.classes[opcode as usize]
+    }
+}
+
+/// The class of each code by a map; nothing if the map is bad.
+fn classes_of_map(map: &[u8]) -> Option<[Class; 256]> {
+    // "a header of two 16-bit numbers, lowest byte first, the count of rows (256) and the offset of the first (4 or more)"
+    if map.len() < 4 {
+        return None;
+    }
+    let count = map[0] as usize + 256 * map[1] as usize;
+    let offset = map[2] as usize + 256 * map[3] as usize;
+    if count != 256 || offset < 4 {
+        return None;
+    }
+    // "then one byte a row, its class number"
+    let mut classes = [Class::Unmodelled; 256];
+    for code in 0..256 {
+        let row = *map.get(offset + code)?;
+        let class = *CLASSES.get(row as usize)?;
+        // "a code up to 60 differs from the built-in table, or a later one is push"
+        if code <= 0x60 && class != class_of(code as u8) || code > 0x60 && class == Class::Push {
+            return None;
+        }
+        classes[code] = class;
+    }
+    Some(classes)
+}
+
+/// The built-in map.
+pub fn built_in_map() -> Vec<u8> {
+    let number = |code: u8| CLASSES.iter().position(|class| *class == class_of(code)).unwrap() as u8;
+    [0x00, 0x01, 0x04, 0x00].into_iter().chain((0..=255).map(number)).collect()
+}
+
+// Section 3.
 
 /// Number and figures; the walk adds the offset.
 type Refusal = (u32, u64, u64);
@@ -130,13 +299,13 @@ impl Stacks {
         if had < count { Err((7, count, had)) } else { Ok(()) }
     }
 
-    fn want_room(&self, count: usize) -> Result<(), Refusal> {
+    fn want_room(&self, count: usize, limit: usize) -> Result<(), Refusal> {
         let wanted = self.total() + count;
-        if wanted > 244 { Err((6, wanted as u64, 244)) } else { Ok(()) }
+        if wanted > limit { Err((6, wanted as u64, limit as u64)) } else { Ok(()) }
     }
 
-    fn push(mut self, item: Item) -> Result<Self, Refusal> {
-        self.want_room(1)?;
+    fn push(mut self, item: Item, limit: usize) -> Result<Self, Refusal> {
+        self.want_room(1, limit)?;
         self.main.push(item);
         Ok(self)
     }
@@ -166,18 +335,18 @@ impl Stacks {
         Ok(self)
     }
 
-    fn plain(self, pops: u64, pushes: usize) -> Result<Self, Refusal> {
+    fn plain(self, pops: u64, pushes: usize, limit: usize) -> Result<Self, Refusal> {
         let mut rest = self.drop_count(pops)?;
-        rest.want_room(pushes)?;
+        rest.want_room(pushes, limit)?;
         for _ in 0..pushes {
             rest.main.push(Item::Unknown);
         }
         Ok(rest)
     }
 
-    fn copy(mut self, depth: usize, count: usize) -> Result<Self, Refusal> {
+    fn copy(mut self, depth: usize, count: usize, limit: usize) -> Result<Self, Refusal> {
         self.need(depth as u64)?;
-        self.want_room(count)?;
+        self.want_room(count, limit)?;
         let lowest = self.main.len() - depth;
         for place in lowest..lowest + count {
             self.main.push(self.main[place].clone());
@@ -196,60 +365,61 @@ impl Stacks {
     }
 }
 
-fn step(stacks: Stacks, instruction: &Instruction) -> Result<Stacks, Refusal> {
-    match instruction.opcode {
-        0x00..=0x4f | 0x51..=0x60 => stacks.push(instruction.literal()),
-        0x61 => Ok(stacks),
-        0x6b => {
+fn step(rules: &Rules, stacks: Stacks, instruction: &Instruction) -> Result<Stacks, Refusal> {
+    let limit = rules.limit;
+    match rules.class(instruction.opcode) {
+        Class::Push => stacks.push(instruction.literal(), limit),
+        Class::Nothing => Ok(stacks),
+        Class::ToAlt => {
             let (item, mut rest) = stacks.pop()?;
             rest.alt.push(item);
             Ok(rest)
         }
-        0x6c => {
+        Class::FromAlt => {
             let mut stacks = stacks;
             let item = stacks.alt.pop().ok_or((8, 0, 0))?;
             stacks.main.push(item);
             Ok(stacks)
         }
-        0x74 => {
+        Class::Depth => {
             let height = stacks.main.len() as u64;
-            stacks.push(Item::Exact(written(height)))
+            stacks.push(Item::Exact(written(height)), limit)
         }
-        0x82 => {
+        Class::Size => {
             stacks.need(1)?;
             let length = match stacks.main.last().unwrap() {
                 Item::Exact(bytes) => Item::Exact(written(bytes.len() as u64)),
                 Item::Unknown => Item::Unknown,
             };
-            stacks.push(length)
+            stacks.push(length, limit)
         }
-        0x77 => {
+        Class::Nip => {
             stacks.need(2)?;
             let mut stacks = stacks;
             stacks.main.swap_remove(stacks.main.len() - 2);
             Ok(stacks)
         }
-        0x7d => {
+        Class::Tuck => {
             stacks.need(1)?;
             stacks.need(2)?;
-            stacks.want_room(1)?;
+            stacks.want_room(1, limit)?;
             let mut stacks = stacks;
             let top = stacks.main.pop().unwrap();
             let second = stacks.main.pop().unwrap();
             stacks.main.extend([top.clone(), second, top]);
             Ok(stacks)
         }
-        opcode @ (0x79 | 0x7a) => {
+        class @ (Class::Pick | Class::Roll) => {
             let (index, mut rest) = stacks.pop_index()?;
             rest.need(index + 1)?;
             let place = rest.main.len() - 1 - index as usize;
             let item = rest.main[place].clone();
-            if opcode == 0x7a {
+            if class == Class::Roll {
                 rest.main.remove(place);
             }
-            rest.push(item)
+            rest.push(item, limit)
         }
-        0xa6 => {
+        Class::Zk => {
             let (tag, rest) = stacks.pop()?;
             let rest = match tag {
                 Item::Exact(bytes) if bytes == [0x20] => {
@@ -261,24 +431,13 @@ fn step(stacks: Stacks, instruction: &Instruction) -> Result<Stacks, Refusal> {
                 Item::Exact(bytes) if bytes == [0x21] => rest.drop_count(8)?,
                 _ => return Err((10, 0, 0)),
             };
-            rest.push(Item::Exact(vec![1]))
+            rest.push(Item::Exact(vec![1]), limit)
         }
-        0x76 => stacks.copy(1, 1),
-        0x6e => stacks.copy(2, 2),
-        0x6f => stacks.copy(3, 3),
-        0x78 => stacks.copy(2, 1),
-        0x70 => stacks.copy(4, 2),
-        0x7b => stacks.rotate(3, 1),
-        0x71 => stacks.rotate(6, 2),
-        0x7c => stacks.rotate(2, 1),
-        0x72 => stacks.rotate(4, 2),
-        0x69 | 0x75 | 0xb0 | 0xb1 => stacks.plain(1, 0),
-        0x6d | 0x88 | 0x9d | 0xad => stacks.plain(2, 0),
-        0xb2..=0xb9 => stacks.plain(0, 1),
-        0x83 | 0x8b | 0x8c | 0x8f..=0x92 | 0xa8 | 0xaa | 0xba..=0xce => stacks.plain(1, 1),
-        0x7f | 0xa5 | 0xd5..=0xd9 => stacks.plain(3, 1),
-        0x7e | 0x84..=0x87 | 0x93..=0x97 | 0x9a..=0x9c | 0x9e..=0xa4 | 0xa7 | 0xab | 0xac | 0xcf..=0xd4 => stacks.plain(2, 1),
-        opcode => Err((11, u64::from(opcode), 0)),
+        Class::Copy(depth, count) => stacks.copy(depth, count, limit),
+        Class::Rotation(count, shift) => stacks.rotate(count, shift),
+        Class::Plain(pops, pushes) => stacks.plain(pops, pushes, limit),
+        Class::Unmodelled => Err((11, u64::from(instruction.opcode), 0)),
+        Class::If | Class::NotIf | Class::Else | Class::EndIf | Class::Return => unreachable!("the walk's own"),
     }
 }
 
@@ -301,6 +460,7 @@ impl Verdict {
 }
 
 struct Walk<'a> {
+    rules: &'a Rules,
     instructions: &'a [Instruction<'a>],
     next: usize,
     peak: usize,
@@ -346,14 +506,14 @@ impl<'a> Walk<'a> {
     fn arm(&mut self, mut state: Option<Stacks>, open: usize) -> Result<(Option<Stacks>, Stop), Answer> {
         while let Some(instruction) = self.meet(&state) {
             let offset = instruction.offset;
-            match instruction.opcode {
-                0x63 | 0x64 => state = self.conditional(state, open, offset)?,
-                0x67 => return Ok((state, Stop::Else(offset))),
-                0x68 => return Ok((state, Stop::EndIf(offset))),
-                0x6a => state = None,
+            match self.rules.class(instruction.opcode) {
+                Class::If | Class::NotIf => state = self.conditional(state, open, offset)?,
+                Class::Else => return Ok((state, Stop::Else(offset))),
+                Class::EndIf => return Ok((state, Stop::EndIf(offset))),
+                Class::Return => state = None,
                 _ => {
                     if let Some(stacks) = state {
-                        state = Some(step(stacks, instruction).map_err(at(offset))?);
+                        state = Some(step(self.rules, stacks, instruction).map_err(at(offset))?);
                     }
                 }
             }
@@ -398,12 +558,24 @@ impl<'a> Walk<'a> {
 
 /// The analysis of a fragment from so many unknown items, with a lent log.
 pub fn analysis(bytes: &[u8], main: u32, alt: u32, log: &mut [u16]) -> Verdict {
+    analysis_by(&BUILT_IN, bytes, main, alt, log)
+}
+
+/// The same by a lent map and limit, which are judged first.
+pub fn analysis_with(map: &[u8], limit: u32, bytes: &[u8], main: u32, alt: u32, log: &mut [u16]) -> Verdict {
+    match Rules::read(map, limit) {
+        Ok(rules) => analysis_by(&rules, bytes, main, alt, log),
+        Err(number) => Verdict::refused(refuse(number, 0), 0),
+    }
+}
+
+pub fn analysis_by(rules: &Rules, bytes: &[u8], main: u32, alt: u32, log: &mut [u16]) -> Verdict {
     if bytes.len() > 10_000 {
         return Verdict::refused(Answer { number: 1, offset: 0, a: bytes.len() as u64, b: 10_000 }, 0);
     }
     let sum = u64::from(main) + u64::from(alt);
-    if sum > 244 {
-        return Verdict::refused(Answer { number: 2, offset: 0, a: sum, b: 244 }, 0);
+    if sum > rules.limit as u64 {
+        return Verdict::refused(Answer { number: 2, offset: 0, a: sum, b: rules.limit as u64 }, 0);
     }
     let instructions = match decode(bytes) {
         Ok(instructions) => instructions,
@@ -414,7 +586,7 @@ pub fn analysis(bytes: &[u8], main: u32, alt: u32, log: &mut [u16]) -> Verdict {
         return Verdict::refused(Answer { number: 4, offset: 0, a: needed as u64, b: log.len() as u64 }, 0);
     }
     let start = Stacks::unknown(main as usize, alt as usize);
-    let mut walk = Walk { instructions: &instructions, next: 0, peak: 0, log };
+    let mut walk = Walk { rules, instructions: &instructions, next: 0, peak: 0, log };
     let answer = match walk.arm(Some(start), 0) {
         Ok((end, Stop::End)) => return Verdict { answer: Answer::ACCEPTED, rows: walk.next, peak: walk.peak, end },
         Ok((_, Stop::Else(offset))) => refuse(13, offset),
@@ -449,9 +621,27 @@ pub struct PaperVerdict {
     pub peak: usize,
 }
 
+impl PaperVerdict {
+    fn refused(number: u32, entry: u64, a: u64, b: u64) -> Self {
+        Self { answer: PaperAnswer { number, entry, offset: 0, a, b }, rows: 0, peak: 0 }
+    }
+}
+
 /// Marks a paper, with a lent log.
 pub fn mark(bytes: &[u8], log: &mut [u16]) -> PaperVerdict {
-    let refuse = |number, entry, a, b| PaperVerdict { answer: PaperAnswer { number, entry, offset: 0, a, b }, rows: 0, peak: 0 };
+    mark_by(&BUILT_IN, bytes, log)
+}
+
+/// The same by a lent map and limit, which are judged first.
+pub fn mark_with(map: &[u8], limit: u32, bytes: &[u8], log: &mut [u16]) -> PaperVerdict {
+    match Rules::read(map, limit) {
+        Ok(rules) => mark_by(&rules, bytes, log),
+        Err(number) => PaperVerdict::refused(number, 0, 0, 0),
+    }
+}
+
+fn mark_by(rules: &Rules, bytes: &[u8], log: &mut [u16]) -> PaperVerdict {
+    let refuse = PaperVerdict::refused;
     if bytes.len() > 8_000 {
         return refuse(21, 0, bytes.len() as u64, 8_000);
     }
@@ -479,8 +669,8 @@ pub fn mark(bytes: &[u8], log: &mut [u16]) -> PaperVerdict {
     let params: Vec<usize> = (0..entries).map(|k| fields[4 + 3 * k]).collect();
     for (k, params) in params.iter().enumerate() {
         let sum = params + state + 3;
-        if sum > 244 {
-            return refuse(20, k as u64, sum as u64, 244);
+        if sum > rules.limit {
+            return refuse(20, k as u64, sum as u64, rules.limit as u64);
         }
     }
     let most = *params.iter().max().unwrap();
@@ -490,7 +680,7 @@ pub fn mark(bytes: &[u8], log: &mut [u16]) -> PaperVerdict {
         if k == entries && *length == 0 {
             continue;
         }
-        let verdict = analysis(&bytes[*offset..offset + length], main as u32, alt, &mut log[3 * rows..]);
+        let verdict = analysis_by(rules, &bytes[*offset..offset + length], main as u32, alt, &mut log[3 * rows..]);
         let Answer { number, offset, a, b } = verdict.answer;
         rows += verdict.rows;
         peak = peak.max(verdict.peak);

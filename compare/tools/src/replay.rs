@@ -1,6 +1,6 @@
-//! Document 01, section 5: replays with real bytes, written from its text alone.
+//! Document 01, section 5: replays with real bytes, written from its text alone, by any classes and limit.
 
-use crate::definition::{Instruction, index, written};
+use crate::definition::{Class, Instruction, Rules, index, written};
 
 /// How a replay ended, with its stacks where it ran off the end.
 #[derive(Clone, Debug, PartialEq, Eq)]
@@ -21,6 +21,7 @@ pub struct Trace {
 }
 
 struct Replay<'a> {
+    rules: &'a Rules,
     main: Vec<Vec<u8>>,
     alt: Vec<Vec<u8>>,
     results: &'a mut dyn FnMut() -> Vec<u8>,
@@ -34,7 +35,7 @@ impl Replay<'_> {
     }
 
     fn push(&mut self, item: Vec<u8>) -> Step {
-        if self.total() >= 244 {
+        if self.total() >= self.rules.limit {
             return Err("no room");
         }
         self.main.push(item);
@@ -87,48 +88,37 @@ impl Replay<'_> {
 
     /// One instruction that is no conditional and no RETURN.
     fn step(&mut self, instruction: &Instruction) -> Step {
-        match instruction.opcode {
-            0x00..=0x4f | 0x51..=0x60 => self.push(instruction.data.to_vec()),
-            0x61 => Ok(()),
-            0x69 | 0x75 | 0xb0 | 0xb1 => self.plain(1, 0),
-            0x6b => {
+        match self.rules.class(instruction.opcode) {
+            Class::Push => self.push(instruction.data.to_vec()),
+            Class::Nothing => Ok(()),
+            Class::ToAlt => {
                 let item = self.pop()?;
                 self.alt.push(item);
                 Ok(())
             }
-            0x6c => {
+            Class::FromAlt => {
                 let item = self.alt.pop().ok_or("a missing item")?;
                 self.main.push(item);
                 Ok(())
             }
-            0x6d | 0x88 | 0x9d | 0xad => self.plain(2, 0),
-            0x6e => self.copy(2, 2),
-            0x6f => self.copy(3, 3),
-            0x70 => self.copy(4, 2),
-            0x71 => self.rotate(6, 2),
-            0x72 => self.rotate(4, 2),
-            0x74 => self.push(written(self.main.len() as u64)),
-            0x76 => self.copy(1, 1),
-            0x77 => {
+            Class::Depth => self.push(written(self.main.len() as u64)),
+            Class::Nip => {
                 let second = self.place(1)?;
                 self.main.remove(second);
                 Ok(())
             }
-            0x78 => self.copy(2, 1),
-            0x79 => {
+            Class::Pick => {
                 let index = self.pop_index()?;
                 let place = self.place(index)?;
                 self.push(self.main[place].clone())
             }
-            0x7a => {
+            Class::Roll => {
                 let index = self.pop_index()?;
                 let place = self.place(index)?;
                 let item = self.main.remove(place);
                 self.push(item)
             }
-            0x7b => self.rotate(3, 1),
-            0x7c => self.rotate(2, 1),
-            0x7d => {
+            Class::Tuck => {
                 let (second, top) = (self.place(1)?, self.place(0)?);
                 let item = self.main[top].clone();
                 self.push(Vec::new())?;
@@ -136,11 +126,11 @@ impl Replay<'_> {
                 self.main.insert(second, item);
                 Ok(())
             }
-            0x82 => {
+            Class::Size => {
                 let top = self.place(0)?;
                 self.push(written(self.main[top].len() as u64))
             }
-            0xa6 => {
+            Class::Zk => {
                 match self.pop()?.as_slice() {
                     [0x20] => {
                         self.pops(2)?;
@@ -152,11 +142,11 @@ impl Replay<'_> {
                 }
                 self.push(vec![1])
             }
-            0xb2..=0xb9 => self.plain(0, 1),
-            0x83 | 0x8b | 0x8c | 0x8f..=0x92 | 0xa8 | 0xaa | 0xba..=0xce => self.plain(1, 1),
-            0x7f | 0xa5 | 0xd5..=0xd9 => self.plain(3, 1),
-            0x7e | 0x84..=0x87 | 0x93..=0x97 | 0x9a..=0x9c | 0x9e..=0xa4 | 0xa7 | 0xab | 0xac | 0xcf..=0xd4 => self.plain(2, 1),
-            _ => Err("an unmodelled opcode"),
+            Class::Copy(depth, count) => self.copy(depth as u64, count),
+            Class::Rotation(count, shift) => self.rotate(count as u64, shift),
+            Class::Plain(pops, pushes) => self.plain(pops, pushes),
+            Class::Unmodelled => Err("an unmodelled opcode"),
+            Class::If | Class::NotIf | Class::Else | Class::EndIf | Class::Return => unreachable!("the replay's own"),
         }
     }
 }
@@ -164,39 +154,41 @@ impl Replay<'_> {
 /// The place past the ELSE or the ENDIF that belongs to what stands before `place`,
 /// past the ENDIF alone if an ELSE does not count; the end of the fragment if neither
 /// is there.
-fn past(instructions: &[Instruction], mut place: usize, or_else: bool) -> usize {
+fn past(rules: &Rules, instructions: &[Instruction], mut place: usize, or_else: bool) -> usize {
     let mut open = 0;
     while let Some(instruction) = instructions.get(place) {
         place += 1;
-        match instruction.opcode {
-            0x63 | 0x64 => open += 1,
-            0x67 if open == 0 && or_else => return place,
-            0x68 if open == 0 => return place,
-            0x68 => open -= 1,
+        match rules.class(instruction.opcode) {
+            Class::If | Class::NotIf => open += 1,
+            Class::Else if open == 0 && or_else => return place,
+            Class::EndIf if open == 0 => return place,
+            Class::EndIf => open -= 1,
             _ => {}
         }
     }
     place
 }
 
-/// Replays a fragment from these stacks. `choose` and `results` give the next choice
+/// Replays a fragment by these rules from these stacks. `choose` and `results` give the next choice
 /// and the next byte string.
 pub fn replay(
+    rules: &Rules,
     instructions: &[Instruction],
     main: Vec<Vec<u8>>,
     alt: Vec<Vec<u8>>,
     choose: &mut dyn FnMut() -> bool,
     results: &mut dyn FnMut() -> Vec<u8>,
 ) -> Trace {
-    let mut replay = Replay { main, alt, results };
+    let mut replay = Replay { rules, main, alt, results };
     let mut trace = Trace { reached: Vec::new(), peak: replay.total(), choices: 0, ending: Ending::Returned };
     let mut place = 0;
     while let Some(instruction) = instructions.get(place) {
         trace.reached.push((place, replay.main.len(), replay.alt.len()));
-        let done = match instruction.opcode {
-            0x63 | 0x64 => replay.pops(1),
-            0x67 | 0x68 => Ok(()),
-            0x6a => return trace,
+        let class = rules.class(instruction.opcode);
+        let done = match class {
+            Class::If | Class::NotIf => replay.pops(1),
+            Class::Else | Class::EndIf => Ok(()),
+            Class::Return => return trace,
             _ => replay.step(instruction),
         };
         if let Err(why) = done {
@@ -205,14 +197,14 @@ pub fn replay(
         }
         trace.peak = trace.peak.max(replay.total());
         place += 1;
-        match instruction.opcode {
-            0x63 | 0x64 => {
+        match class {
+            Class::If | Class::NotIf => {
                 trace.choices += 1;
                 if !choose() {
-                    place = past(instructions, place, true);
+                    place = past(rules, instructions, place, true);
                 }
             }
-            0x67 => place = past(instructions, place, false),
+            Class::Else => place = past(rules, instructions, place, false),
             _ => {}
         }
     }

@@ -2,7 +2,9 @@
 //! replays by example.
 
 use reference::{Answer, PaperAnswer};
-use tools::definition::{Stacks, Verdict, analysis, decode, display, mark};
+use tools::definition::{
+    BUILT_IN, CLASSES, Class, Rules, Stacks, Verdict, analysis, analysis_with, built_in_map, decode, display, mark, mark_with,
+};
 use tools::replay::{Ending, Trace, replay};
 
 const LENT: u16 = 777;
@@ -130,6 +132,117 @@ fn papers() {
     assert_eq!((verdict.answer, verdict.rows, verdict.peak), (PaperAnswer::ACCEPTED, 3, 3));
 }
 
+/// The built-in map with these rows in place of its own.
+fn map(rows: &[(u8, u8)]) -> Vec<u8> {
+    let mut map = built_in_map();
+    for (code, class) in rows {
+        map[4 + usize::from(*code)] = *class;
+    }
+    map
+}
+
+/// Request L6: the map that is built in, and the numbers of its classes.
+#[test]
+fn the_built_in_map() {
+    let map = built_in_map();
+    assert_eq!((map.len(), &map[..4]), (260, &[0x00, 0x01, 0x04, 0x00][..]));
+    assert_eq!(Rules::read(&map, 244), Ok(BUILT_IN.clone()));
+    // The first of each class, in the order of section 2.
+    let first = [
+        0x50, 0x00, 0x61, 0x63, 0x64, 0x67, 0x68, 0x6a, 0x6b, 0x6c, 0x74, 0x82, 0x77, 0x7d, 0x79, 0x7a, 0xa6, 0x76, 0x6e, 0x6f,
+        0x78, 0x70, 0x7b, 0x71, 0x7c, 0x72, 0x69, 0x6d, 0xb2, 0x83, 0x7f, 0x7e,
+    ];
+    for (number, code) in first.into_iter().enumerate() {
+        assert_eq!((usize::from(map[4 + code]), BUILT_IN.class(code as u8)), (number, CLASSES[number]), "{code:02x}");
+    }
+    assert_eq!(CLASSES[31], Class::Plain(2, 1));
+}
+
+/// Each way in which a map is bad, and its neighbours that are good; the limits; the map first.
+#[test]
+fn bad_maps_and_limits() {
+    let number = |map: &[u8], limit| Rules::read(map, limit).err().unwrap_or(0);
+    let own = built_in_map();
+    for length in 0..260 {
+        assert_eq!(number(&own[..length], 244), 28, "{length}");
+    }
+    let longer = [&own[..], &[0xff; 9]].concat();
+    assert_eq!(number(&longer, 244), 0);
+    for (place, byte) in [(0, 1), (0, 255), (1, 0), (1, 2), (2, 3), (2, 0), (3, 1), (2, 5)] {
+        let mut bad = own.clone();
+        bad[place] = byte;
+        assert_eq!(number(&bad, 244), 28, "{place} {byte}");
+    }
+    // Rows further behind, bytes before them free; the last offset there is.
+    for offset in [5, 6, 300, 65_535] {
+        let mut moved = vec![0xff; offset + 256];
+        moved[..4].copy_from_slice(&[0x00, 0x01, offset as u8, (offset >> 8) as u8]);
+        moved[offset..].copy_from_slice(&own[4..]);
+        assert_eq!(number(&moved, 244), 0, "{offset}");
+        assert_eq!(number(&moved[..offset + 255], 244), 28, "{offset}");
+    }
+    for code in 0..=255u8 {
+        for class in 0..=255u8 {
+            let early = code <= 0x60 && class != own[4 + usize::from(code)];
+            let bad = early || class > 31 || code > 0x60 && class == 1;
+            assert_eq!(number(&map(&[(code, class)]), 1), if bad { 28 } else { 0 }, "{code:02x} {class}");
+        }
+    }
+    for limit in [0, 245, 256, 500, 65_536 + 5, u32::MAX] {
+        assert_eq!(number(&own, limit), 29, "{limit}");
+        assert_eq!(number(&own[..259], limit), 28, "{limit}");
+    }
+    for limit in 1..=244 {
+        assert_eq!(number(&own, limit), 0, "{limit}");
+    }
+}
+
+#[test]
+fn by_a_lent_map() {
+    let by = |rows: &[(u8, u8)], bytes: &[u8], main| analysis_with(&map(rows), 244, bytes, main, 0, &mut [LENT; 30]);
+    // Two IFs and no ELSE.
+    let rows = [(0xff, 3), (0x67, 0)];
+    let verdict = by(&rows, b"\x63\xff\x68\x51\x68", 2);
+    assert_eq!((verdict.answer, verdict.peak, heights(&verdict.end)), (Answer::ACCEPTED, 2, Some((1, 0))));
+    assert_eq!(by(&rows, b"\x63\x67\x68", 1).answer, Answer { number: 11, offset: 1, a: 0x67, b: 0 });
+    // Without RETURN nothing is dead.
+    let verdict = by(&[(0x6a, 0)], b"\x6a\xff", 0);
+    assert_eq!((verdict.answer, verdict.rows), (Answer { number: 11, offset: 0, a: 106, b: 0 }, 1));
+    // All later codes nothing: what remains are the pushes.
+    let nothing: Vec<(u8, u8)> = (0x61..=0xff).map(|code| (code, 2)).collect();
+    let verdict = by(&nothing, b"\x51\x63\x75\x6a\xff\x4f", 0);
+    assert_eq!((verdict.answer, heights(&verdict.end)), (Answer::ACCEPTED, Some((2, 0))));
+    // 28 and 29 before 1 and 21, with nothing written.
+    let mut log = [LENT; 3];
+    for (map, limit, number) in [(&map(&[])[..259], 0, 28), (&map(&[])[..], 0, 29), (&map(&[])[..], 245, 29)] {
+        let verdict = analysis_with(map, limit, &[0x61; 10_001], 300, 0, &mut log);
+        assert_eq!(verdict, Verdict { answer: Answer { number, offset: 0, a: 0, b: 0 }, rows: 0, peak: 0, end: None });
+        let verdict = mark_with(map, limit, &[0; 8_001], &mut log);
+        assert_eq!(verdict.answer, PaperAnswer { number, entry: 0, offset: 0, a: 0, b: 0 });
+    }
+    assert_eq!(log, [LENT; 3]);
+}
+
+#[test]
+fn by_a_lent_limit() {
+    let map = built_in_map();
+    let by = |limit, bytes: &[u8], main| analysis_with(&map, limit, bytes, main, 0, &mut [LENT; 30]).answer;
+    assert_eq!(by(1, b"\x51", 0), Answer::ACCEPTED);
+    assert_eq!(by(1, b"\x51\x76", 0), Answer { number: 6, offset: 1, a: 2, b: 1 });
+    assert_eq!(by(1, b"", 2), Answer { number: 2, offset: 0, a: 2, b: 1 });
+    assert_eq!(by(5, b"\x6f", 3), Answer { number: 6, offset: 0, a: 6, b: 5 });
+    assert_eq!(by(6, b"\x6f", 3), Answer::ACCEPTED);
+    let sample = b"\x01\x00\x01\x00\x0e\x00\x00\x00\x01\x00\x0e\x00\x06\x00\x63\x51\x67\x52\x68\x75";
+    for limit in 1..=4 {
+        let answer = PaperAnswer { number: 20, entry: 0, offset: 0, a: 5, b: limit };
+        assert_eq!(mark_with(&map, limit as u32, sample, &mut [LENT; 18]).answer, answer);
+    }
+    for limit in [5, 244] {
+        let verdict = mark_with(&map, limit, sample, &mut [LENT; 18]);
+        assert_eq!((verdict.answer, verdict.rows, verdict.peak), (PaperAnswer::ACCEPTED, 6, 2));
+    }
+}
+
 #[test]
 fn parts_displayed() {
     let (body, initialiser) = (b"\x51\x02\x4c\x07\x75", b"\x4c\x05\x01");
@@ -149,7 +262,7 @@ fn trace(bytes: &[u8], main: &[&[u8]], choices: &[bool]) -> Trace {
     let mut choices = choices.iter();
     let main = main.iter().map(|item| item.to_vec()).collect();
     let mut choose = || *choices.next().expect("a choice");
-    replay(&decode(bytes).unwrap_or_default(), main, vec![vec![9; 300]], &mut choose, &mut || vec![0xaa])
+    replay(&BUILT_IN, &decode(bytes).unwrap_or_default(), main, vec![vec![9; 300]], &mut choose, &mut || vec![0xaa])
 }
 
 fn ran_off(main: &[&[u8]], alt: &[&[u8]]) -> Ending {
@@ -191,6 +304,25 @@ fn replays_by_choices() {
     // Without an ELSE: past ENDIF.
     let places = |choice| trace(b"\x63\x61\x68\x61", start, &[choice]).reached.iter().map(|row| row.0).collect::<Vec<_>>();
     assert_eq!((places(true), places(false)), (vec![0, 1, 2, 3], vec![0, 3]));
+}
+
+/// Request L6: a replay goes by the classes and the limit.
+#[test]
+fn replays_by_a_lent_map() {
+    let by = |rows: &[(u8, u8)], limit, bytes: &[u8], choice| {
+        let rules = Rules::read(&map(rows), limit).unwrap();
+        let main = vec![b"a".to_vec(), b"b".to_vec()];
+        replay(&rules, &decode(bytes).unwrap_or_default(), main, Vec::new(), &mut || choice, &mut || vec![0xaa])
+    };
+    let places = |trace: &Trace| trace.reached.iter().map(|row| row.0).collect::<Vec<_>>();
+    // ff is IF, 67 nothing, fe ENDIF besides 68, 62 RETURN.
+    let rows = [(0xff, 3), (0x67, 2), (0xfe, 6), (0x62, 7)];
+    assert_eq!(places(&by(&rows, 244, b"\xff\x67\x62\xfe\x61", true)), [0, 1, 2]);
+    let trace = by(&rows, 244, b"\xff\x67\x62\xfe\x61", false);
+    assert_eq!((places(&trace), trace.ending), (vec![0, 4], ran_off(&[b"a"], &[])));
+    // At the limit there is no room.
+    assert_eq!(by(&[], 3, b"\x51", true).ending, ran_off(&[b"a", b"b", &[1]], &[]));
+    assert!(matches!(by(&[], 3, b"\x51\x51", true).ending, Ending::Fault { place: 1, why: "no room" }));
 }
 
 #[test]

@@ -3,4 +3,3 @@ pub mod Bytes
 pub mod Values
 pub mod Fronts
 pub mod Codes
-pub mod Numbers

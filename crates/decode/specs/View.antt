@@ -6,8 +6,7 @@ use lib.ListN.{length, drop}
 use Rattle.definition.specs.Basics.{Bytes}
 use Rattle.definition.specs.Decoding.{number, Front, whole, short, front, Code, ends, malformed, then, decodeFrom, instructions, malformedAt}
 use Rattle.definition.specs.Decoding as D
-use Rattle.definition.specs.Refusals.{malformedFragment, badIndex, crookedNumber, negativeIndex, Answer, accepted, refusedAt}
-use Rattle.definition.specs.Stacks as S
+use Rattle.definition.specs.Refusals.{malformedFragment, Answer, accepted, refusedAt}
 use Rattle.definition.specs.Walk.{Item, unknown, exact, known}
 use Rattle.decode.specs.declared.Value.{Value}
 use Rattle.decode.specs.declared.Value.the-variants.{Unknown, Exact}
@@ -16,8 +15,6 @@ use Rattle.decode.specs.declared.Decoded.{Decoded}
 use Rattle.decode.specs.declared.Decoded.the-variants.{At, End, Malformed}
 use Rattle.decode.specs.declared.Counted.{Counted}
 use Rattle.decode.specs.declared.Counted.the-variants as C
-use Rattle.decode.specs.declared.Index.{Index}
-use Rattle.decode.specs.declared.Index.the-variants as I
 
 -- the len lowest bytes of n, the lowest first
 abbrev pub lowBytes : ℕ → ℕ → Bytes
@@ -101,17 +98,3 @@ countBy (some offset) count = record { answer = refusedAt offset malformedFragme
 
 abbrev pub countIn : Code → Count
 countIn code = countBy (malformedAt code) (length (instructions code))
-
--- an answer of `read_index`, "an index (readable, not negative)": what follows with its value, or 9, 24 or 25
-abbrev pub readOf : Index → (ℕ → S.Outcome Item) → S.Outcome Item
-readOf I.Unknown next = S.refused badIndex
-readOf I.NoNumber next = S.refused crookedNumber
-readOf I.Negative next = S.refused negativeIndex
-readOf (I.At n) next = next n
-
--- the answer for an index of the definition: where it is none, which of the three
-abbrev pub indexed : D.Index → Index
-indexed D.notKnown = I.Unknown
-indexed D.noNumber = I.NoNumber
-indexed D.negative = I.Negative
-indexed (D.index n) = I.At n

@@ -104,7 +104,7 @@ module _ (R : Rules) (t : State) where
   through (refuses r) s next h f = let z : _≡_ {A = ℕ} 0 1 = cc in absurd (omega arith)
 
   -- an accepted walk moves on at each instruction, and the rest of it is accepted
-  goes-on : {P : Type 0} (i : Instruction) (is : List Instruction) (s : State) → walk R (i ∷ is) s ≡ passed t
+  pub goes-on : {P : Type 0} (i : Instruction) (is : List Instruction) (s : State) → walk R (i ∷ is) s ≡ passed t
       → ((c : Arm) (fs : List Frame) → effect R i (R .classFor (i .opcode)) (s .arm) (s .frames) ≡ moves c fs → walk R is (onward c fs (met i s)) ≡ passed t → P) → P
   unfolding walk
   goes-on i is s h f = through (effect R i (R .classFor (i .opcode)) (s .arm) (s .frames)) (met i s) (λ u. walk R is u) h f
@@ -159,7 +159,7 @@ module _ (R : Rules) (t : State) where
       (subst (λ k. Row (t .log) k (armAt R is c fs j)) (omega arith)
       (row-at is (onward c fs (met i s)) g (rw row-length (omega arith)) j (omega arith))))
 
-  peak-grows : (is : List Instruction) (s : State) → walk R is s ≡ passed t → s .peak ≤ t .peak
+  pub peak-grows : (is : List Instruction) (s : State) → walk R is s ≡ passed t → s .peak ≤ t .peak
   peak-grows [] s h = subst (λ (u : State). s .peak ≤ u .peak) (at-end s h .1) (omega arith)
   peak-grows (i ∷ is) s h = goes-on i is s h (λ c fs e g. let p = peak-grows is (onward c fs (met i s)) g in omega arith)
 

@@ -2,6 +2,7 @@
 pub mod MarkedPapers
 pub mod SpoiltIndices
 pub mod LongDataWitnesses
+pub mod MapWitnesses
 pub mod Replays
 pub mod Related
 pub mod Arms
@@ -12,6 +13,16 @@ pub mod TrueOfPaper
 pub mod LongData
 pub mod Blanked
 pub mod Witnesses
+pub mod Listings
+pub mod NameRule
+pub mod ListedWords
+pub mod ListingsBack
 pub mod PrintedPapers
 pub mod NumberForm
 pub mod Sittings
+pub mod GoodMaps
+pub mod BuiltInMap
+pub mod UnderEveryMap
+pub mod Allowed
+pub mod AllowedPapers
+pub mod Raising

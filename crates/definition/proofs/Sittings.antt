@@ -10,7 +10,7 @@ use borrow.Author.Tests.{leb-true, eqb-true, eqb-false, ne-eqb}
 use lib.Dec.{leb, eqb}
 use lib.ListN.{length, getD, replicate}
 use Rattle.definition.specs.Basics.{pick}
-use Rattle.definition.specs.Refusals.{Refusal, malformedFragment, nesting, altDry, badIndex, badTag, armsDiffer, strayElse, secondElse, strayEndif, openIf, badHeader, tallyFull, badSitting, crookedNumber, negativeIndex, longFragment, unmodelledOpcode, opcodeCount, scriptSize, longPaper, startTooLarge, shortLog, stacksFull, mainDry, dispatchTooLarge, refusedAt, greatestNumber}
+use Rattle.definition.specs.Refusals.{Refusal, malformedFragment, nesting, altDry, badIndex, badTag, armsDiffer, strayElse, secondElse, strayEndif, openIf, badHeader, tallyFull, badSitting, crookedNumber, negativeIndex, strangeWord, outputShort, badMap, badLimit, longFragment, unmodelledOpcode, opcodeCount, scriptSize, longPaper, startTooLarge, shortLog, stacksFull, mainDry, dispatchTooLarge, refusedAt, greatestNumber}
 use Rattle.definition.specs.Sums.{Pair, pairs, occurrences, occurrencesFrom, acceptedPeaks, sumOf, inUse, maxSitting, goodSitting, SittingSums, goodSums, badSums, sums}
 use Rattle.definition.proofs.Sound.{and-true}
 
@@ -129,6 +129,10 @@ atMostGreatest at tallyFull = omega arith
 atMostGreatest at badSitting = omega arith
 atMostGreatest at crookedNumber = omega arith
 atMostGreatest at negativeIndex = omega arith
+atMostGreatest at strangeWord = omega arith
+atMostGreatest at outputShort = omega arith
+atMostGreatest at badMap = omega arith
+atMostGreatest at badLimit = omega arith
 atMostGreatest at (longFragment n) = omega arith
 atMostGreatest at (unmodelledOpcode n) = omega arith
 atMostGreatest at (opcodeCount n) = omega arith
@@ -140,5 +144,5 @@ atMostGreatest at (stacksFull n m) = omega arith
 atMostGreatest at (mainDry n m) = omega arith
 atMostGreatest at (dispatchTooLarge n m) = omega arith
 
-pub greatestGiven : refusedAt 0 negativeIndex .number ≡ greatestNumber
+pub greatestGiven : refusedAt 0 badLimit .number ≡ greatestNumber
 greatestGiven = refl

@@ -12,7 +12,7 @@ use lib.Dec.{ltb, leb}
 use lib.ListN.{length, getD, take, drop, replicate, length-drop, length-replicate}
 use Rattle.definition.specs.Basics.{Bytes, pick}
 use Rattle.definition.specs.Decoding.{Instruction, Code, decode, instructions, malformedAt}
-use Rattle.definition.specs.Refusals.{Refusal, malformedFragment, nesting, altDry, badIndex, badTag, armsDiffer, strayElse, secondElse, strayEndif, openIf, badHeader, tallyFull, badSitting, crookedNumber, negativeIndex, longFragment, unmodelledOpcode, opcodeCount, scriptSize, longPaper, startTooLarge, shortLog, stacksFull, mainDry, dispatchTooLarge, maxFragment, refusedAt}
+use Rattle.definition.specs.Refusals.{Refusal, malformedFragment, nesting, altDry, badIndex, badTag, armsDiffer, strayElse, secondElse, strayEndif, openIf, badHeader, tallyFull, badSitting, crookedNumber, negativeIndex, strangeWord, outputShort, badMap, badLimit, longFragment, unmodelledOpcode, opcodeCount, scriptSize, longPaper, startTooLarge, shortLog, stacksFull, mainDry, dispatchTooLarge, maxFragment, refusedAt}
 use Rattle.definition.specs.Stacks.{Rules, builtIn, Stacks, total, stackHeights}
 use Rattle.definition.specs.Walk.{Item, unknown, Arm, dead, live, heightsOf, State, totalOf, WalkEnd, passed, stopped, walk, Marked, refusedEarly, answered, begin, tested, analysisOf, unknowns, analysis}
 use Rattle.definition.specs.Replay.{Replay, running, Trace, visit, offEnd, returned, faulted, replayFrom, wholeReplay, ReachedAt, RunsOffWith, HasTotal, TotalsWithin, ShowsArm, AreStrings, ReplayOf, EveryReplay, SomeReplay, heightsAt, LiveRow, SomeReplayReaches, Demand3, TrueOfEveryReplay}
@@ -173,7 +173,7 @@ module _ (R : Rules) (is : List Instruction) (s : Stacks Item) (log : List ℕ) 
 -- The analysis
 
 -- no refusal has the number 0
-refused-number : (at : ℕ) (r : Refusal) → refusedAt at r .number ≡ 0 → ⊥
+pub refused-number : (at : ℕ) (r : Refusal) → refusedAt at r .number ≡ 0 → ⊥
 refused-number at malformedFragment h = omega (arith, h)
 refused-number at nesting h = omega (arith, h)
 refused-number at altDry h = omega (arith, h)
@@ -189,6 +189,10 @@ refused-number at tallyFull h = omega (arith, h)
 refused-number at badSitting h = omega (arith, h)
 refused-number at crookedNumber h = omega (arith, h)
 refused-number at negativeIndex h = omega (arith, h)
+refused-number at strangeWord h = omega (arith, h)
+refused-number at outputShort h = omega (arith, h)
+refused-number at badMap h = omega (arith, h)
+refused-number at badLimit h = omega (arith, h)
 refused-number at (longFragment n) h = omega (arith, h)
 refused-number at (unmodelledOpcode n) h = omega (arith, h)
 refused-number at (opcodeCount n) h = omega (arith, h)
@@ -202,7 +206,7 @@ refused-number at (dispatchTooLarge n m) h = omega (arith, h)
 
 -- what holds wherever the walk passes with room in the log holds of an accepted analysis
 module _ (R : Rules) (P : Marked → Type 0) where
-  ofCode : (code : Code) (s : Stacks Item) (log : List ℕ)
+  pub ofCode : (code : Code) (s : Stacks Item) (log : List ℕ)
       → ((t : State) → 3 * length (instructions code) ≤ length log → walk R (instructions code) (begin s log) ≡ passed t
       → P (answered (passed t)))
       → analysisOf R code s log .verdict .answer .number ≡ 0 → P (analysisOf R code s log)

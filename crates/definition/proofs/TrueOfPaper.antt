@@ -18,7 +18,7 @@ use Rattle.definition.specs.Walk.{Item, dead, Verdict, Marked, begin, un
 use Rattle.definition.specs.Replay.{Replay, Mode, running, jumping, Carried, goesOn, halts, fails, carry, past, Trace, onCarried, replayFrom, ReachedAt, heightsAt, Demand3}
 use Rattle.definition.specs.Papers.{Entry, Fragment, PaperMarked, after, markFrom, dispatch, refusedPaper, markPaper, goodHeader, stateFields, entries, fragments, EachTrue, TrueOfPaper}
 use Rattle.definition.proofs.Arms.{rows-all, log-length}
-use Rattle.definition.proofs.TrueOfEveryReplay.{ofAnalysis, trueOfEveryReplay}
+use Rattle.definition.proofs.TrueOfEveryReplay.{ofAnalysis, trueOfAnalysis}
 
 -- Another log
 
@@ -110,91 +110,96 @@ module _ (rows : ℕ) (log out : List ℕ) (is : List Instruction) (m : Marked) 
         ap (λ l. heightsAt k l) (sym behind)
         ∙ sym (same-heights (3 * rows) (3 * (rows + m .verdict .rows)) last out keeps k (omega (arith, r .all)))
 
--- The fragments one after another
+-- The fragments one after another, by any rules with a limit below 65,535
 
--- the last log keeps what stands before the first of these, and demand 3 holds of each
-abbrev Marks : ℕ → List Fragment → List ℕ → PaperMarked → Type 0
-Marks rows fs log m = (take (3 * rows) (m .log) ≡ take (3 * rows) log) × (EachTrue builtIn rows fs (m .verdicts) (m .log))
+module _ (R : Rules) (small : R .limit < 65535) where
+  -- the last log keeps what stands before the first of these, and demand 3 holds of each
+  abbrev Marks : ℕ → List Fragment → List ℕ → PaperMarked → Type 0
+  Marks rows fs log m = (take (3 * rows) (m .log) ≡ take (3 * rows) log) × (EachTrue R rows fs (m .verdicts) (m .log))
 
--- of the fragments from one on
-trueFrom : (k rows peak : ℕ) (fs : List Fragment) (log : List ℕ) → 3 * rows ≤ length log
-    → markFrom builtIn k rows peak fs log .paper .verdict .answer .number ≡ 0
-    → Marks rows fs log (markFrom builtIn k rows peak fs log)
-unfolding markFrom EachTrue
-trueFrom k rows peak [] log l h = (refl, tt)
-trueFrom k rows peak (f ∷ fs) log l h =
-    by _ (eqb (v .answer .number) 0) refl h (λ s g. trueFrom (k + 1) (rows + v .rows) (max peak (v .peak)) fs _ s g)
-    (take-at (take (3 * rows) log) (m .log) (3 * rows) (length-take-le (3 * rows) log l))
-    (drop-at (take (3 * rows) log) (m .log) (3 * rows) (length-take-le (3 * rows) log l))
-  where
-    is : List Instruction
-    is = instructions (decode (f .bytes))
+  -- of the fragments from one on
+  trueFrom : (k rows peak : ℕ) (fs : List Fragment) (log : List ℕ) → 3 * rows ≤ length log
+      → markFrom R k rows peak fs log .paper .verdict .answer .number ≡ 0
+      → Marks rows fs log (markFrom R k rows peak fs log)
+  unfolding markFrom EachTrue
+  trueFrom k rows peak [] log l h = (refl, tt)
+  trueFrom k rows peak (f ∷ fs) log l h =
+      by _ (eqb (v .answer .number) 0) refl h (λ s g. trueFrom (k + 1) (rows + v .rows) (max peak (v .peak)) fs _ s g)
+      (take-at (take (3 * rows) log) (m .log) (3 * rows) (length-take-le (3 * rows) log l))
+      (drop-at (take (3 * rows) log) (m .log) (3 * rows) (length-take-le (3 * rows) log l))
+    where
+      is : List Instruction
+      is = instructions (decode (f .bytes))
 
-    m : Marked
-    m = analysis builtIn (f .bytes) (f .main) (f .alt) (drop (3 * rows) log)
+      m : Marked
+      m = analysis R (f .bytes) (f .main) (f .alt) (drop (3 * rows) log)
 
-    v : Verdict
-    v = m .verdict
+      v : Verdict
+      v = m .verdict
 
-    rest : List ℕ → PaperMarked
-    rest out = markFrom builtIn (k + 1) (rows + v .rows) (max peak (v .peak)) fs out
+      rest : List ℕ → PaperMarked
+      rest out = markFrom R (k + 1) (rows + v .rows) (max peak (v .peak)) fs out
 
-    stop : List ℕ → PaperMarked
-    stop out = record {
-      paper = record { entry = k; verdict = record { answer = v .answer; rows = rows + v .rows; peak = 0; end = dead } };
-      verdicts = [];
-      log = out;
-    }
+      stop : List ℕ → PaperMarked
+      stop out = record {
+        paper = record { entry = k; verdict = record { answer = v .answer; rows = rows + v .rows; peak = 0; end = dead } };
+        verdicts = [];
+        log = out;
+      }
 
-    by : (out : List ℕ) (b : Bool) → eqb (v .answer .number) 0 ≡ b
-        → pick b (after v (rest out)) (stop out) .paper .verdict .answer .number ≡ 0
-        → (3 * (rows + v .rows) ≤ length out → rest out .paper .verdict .answer .number ≡ 0
-        → Marks (rows + v .rows) fs out (rest out))
-        → take (3 * rows) out ≡ take (3 * rows) log → drop (3 * rows) out ≡ m .log
-        → Marks rows (f ∷ fs) log (pick b (after v (rest out)) (stop out))
-    by out true e h onward front behind =
-        let z : v .answer .number ≡ 0 = eqb-true (v .answer .number) 0 e in
-        let r = analysis-rows builtIn (f .bytes) (f .main) (f .alt) (drop (3 * rows) log) z in
-        let t = onward (still-lent rows log out is m l r front behind) h in
-        let d =
-        other-log builtIn is (unknowns (f .main) (f .alt)) m (drop (3 * rows) (rest out .log))
-        (keeps-heights rows log out is m l r front behind (rest out .log) (t .0))
-        (trueOfEveryReplay (f .bytes) (f .main) (f .alt) (drop (3 * rows) log) z) in
-        (keeps-before rows log out is m l r front behind (rest out .log) (t .0), (d, t .1))
-    by out false e h onward front behind = absurd (eqb-false (v .answer .number) 0 e h)
+      by : (out : List ℕ) (b : Bool) → eqb (v .answer .number) 0 ≡ b
+          → pick b (after v (rest out)) (stop out) .paper .verdict .answer .number ≡ 0
+          → (3 * (rows + v .rows) ≤ length out → rest out .paper .verdict .answer .number ≡ 0
+          → Marks (rows + v .rows) fs out (rest out))
+          → take (3 * rows) out ≡ take (3 * rows) log → drop (3 * rows) out ≡ m .log
+          → Marks rows (f ∷ fs) log (pick b (after v (rest out)) (stop out))
+      by out true e h onward front behind =
+          let z : v .answer .number ≡ 0 = eqb-true (v .answer .number) 0 e in
+          let r = analysis-rows R (f .bytes) (f .main) (f .alt) (drop (3 * rows) log) z in
+          let t = onward (still-lent rows log out is m l r front behind) h in
+          let d =
+          other-log R is (unknowns (f .main) (f .alt)) m (drop (3 * rows) (rest out .log))
+          (keeps-heights rows log out is m l r front behind (rest out .log) (t .0))
+          (trueOfAnalysis R small (f .bytes) (f .main) (f .alt) (drop (3 * rows) log) z) in
+          (keeps-before rows log out is m l r front behind (rest out .log) (t .0), (d, t .1))
+      by out false e h onward front behind = absurd (eqb-false (v .answer .number) 0 e h)
 
--- The whole paper
+  -- The whole paper
 
--- what is claimed of an answer
-abbrev TrueOf : Bytes → PaperMarked → Type 0
-TrueOf paper m = m .paper .verdict .answer .number ≡ 0 → EachTrue builtIn 0 (fragments paper) (m .verdicts) (m .log)
+  -- what is claimed of an answer
+  abbrev TrueOf : Bytes → PaperMarked → Type 0
+  TrueOf paper m = m .paper .verdict .answer .number ≡ 0 → EachTrue R 0 (fragments paper) (m .verdicts) (m .log)
 
--- behind the dispatch check
-trueDispatched : (paper : Bytes) (k : ℕ) (es : List Entry) (log : List ℕ) → TrueOf paper (dispatch builtIn paper k es log)
-unfolding dispatch
-trueDispatched paper k [] log h = trueFrom 0 0 0 (fragments paper) log (omega arith) h .1
-trueDispatched paper k (e ∷ es) log h = by (λ g. trueDispatched paper (k + 1) es log g) (ltb 244 sum) h
-  where
-    sum : ℕ
-    sum = e .parameters + stateFields paper + 3
+  -- behind the dispatch check
+  trueDispatched : (paper : Bytes) (k : ℕ) (es : List Entry) (log : List ℕ) → TrueOf paper (dispatch R paper k es log)
+  unfolding dispatch
+  trueDispatched paper k [] log h = trueFrom 0 0 0 (fragments paper) log (omega arith) h .1
+  trueDispatched paper k (e ∷ es) log h = by (λ g. trueDispatched paper (k + 1) es log g) (ltb (R .limit) sum) h
+    where
+      sum : ℕ
+      sum = e .parameters + stateFields paper + 3
 
-    by : TrueOf paper (dispatch builtIn paper (k + 1) es log) → (b : Bool)
-        → TrueOf paper (pick b (refusedPaper k (dispatchTooLarge sum 244) log) (dispatch builtIn paper (k + 1) es log))
-    by onward true h = absurd (omega (arith, h))
-    by onward false h = onward h
+      by : TrueOf paper (dispatch R paper (k + 1) es log) → (b : Bool)
+          → TrueOf paper (pick b (refusedPaper k (dispatchTooLarge sum (R .limit)) log) (dispatch R paper (k + 1) es log))
+      by onward true h = absurd (omega (arith, h))
+      by onward false h = onward h
+
+  -- of every paper and log
+  pub trueOfPaperBy : (paper : Bytes) (log : List ℕ) → TrueOfPaper R paper log
+  unfolding markPaper
+  trueOfPaperBy paper log h = long (ltb maxPaper (length paper)) h
+    where
+      header : (b : Bool) → TrueOf paper (pick b (dispatch R paper 0 (entries paper) log) (refusedPaper 0 badHeader log))
+      header true h = trueDispatched paper 0 (entries paper) log h
+      header false h = absurd (omega (arith, h))
+
+      rest : PaperMarked
+      rest = pick (goodHeader paper) (dispatch R paper 0 (entries paper) log) (refusedPaper 0 badHeader log)
+
+      long : (b : Bool) → TrueOf paper (pick b (refusedPaper 0 (longPaper (length paper)) log) rest)
+      long true h = absurd (omega (arith, h))
+      long false h = header (goodHeader paper) h
 
 -- Of every paper and log, if the paper is accepted, demand 3 holds of each of its fragments.
 pub trueOfPaper : (paper : Bytes) (log : List ℕ) → TrueOfPaper builtIn paper log
-unfolding markPaper
-trueOfPaper paper log h = long (ltb maxPaper (length paper)) h
-  where
-    header : (b : Bool) → TrueOf paper (pick b (dispatch builtIn paper 0 (entries paper) log) (refusedPaper 0 badHeader log))
-    header true h = trueDispatched paper 0 (entries paper) log h
-    header false h = absurd (omega (arith, h))
-
-    rest : PaperMarked
-    rest = pick (goodHeader paper) (dispatch builtIn paper 0 (entries paper) log) (refusedPaper 0 badHeader log)
-
-    long : (b : Bool) → TrueOf paper (pick b (refusedPaper 0 (longPaper (length paper)) log) rest)
-    long true h = absurd (omega (arith, h))
-    long false h = header (goodHeader paper) h
+trueOfPaper paper log h = trueOfPaperBy builtIn (omega arith) paper log h

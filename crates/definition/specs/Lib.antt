@@ -10,3 +10,10 @@ pub mod Papers
 pub mod Lines
 pub mod Sums
 pub mod Blank
+pub mod Hex
+pub mod OpcodeNames
+pub mod Listing
+pub mod Shortest
+pub mod Assembling
+pub mod Allows
+pub mod Maps

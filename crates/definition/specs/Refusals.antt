@@ -4,7 +4,7 @@ use Prim.Native.Nat.{ℕ}
 -- the word of a refusal, with those of its figures that are not fixed
 pub data Refusal : Type 0 where
   malformedFragment nesting altDry badIndex badTag armsDiffer strayElse secondElse strayEndif openIf badHeader tallyFull badSitting : Refusal
-  crookedNumber negativeIndex : Refusal
+  crookedNumber negativeIndex strangeWord outputShort badMap badLimit : Refusal
   longFragment unmodelledOpcode opcodeCount scriptSize longPaper : ℕ → Refusal
   startTooLarge shortLog stacksFull mainDry dispatchTooLarge : ℕ → ℕ → Refusal
 
@@ -23,7 +23,7 @@ maxPaper = 8000
 
 -- request L1, "the greatest in use": every verdict number below is at most this one. A request that adds numbers raises it.
 abbrev pub greatestNumber : ℕ
-greatestNumber = 25
+greatestNumber = 29
 
 -- number, offset and two figures: what the limit check answers, and part of every verdict
 pub record Answer : Type 0 where
@@ -67,3 +67,7 @@ refusedAt at tallyFull = answer 22 at 0 0
 refusedAt at badSitting = answer 23 at 0 0
 refusedAt at crookedNumber = answer 24 at 0 0
 refusedAt at negativeIndex = answer 25 at 0 0
+refusedAt at strangeWord = answer 26 at 0 0
+refusedAt at outputShort = answer 27 at 0 0
+refusedAt at badMap = answer 28 at 0 0
+refusedAt at badLimit = answer 29 at 0 0

@@ -210,7 +210,7 @@ SomeReplayReaches R is s k = SomeReplay R is s (λ t. (u : Stacks Bytes) × (Rea
 pub record Demand3 (R : Rules) (is : List Instruction) (s : Stacks Item) (m : Marked) : Type 0 where
   -- no replay faults
   pub noFault : EveryReplay R is s (λ t. EndsInFault t → ⊥)
-  -- none ever holds more items than the limit, 244
+  -- none ever holds more items than the limit, 244 or the lent one (request L6)
   pub withinLimit : EveryReplay R is s (λ t. TotalsWithin (R .limit) t)
   -- at each instruction reached the heights are the logged ones
   pub heights : EveryReplay R is s (λ t. (k : ℕ) (u : Stacks Bytes) → ReachedAt k u t → heightsAt k (m .log) ≡ stackHeights u)

@@ -2,205 +2,35 @@
 // pointer. Nothing is asked of the caller beyond that: bad input is refused with a number of document 01 or 02.
 ghost use mathlib.Core.List.{[], _∷_};
 ghost use mathlib.Core.Path.{_≡_};
-ghost use Prim.Native.Nat.{suc, _+_, _≤_, min};
+ghost use Prim.Native.Nat.{_+_, _≤_};
 ghost use lib.ListN.{length, take, drop};
 ghost use Rattle.definition.specs.Lines.{printed};
+ghost use Rattle.definition.specs.Assembling.{assembled};
+ghost use Rattle.definition.specs.Listing.{listed};
 ghost use Rattle.definition.specs.Papers.{limitCheck, markPaper, byMark, display};
-ghost use Rattle.definition.specs.Refusals.{greatestNumber};
 ghost use Rattle.definition.specs.Stacks.{builtIn};
 ghost use Rattle.definition.specs.Sums as Sums;
 ghost use Rattle.definition.specs.Walk.{analysis};
 ghost use Rattle.definition.specs.Walk as Walk;
-ghost use Rattle.limits.specs.View.{answerOf};
-ghost use Rattle.log_text.specs.LogText.{logText};
-ghost use Rattle.paper.specs.View.{paperOf};
+ghost use Rattle.definition.specs.Maps.{analysisWith, markPaperWith, printedWith};
+ghost use Rattle.maps.specs.View.{yearMap, mapSize};
+ghost use Rattle.log_text.specs.LogText.{logText, logTextWith};
 ghost use Rattle.reasons.specs.Reasons.{reason};
-ghost use Rattle.sums.specs.View.{sumsOf};
-ghost use Rattle.tally.specs.View.{tallyOf, Gives};
-ghost use Rattle.export.specs.View.{flag, written, verdictNumbers, endNumbers, answerNumbers, paperNumbers, sumsNumbers, displayStart, partNumbers, tallyFrom, tallyNumbers};
-ghost use Rattle.export.specs.Parts.{summaryNumbers, structNumbers};
-use ends::EndStacks;
-use limits::Answer;
-use paper::PaperVerdict;
-use stack_analysis::Summary;
-use sums::SittingSums;
-use tally::Tally;
-
-fn flag(b: bool) -> u64
-    ensures { λ r. ⌜ r ≡ flag b ⌝ }
-{
-    if b {
-        return 1;
-    }
-    0
-}
-
-fn wide(x: u8) -> u64
-    ensures { λ r. ⌜ r ≡ x ⌝ }
-{
-    x as u64
-}
-
-fn wide_count(x: u32) -> u64
-    ensures { λ r. ⌜ r ≡ x ⌝ }
-{
-    x as u64
-}
-
-// The verdict's numbers into the lent places, where there are nine of them: number, offset, two figures, rows, peak,
-// whether there is an end (1 or 0), and the heights of its main and alt.
-fn write(v: Summary, out: &mut [u64])
-    ensures { λ _. ⌜ now (out .exit) ≡ written (summaryNumbers v) (now (out .entry)) ⌝ }
-{
-    if out.len() < 9 {
-        return;
-    }
-    out[0] = v.number as u64;
-    out[1] = v.offset as u64;
-    out[2] = v.first;
-    out[3] = v.second;
-    out[4] = v.rows as u64;
-    out[5] = v.peak as u64;
-    out[6] = flag(v.ended);
-    out[7] = v.main as u64;
-    out[8] = v.alt as u64;
-}
-
-// The items of end stacks into the lent places, where there are three of them to an item: its length, its bytes as one
-// number, its mark, which is 0.
-fn write_items(e: EndStacks, items: &mut [u64])
-    requires { ⌜ e .main + e .alt ≤ 244 ⌝ }
-    ensures { λ _. ⌜ now (items .exit) ≡ written (structNumbers e) (now (items .entry)) ⌝ }
-{
-    let count = (e.main + e.alt) as usize;
-    if items.len() < 3 * count {
-        return;
-    }
-    let lens = e.lens;
-    let bytes = e.bytes;
-    let mut k: usize = 0;
-    while k < count {
-        items[3 * k] = wide(lens[k]);
-        items[3 * k + 1] = bytes[k];
-        items[3 * k + 2] = 0;
-        k += 1;
-    }
-}
-
-// The limit check's answer into the lent places, where there are four of them: number, offset, two figures.
-fn write_answer(a: Answer, out: &mut [u64])
-    ensures { λ _. ⌜ now (out .exit) ≡ written (answerNumbers (answerOf a)) (now (out .entry)) ⌝ }
-{
-    if out.len() < 4 {
-        return;
-    }
-    out[0] = a.number as u64;
-    out[1] = a.offset as u64;
-    out[2] = a.first;
-    out[3] = a.second;
-}
-
-// The numbers of a verdict on a paper into the lent places, where there are seven of them: number, entry, offset, two
-// figures, rows, peak.
-fn write_paper(v: PaperVerdict, out: &mut [u64])
-    ensures { λ _. ⌜ now (out .exit) ≡ written (paperNumbers (paperOf v)) (now (out .entry)) ⌝ }
-{
-    if out.len() < 7 {
-        return;
-    }
-    out[0] = v.number as u64;
-    out[1] = v.entry as u64;
-    out[2] = v.offset as u64;
-    out[3] = v.first;
-    out[4] = v.second;
-    out[5] = v.rows as u64;
-    out[6] = v.peak as u64;
-}
-
-// A part's start and length into the lent places, where there are two of them.
-fn write_part(start: usize, size: usize, out: &mut [u64])
-    ensures { λ _. ⌜ now (out .exit) ≡ written (start ∷ size ∷ []) (now (out .entry)) ⌝ }
-{
-    if out.len() < 2 {
-        return;
-    }
-    out[0] = start as u64;
-    out[1] = size as u64;
-}
-
-fn smaller(a: usize, b: usize) -> usize
-    ensures { λ r. ⌜ r ≡ min a b ⌝ }
-{
-    if a < b {
-        return a;
-    }
-    b
-}
-
-// A text into the lent bytes, where they have room for it.
-fn write_text(from: &[u8], text: &mut [u8])
-    ensures { λ _. ⌜ now (text .exit) ≡ written (now (from .entry)) (now (text .entry)) ⌝ }
-{
-    if text.len() < from.len() {
-        return;
-    }
-    text::write_word(text, 0, from);
-}
-
-// A text's size into the lent places, where there is one.
-fn write_size(size: usize, out: &mut [u64])
-    ensures { λ _. ⌜ now (out .exit) ≡ written (size ∷ []) (now (out .entry)) ⌝ }
-{
-    if out.len() < 1 {
-        return;
-    }
-    out[0] = size as u64;
-}
-
-// The numbers of the sums over a sitting into the lent places, where there are that many of them: number, sum, count, and how
-// often each verdict number occurred.
-fn write_sums(r: SittingSums, out: &mut [u64])
-    requires { ⌜ length (r .counts) ≡ suc greatestNumber ⌝ }
-    ensures { λ _. ⌜ now (out .exit) ≡ written (sumsNumbers (sumsOf r)) (now (out .entry)) ⌝ }
-{
-    if out.len() < 3 + sums::NUMBERS {
-        return;
-    }
-    out[0] = r.number as u64;
-    out[1] = r.sum;
-    out[2] = r.count as u64;
-    let counts = r.counts;
-    let mut k: usize = 0;
-    while k < sums::NUMBERS {
-        out[3 + k] = wide_count(counts[k]);
-        k += 1;
-    }
-}
-
-// The tally of four counters: fragments, accepted, rows, greatest peak.
-fn tally_from(counters: &[u32; 4]) -> Tally
-    ensures { λ r. ⌜ tallyOf r ≡ tallyFrom (now (counters .entry)) ⌝ }
-{
-    Tally {
-        fragments: counters[0],
-        accepts: counters[1],
-        rows: counters[2],
-        peak: counters[3],
-    }
-}
-
-// Where the part that is displayed starts in its fragment.
-fn display_start(body: &[u8], init: &[u8], offset: usize, mark: u32) -> usize
-    ensures { λ r. ⌜ r ≡ displayStart (now (body .entry)) (now (init .entry)) offset mark ⌝ }
-{
-    if mark == 0 {
-        return smaller(offset, body.len());
-    }
-    if mark == 1 {
-        return smaller(offset, init.len());
-    }
-    0
-}
+ghost use Rattle.tally.specs.View.{Gives};
+ghost use Rattle.places.specs.View.{atLimit, written, verdictNumbers, endNumbers, answerNumbers, paperNumbers, sumsNumbers, convertedNumbers, displayStart, partNumbers, tallyFrom, tallyNumbers};
+use places::display_start;
+use places::tally_from;
+use places::write;
+use places::write_answer;
+use places::write_converted;
+use places::write_lines;
+use places::write_paper;
+use places::write_part;
+use places::write_size;
+use places::write_sums;
+use places::write_text;
+use places::write_verdict;
+use walk::Options;
 
 // The analysis of a fragment from main and alt unknown items: the verdict's number, its other numbers in `out`, and a row
 // for each instruction met in `log`.
@@ -276,22 +106,62 @@ pub extern "C" fn listochur_analyze_items(
         ⌝ }
 {
     let v = stack_analysis::analyze(fragment, main, alt, log);
-    let number = v.number;
-    let end = v.end;
-    let heights = Summary {
-        number,
-        offset: v.offset,
-        first: v.first,
-        second: v.second,
-        rows: v.rows,
-        peak: v.peak,
-        ended: v.ended,
-        main: end.main,
-        alt: end.alt,
-    };
-    write_items(end, items);
-    write(heights, out);
-    number
+    write_verdict(v, items, out)
+}
+
+// The analysis of a fragment by a lent map and a lent limit: as `listochur_analyze_items`, 28 and then 29 before all else. `mode`
+// is not read.
+#[no_mangle]
+pub extern "C" fn listochur_analyze_with(
+    fragment: &[u8],
+    main: u32,
+    alt: u32,
+    map: &[u8],
+    limit: u32,
+    mode: u32,
+    log: &mut [u16],
+    items: &mut [u64],
+    out: &mut [u64],
+) -> u32
+    ensures number { λ r.
+        ⌜
+        r
+        ≡ analysisWith (now (map .entry)) (atLimit limit) (now (fragment .entry)) main alt (now (log .entry)) .verdict .answer .number
+        ⌝ }
+    ensures logged { λ r.
+        ⌜
+        now (log .exit)
+        ≡ analysisWith (now (map .entry)) (atLimit limit) (now (fragment .entry)) main alt (now (log .entry)) .log
+        ⌝ }
+    ensures listed { λ r.
+        ⌜
+        now (items .exit)
+        ≡ written
+        (endNumbers
+        (analysisWith (now (map .entry)) (atLimit limit) (now (fragment .entry)) main alt (now (log .entry)) .verdict .end))
+        (now (items .entry))
+        ⌝ }
+    ensures written { λ r.
+        ⌜
+        now (out .exit)
+        ≡ written
+        (verdictNumbers
+        (analysisWith (now (map .entry)) (atLimit limit) (now (fragment .entry)) main alt (now (log .entry)) .verdict))
+        (now (out .entry))
+        ⌝ }
+{
+    let options = Options { limit };
+    let v = stack_analysis::analyze_with(fragment, main, alt, map, options, log);
+    write_verdict(v, items, out)
+}
+
+// The map of a year, 0 the built-in one, into `map`: 260, its size, or 0 with nothing written for another year or a short `map`.
+#[no_mangle]
+pub extern "C" fn listochur_map(year: u32, map: &mut [u8]) -> u32
+    ensures size { λ r. ⌜ r ≡ mapSize year (now (map .entry)) ⌝ }
+    ensures written { λ r. ⌜ now (map .exit) ≡ written (yearMap year) (now (map .entry)) ⌝ }
+{
+    maps::write_map(year, map)
 }
 
 // The limit check: its number, and number, offset and two figures in `out`.
@@ -330,6 +200,39 @@ pub extern "C" fn listochur_mark_paper(paper: &[u8], log: &mut [u16], out: &mut 
         ⌝ }
 {
     let v = paper::mark_paper(paper, log);
+    let number = v.number;
+    write_paper(v, out);
+    number
+}
+
+// The marking of a paper by a lent map and a lent limit: as `listochur_mark_paper`, 28 and then 29 before all else. `mode` is
+// not read.
+#[no_mangle]
+pub extern "C" fn listochur_mark_paper_with(
+    paper: &[u8],
+    map: &[u8],
+    limit: u32,
+    mode: u32,
+    log: &mut [u16],
+    out: &mut [u64],
+) -> u32
+    ensures number { λ r.
+        ⌜
+        r
+        ≡ markPaperWith (now (map .entry)) (atLimit limit) (now (paper .entry)) (now (log .entry)) .paper .verdict .answer .number
+        ⌝ }
+    ensures logged { λ r.
+        ⌜ now (log .exit) ≡ markPaperWith (now (map .entry)) (atLimit limit) (now (paper .entry)) (now (log .entry)) .log ⌝ }
+    ensures written { λ r.
+        ⌜
+        now (out .exit)
+        ≡ written
+        (paperNumbers (markPaperWith (now (map .entry)) (atLimit limit) (now (paper .entry)) (now (log .entry)) .paper))
+        (now (out .entry))
+        ⌝ }
+{
+    let options = Options { limit };
+    let v = paper::mark_paper_with(paper, map, options, log);
     let number = v.number;
     write_paper(v, out);
     number
@@ -408,12 +311,47 @@ pub extern "C" fn listochur_mark_lines(
         ⌜ length (printed builtIn (now (paper .entry)) (now (log .entry))) ≤ 4096 ⌝ }
 {
     let l = lines::mark_lines(paper, log);
-    let bytes = l.bytes;
-    let size = l.size;
-    let number = l.number;
-    write_text(&bytes[..size], text);
-    write_size(size, out);
-    number
+    write_lines(l, text, out)
+}
+
+// The same by a lent map and a lent limit, 28 and then 29 before all else. `mode` is not read.
+#[no_mangle]
+pub extern "C" fn listochur_mark_lines_with(
+    paper: &[u8],
+    map: &[u8],
+    limit: u32,
+    mode: u32,
+    log: &mut [u16],
+    text: &mut [u8],
+    out: &mut [u64],
+) -> u32
+    ensures number { λ r.
+        ⌜
+        r
+        ≡ markPaperWith (now (map .entry)) (atLimit limit) (now (paper .entry)) (now (log .entry)) .paper .verdict .answer .number
+        ⌝ }
+    ensures logged { λ r.
+        ⌜ now (log .exit) ≡ markPaperWith (now (map .entry)) (atLimit limit) (now (paper .entry)) (now (log .entry)) .log ⌝ }
+    ensures printed { λ r.
+        ⌜
+        now (text .exit)
+        ≡ written
+        (printedWith (now (map .entry)) (atLimit limit) (now (paper .entry)) (now (log .entry)))
+        (now (text .entry))
+        ⌝ }
+    ensures written { λ r.
+        ⌜
+        now (out .exit)
+        ≡ written
+        (length (printedWith (now (map .entry)) (atLimit limit) (now (paper .entry)) (now (log .entry))) ∷ [])
+        (now (out .entry))
+        ⌝ }
+    ensures short { λ r.
+        ⌜ length (printedWith (now (map .entry)) (atLimit limit) (now (paper .entry)) (now (log .entry))) ≤ 4096 ⌝ }
+{
+    let options = Options { limit };
+    let l = lines::mark_lines_with(paper, map, options, log);
+    write_lines(l, text, out)
 }
 
 // What `stacklog` prints of a paper, in `text` where it has room: the verdict's number, the size of the text in `out`, and the
@@ -435,19 +373,58 @@ pub extern "C" fn listochur_log_lines(
     ensures printed { λ r.
         ⌜
         now (text .exit)
-        ≡ written (logText (now (paper .entry)) (now (log .entry))) (now (text .entry))
+        ≡ written (logText builtIn (now (paper .entry)) (now (log .entry))) (now (text .entry))
         ⌝ }
     ensures written { λ r.
         ⌜
         now (out .exit)
         ≡ written
-        (length (logText (now (paper .entry)) (now (log .entry))) ∷ [])
+        (length (logText builtIn (now (paper .entry)) (now (log .entry))) ∷ [])
         (now (out .entry))
         ⌝ }
 {
     let l = log_text::write_log(paper, log, text);
     write_size(l.size, out);
     l.number
+}
+
+// The same by a lent map and a lent limit, 28 and then 29 before all else. `mode` is not read.
+#[no_mangle]
+pub extern "C" fn listochur_log_lines_with(
+    paper: &[u8],
+    map: &[u8],
+    limit: u32,
+    mode: u32,
+    log: &mut [u16],
+    text: &mut [u8],
+    out: &mut [u64],
+) -> u32
+    ensures number { λ r.
+        ⌜
+        r
+        ≡ markPaperWith (now (map .entry)) (atLimit limit) (now (paper .entry)) (now (log .entry)) .paper .verdict .answer .number
+        ⌝ }
+    ensures logged { λ r.
+        ⌜ now (log .exit) ≡ markPaperWith (now (map .entry)) (atLimit limit) (now (paper .entry)) (now (log .entry)) .log ⌝ }
+    ensures printed { λ r.
+        ⌜
+        now (text .exit)
+        ≡ written
+        (logTextWith (now (map .entry)) (atLimit limit) (now (paper .entry)) (now (log .entry)))
+        (now (text .entry))
+        ⌝ }
+    ensures written { λ r.
+        ⌜
+        now (out .exit)
+        ≡ written
+        (length (logTextWith (now (map .entry)) (atLimit limit) (now (paper .entry)) (now (log .entry))) ∷ [])
+        (now (out .entry))
+        ⌝ }
+{
+    let options = Options { limit };
+    let w = log_text::write_log_with(paper, map, options, log, text);
+    write_size(w.size, out);
+    w.number
 }
 
 // A verdict's number and figures in words, in `text` where it has room: the number, and the size of the words in `out`. A number
@@ -512,5 +489,43 @@ pub extern "C" fn listochur_sums(sitting: &[u32], out: &mut [u64]) -> u32
     let r = sums::sums(sitting);
     let number = r.number;
     write_sums(r, out);
+    number
+}
+
+// A listing assembled into a lent fragment: 0, 26 or 27, and number, offset and bytes written in `out`. A refusal leaves the
+// fragment as it was, and success its rest.
+#[no_mangle]
+pub extern "C" fn listochur_assemble(text: &[u8], fragment: &mut [u8], out: &mut [u64]) -> u32
+    ensures number { λ r. ⌜ r ≡ assembled (now (text .entry)) (now (fragment .entry)) .number ⌝ }
+    ensures fragment { λ r. ⌜ now (fragment .exit) ≡ assembled (now (text .entry)) (now (fragment .entry)) .out ⌝ }
+    ensures written { λ r.
+        ⌜
+        now (out .exit)
+        ≡ written
+        (convertedNumbers (assembled (now (text .entry)) (now (fragment .entry))))
+        (now (out .entry))
+        ⌝ }
+{
+    let c = assembling::assemble(text, fragment);
+    let number = c.number;
+    write_converted(c, out);
+    number
+}
+
+// A fragment listed into a lent text: 0, 3 or 27, and number, offset and bytes written in `out`. A refusal leaves the text as it
+// was, and success its rest.
+#[no_mangle]
+pub extern "C" fn listochur_list(fragment: &[u8], text: &mut [u8], out: &mut [u64]) -> u32
+    ensures number { λ r. ⌜ r ≡ listed (now (fragment .entry)) (now (text .entry)) .number ⌝ }
+    ensures text { λ r. ⌜ now (text .exit) ≡ listed (now (fragment .entry)) (now (text .entry)) .out ⌝ }
+    ensures written { λ r.
+        ⌜
+        now (out .exit)
+        ≡ written (convertedNumbers (listed (now (fragment .entry)) (now (text .entry)))) (now (out .entry))
+        ⌝ }
+{
+    let l = listing::list(fragment, text);
+    let number = l.number;
+    write_converted(l, out);
     number
 }

@@ -10,8 +10,8 @@ use lib.Dec.{ltb}
 use lib.ListN.{length}
 use Rattle.definition.specs.Basics.{Bytes, pick}
 use Rattle.definition.specs.Papers.{field, partAt, share, entryCount, initialiser, bodies, entries}
-use Rattle.header.specs.View.{partsAt}
-use Rattle.header.proofs.Headers.{parts-are}
+use Rattle.good_header.specs.View.{partsAt}
+use Rattle.good_header.proofs.Headers.{parts-are}
 use Rattle.faults.specs.Faults.{Fault, shortPaper, badCount, cutHeader, inHeader, pastPaper, sharing, orElse, sharedWith, placed, partFault, fault}
 
 -- the part at `from + 6 * n` and those after it, of `count` from `from` on

@@ -6,7 +6,7 @@ ghost use lib.Dec.{ltb};
 ghost use lib.ListN.{length};
 ghost use Rattle.definition.specs.Basics.{pick};
 ghost use Rattle.definition.specs.Papers.{partAt};
-ghost use Rattle.header.specs.View.{partsAt};
+ghost use Rattle.good_header.specs.View.{partsAt};
 ghost use Rattle.text.specs.View.{Written};
 ghost use Rattle.faults.specs.Faults.{shortPaper, badCount, cutHeader, inHeader, pastPaper, sharing, sharedWith};
 ghost use Rattle.faults.specs.Faults.{partFault, fault, partName, faultWords};
@@ -37,7 +37,7 @@ fn first_shared(paper: &[u8], at: usize, from: usize, count: usize) -> usize
 {
     let mut n: usize = 0;
     while n < count {
-        if header::share(paper, at, from + 6 * n) {
+        if good_header::share(paper, at, from + 6 * n) {
             return n;
         }
         n += 1;

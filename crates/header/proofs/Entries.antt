@@ -6,7 +6,7 @@ use native.Mathlib.Omega.{arith}
 use borrow.Author.Tests.{lt-ltb, le-ltb}
 use Rattle.definition.specs.Basics.{Bytes}
 use Rattle.definition.specs.Papers.{Entry, field, partAt, entriesAt, entryCount, entries, stateFields, mostParameters, dispatch}
-use Rattle.definition.specs.Stacks.{builtIn}
+use Rattle.definition.specs.Stacks.{Rules}
 use Rattle.header.specs.View.{dispatched}
 use Rattle.header.specs.declared.Dispatch.the-variants.{Fits, Over}
 
@@ -37,29 +37,29 @@ entries-all p n e =
 -- The dispatch check
 
 -- the entries before k fit
-abbrev pub Dispatching : Bytes → ℕ → ℕ → Type 0
-Dispatching p n k = (log : List ℕ) → dispatch builtIn p 0 (entries p) log ≡ dispatch builtIn p k (entriesFrom p n k) log
+abbrev pub Dispatching : ℕ → Bytes → ℕ → ℕ → Type 0
+Dispatching limit p n k = (R : Rules) (log : List ℕ) → R .limit ≡ limit → dispatch R p 0 (entries p) log ≡ dispatch R p k (entriesFrom p n k) log
 
-module _ (p : Bytes) (n : ℕ) (e : n ≡ entryCount p) where
-  pub dispatching-all : Dispatching p n 0
-  dispatching-all log = ap (λ es. dispatch builtIn p 0 es log) (entries-all p n e)
+module _ (limit : ℕ) (p : Bytes) (n : ℕ) (e : n ≡ entryCount p) where
+  pub dispatching-all : Dispatching limit p n 0
+  dispatching-all R log m = ap (λ es. dispatch R p 0 es log) (entries-all p n e)
 
-  module _ (k : ℕ) (i : Dispatching p n k) where
-    pub dispatching-none : n ≤ k → (log : List ℕ) → dispatch builtIn p 0 (entries p) log ≡ dispatched p Fits log
+  module _ (k : ℕ) (i : Dispatching limit p n k) where
+    pub dispatching-none : n ≤ k → (R : Rules) (log : List ℕ) → R .limit ≡ limit → dispatch R p 0 (entries p) log ≡ dispatched R p Fits log
     unfolding dispatch
-    dispatching-none h log = i log ∙ ap (λ es. dispatch builtIn p k es log) (entries-none p n k h)
+    dispatching-none h R log m = i R log m ∙ ap (λ es. dispatch R p k es log) (entries-none p n k h)
 
     module _ (more : k < n) (parameters fields : ℕ) (f : parameters ≡ field p (8 + 6 * k)) (g : fields ≡ stateFields p) where
-      pub dispatching-over : 244 < parameters + fields + 3 → (log : List ℕ)
-          → dispatch builtIn p 0 (entries p) log ≡ dispatched p (Over k (parameters + fields + 3)) log
+      pub dispatching-over : limit < parameters + fields + 3 → (R : Rules) (log : List ℕ) → R .limit ≡ limit
+          → dispatch R p 0 (entries p) log ≡ dispatched R p (Over k (parameters + fields + 3)) log
       unfolding dispatch
-      dispatching-over h log =
-          i log ∙ ap (λ es. dispatch builtIn p k es log) (entries-more p n k more) ∙ rw (← f, ← g, lt-ltb 244 (parameters + fields + 3) h)
+      dispatching-over h R log m =
+          i R log m ∙ ap (λ es. dispatch R p k es log) (entries-more p n k more) ∙ rw (← f, ← g, m, lt-ltb limit (parameters + fields + 3) h)
 
-      pub dispatching-more : parameters + fields + 3 ≤ 244 → Dispatching p n (k + 1)
+      pub dispatching-more : parameters + fields + 3 ≤ limit → Dispatching limit p n (k + 1)
       unfolding dispatch
-      dispatching-more h log =
-          i log ∙ ap (λ es. dispatch builtIn p k es log) (entries-more p n k more) ∙ rw (← f, ← g, le-ltb 244 (parameters + fields + 3) h)
+      dispatching-more h R log m =
+          i R log m ∙ ap (λ es. dispatch R p k es log) (entries-more p n k more) ∙ rw (← f, ← g, m, le-ltb limit (parameters + fields + 3) h)
 
 -- The most parameters
 

@@ -11,7 +11,7 @@ use lib.Seq.{take-all, take-nil, drop-length, getD-append-add}
 use Rattle.definition.specs.Basics.{Bytes}
 use Rattle.definition.specs.Papers.{Fragment, field, partAt, bytesOf, entriesAt, entryCount, entries, stateFields, initialiser, mostParameters, bodyFragments, stateFragments, fragments}
 use Rattle.header.specs.View.{fragmentAt}
-use Rattle.header.proofs.Headers.{field-past}
+use Rattle.header.proofs.Fields.{field-past}
 
 -- The bytes of a part
 

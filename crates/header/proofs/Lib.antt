@@ -1,5 +1,4 @@
 -- What is proved of the definitions for this crate's functions and for callers.
-pub mod Headers
+pub mod Fields
 pub mod Entries
 pub mod Fragments
-pub mod Numbered

@@ -6,10 +6,14 @@ ghost use lib.ListN.{length};
 ghost use Rattle.definition.specs.Lines.{text, name, refusedLine, printed};
 ghost use Rattle.definition.specs.Papers.{entryCount, fragments, markFrom, markPaper};
 ghost use Rattle.definition.specs.Refusals.{answer};
+ghost use Rattle.definition.specs.Maps.{rulesBy, markPaperWith, printedWith};
 ghost use Rattle.definition.specs.Stacks.{builtIn};
+ghost use Rattle.opcodes.specs.View.{GoodRows};
+ghost use Rattle.walk.specs.Runs.{optionsOf};
 ghost use Rattle.text.specs.View.{Written};
 ghost use Rattle.lines.specs.View.{endText, lineText, Prints, linesIn, Within};
 use header::Dispatch;
+use walk::Options;
 
 // Fragment k of a paper with so many entries: `entry k`, or `state` at the initialiser.
 pub fn write_name(out: &mut [u8], at: usize, entries: usize, k: usize) -> usize
@@ -151,13 +155,20 @@ fn accept(out: &mut [u8], at: usize) -> Told
 
 // The lines of all fragments, each marked in its order with its rows in the log, and the last line. 33 lines of at most 100
 // bytes and one of at most 120 have room in 4,096.
-fn write_fragments(paper: &[u8], log: &mut [u16], out: &mut [u8]) -> Told
+fn write_fragments(
+    paper: &[u8],
+    classes: &[u8],
+    options: Options,
+    log: &mut [u16],
+    out: &mut [u8],
+) -> Told
     requires { ⌜ (length (fragments (now paper)) ≤ 33) × (4096 ≤ length (now out)) ⌝ }
+    requires { ⌜ (GoodRows (now classes)) × (options .limit ≤ 244) ⌝ }
     ensures same { λ r.
         ⌜
         Prints
         (entryCount (now (paper .entry)))
-        (markFrom builtIn 0 0 0 (fragments (now (paper .entry))) (now (log .entry)))
+        (markFrom (rulesBy (now (classes .entry)) (optionsOf options)) 0 0 0 (fragments (now (paper .entry))) (now (log .entry)))
         (now (out .entry))
         (now (out .exit))
         r
@@ -171,7 +182,7 @@ fn write_fragments(paper: &[u8], log: &mut [u16], out: &mut [u8]) -> Told
     let mut rows: usize = 0;
     let mut at: usize = 0;
     while k < count {
-        let v = paper::mark_fragment(paper, k, rows, log);
+        let v = paper::mark_fragment_rows(paper, k, rows, classes, options, log);
         rows += v.rows;
         if v.number != 0 {
             return refuse(out, at, v.number, k, v.offset, v.first, v.second);
@@ -182,14 +193,22 @@ fn write_fragments(paper: &[u8], log: &mut [u16], out: &mut [u8]) -> Told
     accept(out, at)
 }
 
-// The lines of a paper: 21, 19, the dispatch check of each entry, the bodies in order, then the initialiser.
-fn write_lines(paper: &[u8], log: &mut [u16], out: &mut [u8]) -> Told
+// The lines of a paper by the classes of lent rows: 21, 19, the dispatch check of each entry, the bodies in order, then the
+// initialiser.
+fn write_lines(
+    paper: &[u8],
+    classes: &[u8],
+    options: Options,
+    log: &mut [u16],
+    out: &mut [u8],
+) -> Told
     requires { ⌜ 4096 ≤ length (now out) ⌝ }
+    requires { ⌜ (GoodRows (now classes)) × (options .limit ≤ 244) ⌝ }
     ensures same { λ r.
         ⌜
         Prints
         (entryCount (now (paper .entry)))
-        (markPaper builtIn (now (paper .entry)) (now (log .entry)))
+        (markPaper (rulesBy (now (classes .entry)) (optionsOf options)) (now (paper .entry)) (now (log .entry)))
         (now (out .entry))
         (now (out .exit))
         r
@@ -200,14 +219,44 @@ fn write_lines(paper: &[u8], log: &mut [u16], out: &mut [u8]) -> Told
     if paper.len() > 8000 {
         return refuse(out, 0, 21, 0, 0, paper.len() as u64, 8000);
     }
-    if !header::header_ok(paper) {
+    if !good_header::header_ok(paper) {
         return refuse(out, 0, 19, 0, 0, 0, 0);
     }
-    let d = header::dispatch_check(paper);
+    let limit = options.limit;
+    let d = header::dispatch_check(paper, limit);
     match d {
-        Dispatch::Over { entry, sum } => refuse(out, 0, 20, entry, 0, sum as u64, 244),
-        Dispatch::Fits => write_fragments(paper, log, out),
+        Dispatch::Over { entry, sum } => refuse(out, 0, 20, entry, 0, sum as u64, limit as u64),
+        Dispatch::Fits => write_fragments(paper, classes, options, log, out),
     }
+}
+
+// The lines of a paper by a lent map and a lent limit: 28 and then 29 before all else.
+fn write_lines_with(
+    paper: &[u8],
+    map: &[u8],
+    options: Options,
+    log: &mut [u16],
+    out: &mut [u8],
+) -> Told
+    requires { ⌜ 4096 ≤ length (now out) ⌝ }
+    ensures same { λ r.
+        ⌜
+        Prints
+        (entryCount (now (paper .entry)))
+        (markPaperWith (now (map .entry)) (optionsOf options) (now (paper .entry)) (now (log .entry)))
+        (now (out .entry))
+        (now (out .exit))
+        r
+        (now (log .exit))
+        ⌝ }
+    ensures short { λ r. ⌜ r .next ≤ 4096 ⌝ }
+{
+    let number = maps::judge(map, options.limit);
+    if number != 0 {
+        return refuse(out, 0, number, 0, 0, 0, 0);
+    }
+    let classes = maps::rows(map);
+    write_lines(paper, classes, options, log, out)
 }
 
 // So many bytes of text, and zeros behind them; and the number of the verdict that the text tells.
@@ -217,7 +266,8 @@ pub struct Lines {
     pub number: u32,
 }
 
-// Marks a paper, and gives the lines that are printed of it and the verdict's number. Every input comes to its lines.
+// Marks a paper by the built-in table at 244, and gives the lines that are printed of it and the verdict's number. Every
+// input comes to its lines.
 pub fn mark_lines(paper: &[u8], log: &mut [u16]) -> Lines
     ensures same { λ r.
         ⌜
@@ -231,8 +281,33 @@ pub fn mark_lines(paper: &[u8], log: &mut [u16]) -> Lines
     ensures within { λ r. ⌜ Within r ⌝ }
     ensures short { λ r. ⌜ r .size ≤ 4096 ⌝ }
 {
+    let classes = opcodes::table();
+    let options = Options::built_in();
     let mut bytes = [0u8; 4096];
-    let told = write_lines(paper, log, &mut bytes);
+    let told = write_lines(paper, &classes, options, log, &mut bytes);
+    Lines {
+        bytes,
+        size: told.next,
+        number: told.number,
+    }
+}
+
+// Marks a paper by a lent map and a lent limit, and gives its lines and the verdict's number. Every input comes to its lines.
+pub fn mark_lines_with(paper: &[u8], map: &[u8], options: Options, log: &mut [u16]) -> Lines
+    ensures same { λ r.
+        ⌜
+        r
+        ≡ linesIn
+        (markPaperWith (now (map .entry)) (optionsOf options) (now (paper .entry)) (now (log .entry)) .paper .verdict .answer .number)
+        (printedWith (now (map .entry)) (optionsOf options) (now (paper .entry)) (now (log .entry)))
+        ⌝ }
+    ensures logged { λ r.
+        ⌜ now (log .exit) ≡ markPaperWith (now (map .entry)) (optionsOf options) (now (paper .entry)) (now (log .entry)) .log ⌝ }
+    ensures within { λ r. ⌜ Within r ⌝ }
+    ensures short { λ r. ⌜ r .size ≤ 4096 ⌝ }
+{
+    let mut bytes = [0u8; 4096];
+    let told = write_lines_with(paper, map, options, log, &mut bytes);
     Lines {
         bytes,
         size: told.next,

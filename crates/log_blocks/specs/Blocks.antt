@@ -2,6 +2,7 @@
 use mathlib.Core.List.{List, _++_}
 use Prim.Native.Nat.{ℕ}
 use Rattle.definition.specs.Basics.{Bytes}
+use Rattle.definition.specs.Stacks.{Rules}
 use Rattle.header.specs.View.{fragmentAt}
 use Rattle.log_rows.specs.Rows.{rows}
 use Rattle.log_lines.specs.declared.Told.{Told}
@@ -9,8 +10,8 @@ use Rattle.log_lines.specs.Log.{start, verdictLine}
 
 -- Fragment k of a paper, with what is told of its verdict: the line before its rows, its rows, the first of them row `from` of
 -- the log, and the line after them. Where it has no rows there is nothing between the two lines.
-unfoldable pub block : Bytes → List ℕ → ℕ → ℕ → Told → Bytes
-block paper log k from t =
+unfoldable pub block : Rules → Bytes → List ℕ → ℕ → ℕ → Told → Bytes
+block R paper log k from t =
     start paper k
-    ++ rows (fragmentAt paper k .bytes) log (t .peak) from (t .rows)
-    ++ verdictLine (fragmentAt paper k .bytes) log from t
+    ++ rows R (fragmentAt paper k .bytes) log (t .peak) from (t .rows)
+    ++ verdictLine R (fragmentAt paper k .bytes) log from t

@@ -1,8 +1,11 @@
 // What `stacklog` prints of a fragment, put into lent bytes: counted, and written where `go` says so and there is room. A text
 // is put from an index on; the answer is the index after it. A line has at most 256 bytes, and indices stay at most
-// 1,099,511,627,776, so that no sum wraps.
+// 1,099,511,627,776, so that no sum wraps. Conditionals go by the classes of lent rows: what is put is the same beside whatever
+// options.
 ghost use Prim.Native.Nat.{_+_, _*_, _≤_, _<_};
 ghost use lib.ListN.{length};
+ghost use Rattle.definition.specs.Maps.{Options, rulesBy};
+ghost use Rattle.opcodes.specs.View.{GoodRows};
 ghost use Rattle.log_rows.specs.Rows.{mainAt, altAt, totalOf, greatest, heading, row, rowsFrom, rows};
 ghost use Rattle.log_lines.specs.Log.{start, verdictLine};
 ghost use Rattle.log_blocks.specs.Blocks.{block};
@@ -53,26 +56,29 @@ fn put_row(
     go: bool,
     fragment: &[u8],
     log: &[u16],
+    classes: &[u8],
     scale: u32,
     depth: usize,
     j: usize,
 ) -> usize
     requires { ⌜ (at ≤ 1099511627776) × (3 * j + 3 ≤ length (now log)) ⌝ }
     requires { ⌜ (1 ≤ scale) × (totalOf (mainAt (now log) j) (altAt (now log) j) ≤ scale) ⌝ }
+    requires { ⌜ GoodRows (now classes) ⌝ }
     ensures same { λ r.
         ⌜
-        Put
+        ((options : Options)
+        → Put
         go
         (now (text .entry))
         at
-        (row (now (fragment .entry)) (now (log .entry)) scale depth j)
+        (row (rulesBy (now (classes .entry)) options) (now (fragment .entry)) (now (log .entry)) scale depth j)
         (now (text .exit))
-        r
+        r)
         ⌝ }
     ensures near { λ r. ⌜ r ≤ at + 256 ⌝ }
 {
     let mut line = [0u8; 256];
-    let n = log_rows::write_row(&mut line, fragment, log, scale, depth, j);
+    let n = log_rows::write_row(&mut line, fragment, log, classes, scale, depth, j);
     put(text, at, go, &line[..n])
 }
 
@@ -83,21 +89,24 @@ fn put_rows(
     go: bool,
     fragment: &[u8],
     log: &[u16],
+    classes: &[u8],
     scale: u32,
     from: usize,
     count: usize,
 ) -> usize
     requires { ⌜ (at + 256 * count ≤ 1099511627776) × (3 * (from + count) ≤ length (now log)) ⌝ }
     requires { ⌜ (1 ≤ scale) × (greatest (now log) from count ≤ scale) ⌝ }
+    requires { ⌜ GoodRows (now classes) ⌝ }
     ensures same { λ r.
         ⌜
-        Put
+        ((options : Options)
+        → Put
         go
         (now (text .entry))
         at
-        (rowsFrom (now (fragment .entry)) (now (log .entry)) scale 0 from count)
+        (rowsFrom (rulesBy (now (classes .entry)) options) (now (fragment .entry)) (now (log .entry)) scale 0 from count)
         (now (text .exit))
-        r
+        r)
         ⌝ }
     ensures near { λ r. ⌜ r ≤ at + 256 * count ⌝ }
 {
@@ -106,8 +115,8 @@ fn put_rows(
     let mut j: usize = 0;
     while j < count {
         let row = from + j;
-        next = put_row(text, next, go, fragment, log, scale, depth, row);
-        depth = log_rows::depth_after(log_rows::opcode_at(fragment, log, row), depth);
+        next = put_row(text, next, go, fragment, log, classes, scale, depth, row);
+        depth = log_rows::depth_after(log_rows::class_of_row(fragment, log, classes, row), depth);
         j += 1;
     }
     next
@@ -120,20 +129,23 @@ fn put_table(
     go: bool,
     fragment: &[u8],
     log: &[u16],
+    classes: &[u8],
     peak: u32,
     from: usize,
     count: usize,
 ) -> usize
     requires { ⌜ (at + 256 * count + 256 ≤ 1099511627776) × (3 * (from + count) ≤ length (now log)) ⌝ }
+    requires { ⌜ GoodRows (now classes) ⌝ }
     ensures same { λ r.
         ⌜
-        Put
+        ((options : Options)
+        → Put
         go
         (now (text .entry))
         at
-        (rows (now (fragment .entry)) (now (log .entry)) peak from count)
+        (rows (rulesBy (now (classes .entry)) options) (now (fragment .entry)) (now (log .entry)) peak from count)
         (now (text .exit))
-        r
+        r)
         ⌝ }
     ensures near { λ r. ⌜ r ≤ at + 256 * count + 256 ⌝ }
 {
@@ -142,7 +154,7 @@ fn put_table(
     }
     let scale = log_rows::scale_of(peak, log, from, count);
     let next = put_heading(text, at, go, scale);
-    put_rows(text, next, go, fragment, log, scale, from, count)
+    put_rows(text, next, go, fragment, log, classes, scale, from, count)
 }
 
 // The line after the rows of a fragment.
@@ -152,24 +164,27 @@ fn put_verdict(
     go: bool,
     fragment: &[u8],
     log: &[u16],
+    classes: &[u8],
     from: usize,
     t: Told,
 ) -> usize
     requires { ⌜ (at ≤ 1099511627776) × (3 * (from + t .rows) ≤ length (now log)) ⌝ }
+    requires { ⌜ GoodRows (now classes) ⌝ }
     ensures same { λ r.
         ⌜
-        Put
+        ((options : Options)
+        → Put
         go
         (now (text .entry))
         at
-        (verdictLine (now (fragment .entry)) (now (log .entry)) from t)
+        (verdictLine (rulesBy (now (classes .entry)) options) (now (fragment .entry)) (now (log .entry)) from t)
         (now (text .exit))
-        r
+        r)
         ⌝ }
     ensures near { λ r. ⌜ r ≤ at + 256 ⌝ }
 {
     let mut line = [0u8; 256];
-    let n = log_lines::write_verdict(&mut line, fragment, log, from, t);
+    let n = log_lines::write_verdict(&mut line, fragment, log, classes, from, t);
     put(text, at, go, &line[..n])
 }
 
@@ -180,25 +195,28 @@ pub fn put_block(
     go: bool,
     paper: &[u8],
     log: &[u16],
+    classes: &[u8],
     k: usize,
     from: usize,
     t: Told,
 ) -> usize
     requires { ⌜ (at + 256 * t .rows + 1000 ≤ 1099511627776) × (3 * (from + t .rows) ≤ length (now log)) ⌝ }
+    requires { ⌜ GoodRows (now classes) ⌝ }
     ensures same { λ r.
         ⌜
-        Put
+        ((options : Options)
+        → Put
         go
         (now (text .entry))
         at
-        (block (now (paper .entry)) (now (log .entry)) k from t)
+        (block (rulesBy (now (classes .entry)) options) (now (paper .entry)) (now (log .entry)) k from t)
         (now (text .exit))
-        r
+        r)
         ⌝ }
     ensures near { λ r. ⌜ r ≤ at + 256 * t .rows + 1000 ⌝ }
 {
-    let fragment = header::fragment_bytes(paper, k);
+    let fragment = fragments::fragment_bytes(paper, k);
     let a = put_start(text, at, go, paper, k);
-    let b = put_table(text, a, go, fragment, log, t.peak, from, t.rows);
-    put_verdict(text, b, go, fragment, log, from, t)
+    let b = put_table(text, a, go, fragment, log, classes, t.peak, from, t.rows);
+    put_verdict(text, b, go, fragment, log, classes, from, t)
 }

@@ -5,12 +5,14 @@ use Prim.Native.Nat.{ℕ, zero, suc, _+_, _-_}
 use lib.Dec.{eqb}
 use lib.ListN.{length}
 use Rattle.definition.specs.Basics.{Bytes, pick}
+use Rattle.definition.specs.Classes.{Class}
 use Rattle.definition.specs.Lines.{text, labelled, name}
 use Rattle.definition.specs.Papers.{entryCount, display}
+use Rattle.definition.specs.Stacks.{Rules}
 use Rattle.definition.specs.Walk.{Arm, dead, live, Verdict}
 use Rattle.header.specs.View.{fragmentAt}
 use Rattle.faults.specs.Faults.{fault, faultWords}
-use Rattle.log_rows.specs.Rows.{mainAt, altAt, opcodeAt, isIf, isElse, isEndif, instruction}
+use Rattle.log_rows.specs.Rows.{mainAt, altAt, classIn, isIf, isElse, isEndif, instruction}
 use Rattle.reasons.specs.Reasons.{reason}
 use Rattle.log_lines.specs.declared.Told.{Told}
 
@@ -62,24 +64,24 @@ malformedLine offset bytes = refusalLine [] 3 0 0 (labelled " at " offset ++ tex
 -- The row of that ELSE or IF, looked for from the last of n rows back, the first of them row `from`; `inner` conditionals that
 -- were closed on the way are to be opened first. Of the opcodes 63 63 67 68 51 before an ENDIF it is row 0: 68, in row 3,
 -- closes one that row 1 opens.
-unfoldable pub opener : Bytes → List ℕ → ℕ → ℕ → ℕ → ℕ
-opener fragment log from zero inner = from
-opener fragment log from (suc n) inner =
-    let opcode : ℕ = opcodeAt fragment log (from + n) in
-    pick (isEndif opcode) (opener fragment log from n (inner + 1))
-    (pick (eqb inner 0 && (isIf opcode || isElse opcode)) (from + n)
-    (opener fragment log from n (pick (isIf opcode) (inner - 1) inner)))
+unfoldable pub opener : Rules → Bytes → List ℕ → ℕ → ℕ → ℕ → ℕ
+opener R fragment log from zero inner = from
+opener R fragment log from (suc n) inner =
+    let class : Class = classIn R fragment log (from + n) in
+    pick (isEndif class) (opener R fragment log from n (inner + 1))
+    (pick (eqb inner 0 && (isIf class || isElse class)) (from + n)
+    (opener R fragment log from n (pick (isIf class) (inner - 1) inner)))
 
 -- the main height of the other arm, by its row: IF pops one item
-unfoldable pub otherMain : Bytes → List ℕ → ℕ → ℕ
-otherMain fragment log row = mainAt log row - pick (isIf (opcodeAt fragment log row)) 1 0
+unfoldable pub otherMain : Rules → Bytes → List ℕ → ℕ → ℕ
+otherMain R fragment log row = mainAt log row - pick (isIf (classIn R fragment log row)) 1 0
 
 -- both arms, where n rows come before ENDIF's
-unfoldable pub arms : Bytes → List ℕ → ℕ → ℕ → Bytes
-arms fragment log from n =
-    let other : ℕ = opener fragment log from n 0 in
+unfoldable pub arms : Rules → Bytes → List ℕ → ℕ → ℕ → Bytes
+arms R fragment log from n =
+    let other : ℕ = opener R fragment log from n 0 in
     labelled ": main " (mainAt log (from + n)) ++ labelled " alt " (altAt log (from + n))
-    ++ labelled " against main " (otherMain fragment log other) ++ labelled " alt " (altAt log other)
+    ++ labelled " against main " (otherMain R fragment log other) ++ labelled " alt " (altAt log other)
 
 -- The verdict
 
@@ -112,10 +114,10 @@ toldOf v = record {
 
 -- The line after the rows of a fragment, the first of them row `from`: accepted; malformed; refused before the walk; refused at
 -- the last row, with an arrow under the last digit of its offset.
-unfoldable pub verdictLine : Bytes → List ℕ → ℕ → Told → Bytes
-verdictLine fragment log from t =
+unfoldable pub verdictLine : Rules → Bytes → List ℕ → ℕ → Told → Bytes
+verdictLine R fragment log from t =
     pick (eqb (t .number) 0) (acceptedLine (t .peak) (t .ended) (t .main) (t .alt))
     (pick (eqb (t .number) 3) (malformedLine (t .offset) (display fragment fragment (t .offset) 0))
     (pick (eqb (t .rows) 0) (refusalLine [] (t .number) (t .first) (t .second) [])
     (refusalLine (text "     ^ ") (t .number) (t .first) (t .second)
-    (pick (eqb (t .number) 12) (arms fragment log from (t .rows - 1)) []))))
+    (pick (eqb (t .number) 12) (arms R fragment log from (t .rows - 1)) []))))

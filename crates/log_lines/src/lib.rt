@@ -1,11 +1,13 @@
 // The lines that `stacklog` prints around the rows, each written into lent bytes, and the function that does it says which
 // line it is. A text is written from an index on; the answer is the index after it. Each line is of at most 256 bytes, and is
-// written from the start on.
+// written from the start on. Conditionals go by the classes of lent rows: a line is the same beside whatever options.
 ghost use mathlib.Core.List.{[]};
 ghost use mathlib.Core.Path.{_≡_};
 ghost use Prim.Native.Nat.{_+_, _-_, _*_, _≤_};
 ghost use lib.ListN.{length};
 ghost use Rattle.definition.specs.Lines.{text};
+ghost use Rattle.definition.specs.Maps.{Options, rulesBy};
+ghost use Rattle.opcodes.specs.View.{GoodRows};
 ghost use Rattle.text.specs.View.{Written};
 ghost use Rattle.log_lines.specs.Log.{startLine, start, ending, acceptedLine, refusal, refusalLine, headerLine, dispatchLine, malformedLine};
 ghost use Rattle.log_lines.specs.Log.{opener, otherMain, arms, verdictLine};
@@ -45,9 +47,9 @@ pub fn write_head(out: &mut [u8], paper: &[u8], k: usize) -> usize
     ensures short { λ r. ⌜ r ≤ 256 ⌝ }
 {
     let entries = header::field(paper, 0) as usize;
-    let size = header::fragment_bytes(paper, k).len();
-    let main = header::fragment_main(paper, k);
-    let alt = header::fragment_alt(paper, k);
+    let size = fragments::fragment_bytes(paper, k).len();
+    let main = fragments::fragment_main(paper, k);
+    let alt = fragments::fragment_alt(paper, k);
     write_start(out, entries, k, size, main, alt)
 }
 
@@ -150,9 +152,14 @@ fn write_malformed(out: &mut [u8], offset: usize, bytes: &[u8]) -> usize
 }
 
 // The row of the ELSE, or where there is none the IF, of the conditional that is open behind `count` rows from row `from` on.
-fn opener(fragment: &[u8], log: &[u16], from: usize, count: usize) -> usize
+fn opener(fragment: &[u8], log: &[u16], classes: &[u8], from: usize, count: usize) -> usize
     requires { ⌜ 3 * (from + count) ≤ length (now log) ⌝ }
-    ensures same { λ r. ⌜ r ≡ opener (now (fragment .entry)) (now (log .entry)) from count 0 ⌝ }
+    requires { ⌜ GoodRows (now classes) ⌝ }
+    ensures same { λ r.
+        ⌜
+        ((options : Options)
+        → r ≡ opener (rulesBy (now (classes .entry)) options) (now (fragment .entry)) (now (log .entry)) from count 0)
+        ⌝ }
     ensures within { λ r. ⌜ r ≤ from + count ⌝ }
 {
     let mut n = count;
@@ -160,12 +167,12 @@ fn opener(fragment: &[u8], log: &[u16], from: usize, count: usize) -> usize
     while n > 0 {
         n -= 1;
         let row = from + n;
-        let opcode = log_rows::opcode_at(fragment, log, row);
-        if opcode == 0x68 {
+        let class = log_rows::class_of_row(fragment, log, classes, row);
+        if class == opcodes::ENDIF {
             inner += 1;
             continue;
         }
-        if log_rows::is_if(opcode) {
+        if log_rows::is_if(class) {
             if inner == 0 {
                 return row;
             }
@@ -173,7 +180,7 @@ fn opener(fragment: &[u8], log: &[u16], from: usize, count: usize) -> usize
             continue;
         }
         if inner == 0 {
-            if opcode == 0x67 {
+            if class == opcodes::ELSE {
                 return row;
             }
         }
@@ -182,12 +189,17 @@ fn opener(fragment: &[u8], log: &[u16], from: usize, count: usize) -> usize
 }
 
 // The main height of the other arm.
-fn other_main(fragment: &[u8], log: &[u16], row: usize) -> u32
+fn other_main(fragment: &[u8], log: &[u16], classes: &[u8], row: usize) -> u32
     requires { ⌜ 3 * row + 3 ≤ length (now log) ⌝ }
-    ensures { λ r. ⌜ r ≡ otherMain (now (fragment .entry)) (now (log .entry)) row ⌝ }
+    requires { ⌜ GoodRows (now classes) ⌝ }
+    ensures { λ r.
+        ⌜
+        ((options : Options)
+        → r ≡ otherMain (rulesBy (now (classes .entry)) options) (now (fragment .entry)) (now (log .entry)) row)
+        ⌝ }
 {
     let main = log_rows::main_at(log, row);
-    if log_rows::is_if(log_rows::opcode_at(fragment, log, row)) {
+    if log_rows::is_if(log_rows::class_of_row(fragment, log, classes, row)) {
         if main == 0 {
             return 0;
         }
@@ -202,30 +214,33 @@ fn write_arms(
     at: usize,
     fragment: &[u8],
     log: &[u16],
+    classes: &[u8],
     from: usize,
     count: usize,
 ) -> usize
     requires { ⌜ (at + 120 ≤ length (now out)) × (3 * (from + count) + 3 ≤ length (now log)) ⌝ }
+    requires { ⌜ GoodRows (now classes) ⌝ }
     ensures same { λ r.
         ⌜
-        Written
+        ((options : Options)
+        → Written
         (now (out .entry))
         at
-        (arms (now (fragment .entry)) (now (log .entry)) from count)
+        (arms (rulesBy (now (classes .entry)) options) (now (fragment .entry)) (now (log .entry)) from count)
         (now (out .exit))
-        r
+        r)
         ⌝ }
     ensures short { λ r. ⌜ r ≤ at + 120 ⌝ }
 {
     let last = from + count;
-    let other = opener(fragment, log, from, count);
+    let other = opener(fragment, log, classes, from, count);
     let a = text::write_labelled(out, at, b": main ", log_rows::main_at(log, last) as u64);
     let b = text::write_labelled(out, a, b" alt ", log_rows::alt_at(log, last) as u64);
     let c = text::write_labelled(
         out,
         b,
         b" against main ",
-        other_main(fragment, log, other) as u64,
+        other_main(fragment, log, classes, other) as u64,
     );
     text::write_labelled(out, c, b" alt ", log_rows::alt_at(log, other) as u64)
 }
@@ -235,15 +250,18 @@ fn write_differ(
     out: &mut [u8],
     fragment: &[u8],
     log: &[u16],
+    classes: &[u8],
     from: usize,
     count: usize,
     first: u64,
     second: u64,
 ) -> usize
     requires { ⌜ (256 ≤ length (now out)) × (3 * (from + count) + 3 ≤ length (now log)) ⌝ }
+    requires { ⌜ GoodRows (now classes) ⌝ }
     ensures same { λ r.
         ⌜
-        Written
+        ((options : Options)
+        → Written
         (now (out .entry))
         0
         (refusalLine
@@ -251,29 +269,38 @@ fn write_differ(
         12
         first
         second
-        (arms (now (fragment .entry)) (now (log .entry)) from count))
+        (arms (rulesBy (now (classes .entry)) options) (now (fragment .entry)) (now (log .entry)) from count))
         (now (out .exit))
-        r
+        r)
         ⌝ }
     ensures short { λ r. ⌜ r ≤ 256 ⌝ }
 {
     let a = text::write_word(out, 0, b"     ^ ");
     let b = write_refusal(out, a, 12, first, second);
-    let c = write_arms(out, b, fragment, log, from, count);
+    let c = write_arms(out, b, fragment, log, classes, from, count);
     text::write_word(out, c, b"\n")
 }
 
 // The line after the rows of a fragment, the first of them row `from`: 1 to 4 come before any row.
-pub fn write_verdict(out: &mut [u8], fragment: &[u8], log: &[u16], from: usize, t: Told) -> usize
+pub fn write_verdict(
+    out: &mut [u8],
+    fragment: &[u8],
+    log: &[u16],
+    classes: &[u8],
+    from: usize,
+    t: Told,
+) -> usize
     requires { ⌜ (256 ≤ length (now out)) × (3 * (from + t .rows) ≤ length (now log)) ⌝ }
+    requires { ⌜ GoodRows (now classes) ⌝ }
     ensures same { λ r.
         ⌜
-        Written
+        ((options : Options)
+        → Written
         (now (out .entry))
         0
-        (verdictLine (now (fragment .entry)) (now (log .entry)) from t)
+        (verdictLine (rulesBy (now (classes .entry)) options) (now (fragment .entry)) (now (log .entry)) from t)
         (now (out .exit))
-        r
+        r)
         ⌝ }
     ensures short { λ r. ⌜ r ≤ 256 ⌝ }
 {
@@ -288,7 +315,16 @@ pub fn write_verdict(out: &mut [u8], fragment: &[u8], log: &[u16], from: usize, 
         return write_refusal_line(out, b"", t.number, t.first, t.second);
     }
     if t.number == 12 {
-        return write_differ(out, fragment, log, from, t.rows - 1, t.first, t.second);
+        return write_differ(
+            out,
+            fragment,
+            log,
+            classes,
+            from,
+            t.rows - 1,
+            t.first,
+            t.second,
+        );
     }
     write_refusal_line(out, b"     ^ ", t.number, t.first, t.second)
 }

@@ -9,7 +9,7 @@ use Rattle.definition.specs.Basics.{Bytes}
 use Rattle.definition.specs.Papers.{fragments, PaperMarked, markFrom}
 use Rattle.definition.specs.Papers as P
 use Rattle.definition.specs.Refusals.{answer, accepted}
-use Rattle.definition.specs.Stacks.{builtIn}
+use Rattle.definition.specs.Stacks.{Rules}
 use Rattle.definition.specs.Walk.{Arm, dead, live}
 use Rattle.definition.specs.Walk as W
 use Rattle.stack_analysis.specs.View.{summarized}
@@ -46,22 +46,22 @@ rows-more [] t = omega arith
 rows-more (u ∷ ts) t = omega (arith, rows-more ts t)
 
 -- the fragments before k are accepted, and what is told of them stands in `told`
-pub record Collecting (p : Bytes) (lent : List ℕ) (k rows : ℕ) (log : List ℕ) (told : List Told) : Type 0 where
+pub record Collecting (R : Rules) (p : Bytes) (lent : List ℕ) (k rows : ℕ) (log : List ℕ) (told : List Told) : Type 0 where
   pub peak : ℕ
-  pub marking : Marking p lent k rows peak log
+  pub marking : Marking R p lent k rows peak log
   pub verdicts : List W.Verdict
-  pub marked : markFrom builtIn 0 0 0 (fragments p) lent .verdicts
-      ≡ verdicts ++ markFrom builtIn k rows peak (drop k (fragments p)) log .verdicts
+  pub marked : markFrom R 0 0 0 (fragments p) lent .verdicts
+      ≡ verdicts ++ markFrom R k rows peak (drop k (fragments p)) log .verdicts
   pub holds : take k told ≡ allTold verdicts
   pub sum : rowsOf (allTold verdicts) ≡ rows
   pub few : rows ≤ 10000 * k
   pub whole : length told ≡ 33
 
-module _ (p : Bytes) (lent : List ℕ) where
-  pub collecting-none : (t : Told) → Collecting p lent 0 0 lent (replicate 33 t)
+module _ (R : Rules) (p : Bytes) (lent : List ℕ) where
+  pub collecting-none : (t : Told) → Collecting R p lent 0 0 lent (replicate 33 t)
   collecting-none t = record {
     peak = 0;
-    marking = marking-none p lent;
+    marking = marking-none R p lent;
     verdicts = [];
     marked = refl;
     holds = refl;
@@ -70,26 +70,26 @@ module _ (p : Bytes) (lent : List ℕ) where
     whole = refl;
   }
 
-  module _ (k rows : ℕ) (log : List ℕ) (ts : List Told) (i : Collecting p lent k rows log ts) where
+  module _ (k rows : ℕ) (log : List ℕ) (ts : List Told) (i : Collecting R p lent k rows log ts) where
     -- nothing follows: all verdicts are those collected
-    ended : markFrom builtIn k rows (i .peak) (drop k (fragments p)) log .verdicts ≡ []
-        → markFrom builtIn 0 0 0 (fragments p) lent .verdicts ≡ i .verdicts
+    ended : markFrom R k rows (i .peak) (drop k (fragments p)) log .verdicts ≡ []
+        → markFrom R 0 0 0 (fragments p) lent .verdicts ≡ i .verdicts
     ended e = i .marked ∙ ap (λ (vs : List W.Verdict). i .verdicts ++ vs) e ∙ append-nil (i .verdicts)
 
     pub collecting-end : length (fragments p) ≤ k → k ≤ 33 → (none : Told)
         → none ≡ toldOf (record { answer = accepted; rows = 0; peak = 0; end = dead })
-        → Holds (markFrom builtIn 0 0 0 (fragments p) lent) (record { entry = 0; last = none; count = k; told = ts }) log
+        → Holds (markFrom R 0 0 0 (fragments p) lent) (record { entry = 0; last = none; count = k; told = ts }) log
     unfolding markFrom refusedTold toldOf
     collecting-end h l none z =
         let e : drop k (fragments p) ≡ [] = drop-of-length-le (fragments p) h in
-        let m : PaperMarked = markFrom builtIn 0 0 0 (fragments p) lent in
-        let vs : m .verdicts ≡ i .verdicts = ended (ap (λ fs. markFrom builtIn k rows (i .peak) fs log .verdicts) e) in
+        let m : PaperMarked = markFrom R 0 0 0 (fragments p) lent in
+        let vs : m .verdicts ≡ i .verdicts = ended (ap (λ fs. markFrom R k rows (i .peak) fs log .verdicts) e) in
         let q : m .paper ≡ record { entry = 0; verdict = record { answer = accepted; rows = rows; peak = i .peak; end = dead } } =
-        i .marking .paper ∙ ap (λ fs. markFrom builtIn k rows (i .peak) fs log .paper) e in
+        i .marking .paper ∙ ap (λ fs. markFrom R k rows (i .peak) fs log .paper) e in
         let r : rowsOf (allTold (m .verdicts)) ≡ rows = ap (λ (x : List W.Verdict). rowsOf (allTold x)) vs ∙ i .sum in
         let n : 0 ≡ m .paper .verdict .rows - rowsOf (allTold (m .verdicts)) = omega (arith, ap (λ (x : P.PaperVerdict). x .verdict .rows) q, r) in
         record {
-          logged = sym (i .marking .logged ∙ ap (λ fs. markFrom builtIn k rows (i .peak) fs log .log) e);
+          logged = sym (i .marking .logged ∙ ap (λ fs. markFrom R k rows (i .peak) fs log .log) e);
           accepted = i .holds ∙ ap allTold (sym vs);
           entry = sym (ap (λ (x : P.PaperVerdict). x .entry) q);
           last = z
@@ -101,10 +101,10 @@ module _ (p : Bytes) (lent : List ℕ) where
           room = omega (arith, r, i .marking .room, ap (λ (x : Told). x .rows) z);
         }
 
-    module _ (more : k < length (fragments p)) (v : Summary) (new : List ℕ) (m : Marks (fragmentAnalysis p k rows log) (3 * rows) log v new)
+    module _ (more : k < length (fragments p)) (v : Summary) (new : List ℕ) (m : Marks (fragmentAnalysis R p k rows log) (3 * rows) log v new)
         (t : Told) (n : t ≡ numbersOf v) where
-      t-is : t ≡ toldOf (fragmentAnalysis p k rows log .verdict)
-      t-is = n ∙ numbers-told (fragmentAnalysis p k rows log .verdict) v (m .same)
+      t-is : t ≡ toldOf (fragmentAnalysis R p k rows log .verdict)
+      t-is = n ∙ numbers-told (fragmentAnalysis R p k rows log .verdict) v (m .same)
 
       number-is : t .number ≡ v .number
       unfolding numbersOf
@@ -119,23 +119,23 @@ module _ (p : Bytes) (lent : List ℕ) where
       rows-few = omega (
         arith,
         ap (λ (x : Told). x .rows) t-is,
-        analysis-few builtIn (fragmentAt p k .bytes) (fragmentAt p k .main) (fragmentAt p k .alt) (drop (3 * rows) log),
+        analysis-few R (fragmentAt p k .bytes) (fragmentAt p k .main) (fragmentAt p k .alt) (drop (3 * rows) log),
       )
 
-      pub collecting-more : k < 33 → length new ≡ length log → t .number ≡ 0 → Collecting p lent (k + 1) (rows + t .rows) new (set ts k t)
+      pub collecting-more : k < 33 → length new ≡ length log → t .number ≡ 0 → Collecting R p lent (k + 1) (rows + t .rows) new (set ts k t)
       collecting-more h l z =
-          let w : W.Verdict = fragmentAnalysis p k rows log .verdict in
+          let w : W.Verdict = fragmentAnalysis R p k rows log .verdict in
           let next : ℕ = max (i .peak) (v .peak) in
           let zv : v .number ≡ 0 = sym number-is ∙ z in
           let e : suc k ≡ k + 1 = omega arith in
-          let rest : List W.Verdict = markFrom builtIn (k + 1) (rows + v .rows) next (drop (k + 1) (fragments p)) new .verdicts in
-          let o : markFrom builtIn k rows (i .peak) (drop k (fragments p)) log .verdicts ≡ w ∷ rest =
-          sym (ap (λ (x : PaperMarked). x .verdicts) (onto p lent k rows (i .peak) log (i .marking) more v new m zv next refl)) in
+          let rest : List W.Verdict = markFrom R (k + 1) (rows + v .rows) next (drop (k + 1) (fragments p)) new .verdicts in
+          let o : markFrom R k rows (i .peak) (drop k (fragments p)) log .verdicts ≡ w ∷ rest =
+          sym (ap (λ (x : PaperMarked). x .verdicts) (onto R p lent k rows (i .peak) log (i .marking) more v new m zv next refl)) in
           let a : allTold (i .verdicts ++ (w ∷ [])) ≡ take k ts ++ (t ∷ []) =
           told-more (i .verdicts) w ∙ ap (λ (x : List Told). x ++ (toldOf w ∷ [])) (sym (i .holds)) ∙ ap (λ (x : Told). take k ts ++ (x ∷ [])) (sym t-is) in
-          subst (λ x. Collecting p lent (k + 1) (rows + x) new (set ts k t)) (sym rows-is) (record {
+          subst (λ x. Collecting R p lent (k + 1) (rows + x) new (set ts k t)) (sym rows-is) (record {
             peak = next;
-            marking = marking-more p lent k rows (i .peak) log (i .marking) more v new m l zv next refl;
+            marking = marking-more R p lent k rows (i .peak) log (i .marking) more v new m l zv next refl;
             verdicts = i .verdicts ++ (w ∷ []);
             marked = i .marked ∙ ap (λ (vs : List W.Verdict). i .verdicts ++ vs) o ∙ sym (append-assoc (i .verdicts) (w ∷ []) rest);
             holds = ap (λ x. take x (set ts k t)) (sym e) ∙ take-suc-set ts k t (omega (arith, h, i .whole)) ∙ sym a;
@@ -146,13 +146,13 @@ module _ (p : Bytes) (lent : List ℕ) where
 
       pub collecting-stops : k < 33 → length new ≡ length log → (t .number ≡ 0 → ⊥) → (last : Told)
           → last ≡ toldOf (record { answer = answer (t .number) (t .offset) (t .first) (t .second); rows = t .rows; peak = 0; end = dead })
-          → Holds (markFrom builtIn 0 0 0 (fragments p) lent) (record { entry = k; last = last; count = k; told = ts }) new
+          → Holds (markFrom R 0 0 0 (fragments p) lent) (record { entry = k; last = last; count = k; told = ts }) new
       unfolding refusedTold toldOf
       collecting-stops h l z last q =
-          let w : W.Verdict = fragmentAnalysis p k rows log .verdict in
-          let M : PaperMarked = markFrom builtIn 0 0 0 (fragments p) lent in
+          let w : W.Verdict = fragmentAnalysis R p k rows log .verdict in
+          let M : PaperMarked = markFrom R 0 0 0 (fragments p) lent in
           let zv : v .number ≡ 0 → ⊥ = λ y. z (number-is ∙ y) in
-          let g = told p lent k rows (i .peak) log (i .marking) more v new m zv in
+          let g = told R p lent k rows (i .peak) log (i .marking) more v new m zv in
           let vs : M .verdicts ≡ i .verdicts = ended (ap (λ (x : PaperMarked). x .verdicts) g) in
           let b : M .paper ≡ record { entry = k; verdict = record { answer = w .answer; rows = rows + w .rows; peak = 0; end = dead } } =
           i .marking .paper ∙ ap (λ (x : PaperMarked). x .paper) g in

@@ -2,15 +2,18 @@
 ghost use mathlib.Core.Path.{_≡_};
 ghost use Prim.Native.Nat.{_≤_};
 ghost use lib.ListN.{length};
+ghost use Rattle.definition.specs.Maps.{rulesBy};
 ghost use Rattle.definition.specs.Papers.{fragments, markFrom, markPaper};
 ghost use Rattle.definition.specs.Refusals.{answer};
-ghost use Rattle.definition.specs.Stacks.{builtIn};
 ghost use Rattle.definition.specs.Walk.{dead};
+ghost use Rattle.opcodes.specs.View.{GoodRows};
+ghost use Rattle.walk.specs.Runs.{optionsOf};
 ghost use Rattle.log_lines.specs.Log.{toldOf};
 ghost use Rattle.log_marks.specs.View.{numbersOf, Holds};
 use header::Dispatch;
 use log_lines::Told;
 use stack_analysis::Summary;
+use walk::Options;
 
 // What is told of a paper: the fragments accepted, `count` of them, the first in `told`; the entry that the paper's verdict is
 // about; and the fragment or the paper that was refused, all 0 where none was.
@@ -60,12 +63,13 @@ fn refusal(number: u32, offset: usize, first: u64, second: u64, rows: usize) -> 
 }
 
 // All fragments, each marked in its order with its rows in the log.
-fn mark_fragments(paper: &[u8], log: &mut [u16]) -> Marked
+fn mark_fragments(paper: &[u8], classes: &[u8], options: Options, log: &mut [u16]) -> Marked
     requires { ⌜ length (fragments (now paper)) ≤ 33 ⌝ }
+    requires { ⌜ (GoodRows (now classes)) × (options .limit ≤ 244) ⌝ }
     ensures { λ r.
         ⌜
         Holds
-        (markFrom builtIn 0 0 0 (fragments (now (paper .entry))) (now (log .entry)))
+        (markFrom (rulesBy (now (classes .entry)) (optionsOf options)) 0 0 0 (fragments (now (paper .entry))) (now (log .entry)))
         r
         (now (log .exit))
         ⌝ }
@@ -76,7 +80,7 @@ fn mark_fragments(paper: &[u8], log: &mut [u16]) -> Marked
     let mut k: usize = 0;
     let mut rows: usize = 0;
     while k < count {
-        let v = paper::mark_fragment(paper, k, rows, log);
+        let v = paper::mark_fragment_rows(paper, k, rows, classes, options, log);
         let t = told_of(v);
         if t.number != 0 {
             let last = refusal(t.number, t.offset, t.first, t.second, t.rows);
@@ -100,7 +104,7 @@ fn mark_fragments(paper: &[u8], log: &mut [u16]) -> Marked
 }
 
 // A refusal of the paper itself.
-fn refused(entry: usize, number: u32, first: u64, second: u64) -> Marked
+pub fn refused(entry: usize, number: u32, first: u64, second: u64) -> Marked
     ensures { λ r.
         ⌜
         (r .entry ≡ entry)
@@ -118,19 +122,27 @@ fn refused(entry: usize, number: u32, first: u64, second: u64) -> Marked
     }
 }
 
-// Marks a paper: 21, 19, the dispatch check of each entry, the bodies in order, then the initialiser.
-pub fn mark(paper: &[u8], log: &mut [u16]) -> Marked
-    ensures { λ r. ⌜ Holds (markPaper builtIn (now (paper .entry)) (now (log .entry))) r (now (log .exit)) ⌝ }
+// Marks a paper by the classes of lent rows: 21, 19, the dispatch check of each entry, the bodies in order, then the initialiser.
+pub fn mark_rows(paper: &[u8], classes: &[u8], options: Options, log: &mut [u16]) -> Marked
+    requires { ⌜ (GoodRows (now classes)) × (options .limit ≤ 244) ⌝ }
+    ensures { λ r.
+        ⌜
+        Holds
+        (markPaper (rulesBy (now (classes .entry)) (optionsOf options)) (now (paper .entry)) (now (log .entry)))
+        r
+        (now (log .exit))
+        ⌝ }
 {
     if paper.len() > 8000 {
         return refused(0, 21, paper.len() as u64, 8000);
     }
-    if !header::header_ok(paper) {
+    if !good_header::header_ok(paper) {
         return refused(0, 19, 0, 0);
     }
-    let d = header::dispatch_check(paper);
+    let limit = options.limit;
+    let d = header::dispatch_check(paper, limit);
     match d {
-        Dispatch::Over { entry, sum } => refused(entry, 20, sum as u64, 244),
-        Dispatch::Fits => mark_fragments(paper, log),
+        Dispatch::Over { entry, sum } => refused(entry, 20, sum as u64, limit as u64),
+        Dispatch::Fits => mark_fragments(paper, classes, options, log),
     }
 }

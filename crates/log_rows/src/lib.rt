@@ -1,13 +1,21 @@
 // The rows of the log as `stacklog` prints them, each written into lent bytes, and the function that does it says which row it
-// is. A text is written from an index on; the answer is the index after it.
+// is. A text is written from an index on; the answer is the index after it. Conditionals go by the classes of lent rows: a row is
+// the same beside whatever options.
 ghost use mathlib.Core.List.{[], _∷_};
 ghost use mathlib.Core.Path.{_≡_};
 ghost use Prim.Native.Nat.{_+_, _-_, _*_, _≤_, _<_, min, max};
+ghost use lib.Dec.{T};
 ghost use lib.ListN.{length, take, getD, replicate};
+ghost use Rattle.definition.specs.Classes.{classAt};
 ghost use Rattle.definition.specs.Lines.{decimal};
+ghost use Rattle.definition.specs.Maps.{Options, rulesBy};
+ghost use Rattle.opcodes.specs.View.{GoodRows};
 ghost use Rattle.text.specs.View.{Written};
+ghost use Rattle.names.specs.Tables.{allLetters, startsRight};
 ghost use Rattle.log_rows.specs.Rows.{mainAt, altAt, opcodeAt, totalOf, scaleOf, column, filled, bar, hex, instruction};
+ghost use Rattle.log_rows.specs.Rows.{bytesField, shownData, word, indented};
 ghost use Rattle.log_rows.specs.Rows.{deadHeights, liveHeights, heights, isIf, depthAfter, indent, heading, rowLine, row};
+use decode::Decoded;
 
 // A byte so many times.
 fn write_same(out: &mut [u8], at: usize, byte: u8, count: usize) -> usize
@@ -111,7 +119,7 @@ fn write_hex(out: &mut [u8], at: usize, bytes: &[u8], count: usize) -> usize
     next
 }
 
-// An instruction: at most 4 bytes of it.
+// The bytes of an instruction: at most 4 of them.
 pub fn write_instruction(out: &mut [u8], at: usize, bytes: &[u8]) -> usize
     requires { ⌜ at + 15 ≤ length (now out) ⌝ }
     ensures same { λ r. ⌜ Written (now (out .entry)) at (instruction (now (bytes .entry))) (now (out .exit)) r ⌝ }
@@ -122,6 +130,85 @@ pub fn write_instruction(out: &mut [u8], at: usize, bytes: &[u8]) -> usize
         return text::write_word(out, next, b" ..");
     }
     write_hex(out, at, bytes, bytes.len())
+}
+
+// The bytes of an instruction in a field of 12 columns.
+fn write_bytes_field(out: &mut [u8], at: usize, bytes: &[u8]) -> usize
+    requires { ⌜ at + 12 ≤ length (now out) ⌝ }
+    ensures same { λ r. ⌜ Written (now (out .entry)) at (bytesField (now (bytes .entry))) (now (out .exit)) r ⌝ }
+    ensures ends { λ r. ⌜ r ≡ at + 12 ⌝ }
+{
+    let size = bytes.len();
+    if size > 4 {
+        let next = write_hex(out, at, bytes, 3);
+        return text::write_word(out, next, b" ..");
+    }
+    let next = write_hex(out, at, bytes, size);
+    write_same(out, next, b' ', 12 - 3 * size)
+}
+
+// The word of data, of more than 8 bytes the first 6.
+fn write_shown_data(out: &mut [u8], at: usize, bytes: &[u8]) -> usize
+    requires { ⌜ at + 18 ≤ length (now out) ⌝ }
+    ensures same { λ r. ⌜ Written (now (out .entry)) at (shownData (now (bytes .entry))) (now (out .exit)) r ⌝ }
+    ensures short { λ r. ⌜ r ≤ at + 18 ⌝ }
+{
+    if bytes.len() > 8 {
+        let a = text::write_word(out, at, b"<");
+        let b = listing::write_hex_bytes(out, a, &bytes[..6]);
+        return text::write_word(out, b, b"..>");
+    }
+    listing::write_data_word(out, at, bytes)
+}
+
+// The word of an instruction, by its bytes.
+fn write_word(out: &mut [u8], at: usize, bytes: &[u8], letters: &[u8], starts: &[u16]) -> usize
+    requires { ⌜ now letters ≡ allLetters ⌝ }
+    requires { ⌜ T (startsRight (now starts)) ⌝ }
+    requires { ⌜ at + 26 ≤ length (now out) ⌝ }
+    ensures same { λ r. ⌜ Written (now (out .entry)) at (word (now (bytes .entry))) (now (out .exit)) r ⌝ }
+    ensures short { λ r. ⌜ r ≤ at + 26 ⌝ }
+{
+    match decode::decode_at(bytes, 0) {
+        Decoded::At(i) => {
+            let opcode = i.opcode;
+            let next = i.next;
+            if opcode > 0x4e {
+                return listing::write_code_word(out, at, opcode, letters, starts);
+            }
+            let start = 1 + listing::length_bytes(opcode);
+            return write_shown_data(out, at, &bytes[start..next]);
+        }
+        Decoded::End => {
+            return at;
+        }
+        Decoded::Malformed(_) => {
+            return at;
+        }
+    }
+}
+
+fn smaller(a: usize, b: usize) -> usize
+    ensures same { λ r. ⌜ r ≡ min a b ⌝ }
+{
+    if a < b {
+        return a;
+    }
+    b
+}
+
+// The word of an instruction so far to the right, as 26 columns allow.
+fn write_indented(out: &mut [u8], at: usize, right: usize, bytes: &[u8]) -> usize
+    requires { ⌜ at + 26 ≤ length (now out) ⌝ }
+    ensures same { λ r. ⌜ Written (now (out .entry)) at (indented right (word (now (bytes .entry)))) (now (out .exit)) r ⌝ }
+    ensures short { λ r. ⌜ r ≤ at + 26 ⌝ }
+{
+    let letters = names::all_letters();
+    let starts = names::all_starts();
+    let mut line = [0u8; 26];
+    let size = write_word(&mut line, 0, bytes, &letters, &starts);
+    let next = write_same(out, at, b' ', smaller(right, 26 - size));
+    text::write_word(out, next, &line[..size])
 }
 
 // The heights of a dead arm.
@@ -174,7 +261,7 @@ fn write_row_line(
 ) -> usize
     requires { ⌜ (81 ≤ length (now out)) × ((main ≤ 65535) × (alt ≤ 65535)) ⌝ }
     requires { ⌜ (1 ≤ scale) × (totalOf main alt ≤ scale) ⌝ }
-    requires { ⌜ (offset ≤ 65535) × (right ≤ 24) ⌝ }
+    requires { ⌜ offset ≤ 65535 ⌝ }
     ensures same { λ r.
         ⌜
         Written
@@ -188,58 +275,49 @@ fn write_row_line(
 {
     let a = write_column(out, 0, 6, offset as u64);
     let b = write_heights(out, a, scale, main, alt);
-    let c = write_same(out, b, b' ', right);
-    let d = write_instruction(out, c, bytes);
-    text::write_word(out, d, b"\n")
+    let c = write_bytes_field(out, b, bytes);
+    let d = text::write_word(out, c, b" ");
+    let e = write_indented(out, d, right, bytes);
+    text::write_word(out, e, b"\n")
 }
 
-// Whether an opcode is IF or NOTIF.
-pub fn is_if(opcode: u8) -> bool
-    ensures { λ r. ⌜ r ≡ isIf opcode ⌝ }
+// Whether a class is IF or NOTIF.
+pub fn is_if(class: u8) -> bool
+    ensures { λ r. ⌜ r ≡ isIf (classAt class) ⌝ }
 {
-    if opcode == 0x63 {
+    if class == opcodes::IF {
         return true;
     }
-    opcode == 0x64
+    class == opcodes::NOTIF
 }
 
-// How many conditionals are open behind an instruction.
-pub fn depth_after(opcode: u8, depth: usize) -> usize
+// How many conditionals are open behind an instruction of this class.
+pub fn depth_after(class: u8, depth: usize) -> usize
     requires { ⌜ depth < 4294967296 ⌝ }
-    ensures same { λ r. ⌜ r ≡ depthAfter opcode depth ⌝ }
+    ensures same { λ r. ⌜ r ≡ depthAfter (classAt class) depth ⌝ }
     ensures near { λ r. ⌜ r ≤ depth + 1 ⌝ }
 {
-    if is_if(opcode) {
+    if is_if(class) {
         return depth + 1;
     }
-    if opcode == 0x68 {
+    if class == opcodes::ENDIF {
         return left_of(depth, 1);
     }
     depth
 }
 
-// At most 24.
-fn at_most_24(n: usize) -> usize
-    ensures same { λ r. ⌜ r ≡ min 24 n ⌝ }
+// How far the word of an instruction of this class stands to the right.
+fn indent(class: u8, depth: usize) -> usize
+    ensures { λ r. ⌜ r ≡ indent (classAt class) depth ⌝ }
 {
-    if n < 24 {
-        return n;
+    let less = left_of(depth, 1);
+    if class == opcodes::ELSE {
+        return less;
     }
-    24
-}
-
-// How far an instruction stands to the right.
-fn indent(opcode: u8, depth: usize) -> usize
-    ensures same { λ r. ⌜ r ≡ indent opcode depth ⌝ }
-    ensures short { λ r. ⌜ r ≤ 24 ⌝ }
-{
-    if opcode == 0x67 {
-        return at_most_24(left_of(depth, 1));
+    if class == opcodes::ENDIF {
+        return less;
     }
-    if opcode == 0x68 {
-        return at_most_24(left_of(depth, 1));
-    }
-    at_most_24(depth)
+    depth
 }
 
 fn wide(x: u16) -> u32
@@ -259,12 +337,21 @@ fn byte_at(bytes: &[u8], at: usize) -> u8
 }
 
 // The opcode of row j of the log.
-pub fn opcode_at(fragment: &[u8], log: &[u16], j: usize) -> u8
+fn opcode_at(fragment: &[u8], log: &[u16], j: usize) -> u8
     requires { ⌜ 3 * j + 3 ≤ length (now log) ⌝ }
     ensures { λ r. ⌜ r ≡ opcodeAt (now (fragment .entry)) (now (log .entry)) j ⌝ }
 {
     let at = wide(log[3 * j]);
     byte_at(fragment, at as usize)
+}
+
+// The class of row j of the log, out of lent rows.
+pub fn class_of_row(fragment: &[u8], log: &[u16], classes: &[u8], j: usize) -> u8
+    requires { ⌜ 3 * j + 3 ≤ length (now log) ⌝ }
+    requires { ⌜ GoodRows (now classes) ⌝ }
+    ensures { λ r. ⌜ r ≡ getD (now (classes .entry)) (opcodeAt (now (fragment .entry)) (now (log .entry)) j) 0 ⌝ }
+{
+    opcodes::class_in(classes, opcode_at(fragment, log, j))
 }
 
 // The heights of row j of the log.
@@ -289,27 +376,30 @@ pub fn write_row(
     out: &mut [u8],
     fragment: &[u8],
     log: &[u16],
+    classes: &[u8],
     scale: u32,
     depth: usize,
     j: usize,
 ) -> usize
     requires { ⌜ (81 ≤ length (now out)) × (3 * j + 3 ≤ length (now log)) ⌝ }
     requires { ⌜ (1 ≤ scale) × (totalOf (mainAt (now log) j) (altAt (now log) j) ≤ scale) ⌝ }
+    requires { ⌜ GoodRows (now classes) ⌝ }
     ensures same { λ r.
         ⌜
-        Written
+        ((options : Options)
+        → Written
         (now (out .entry))
         0
-        (row (now (fragment .entry)) (now (log .entry)) scale depth j)
+        (row (rulesBy (now (classes .entry)) options) (now (fragment .entry)) (now (log .entry)) scale depth j)
         (now (out .exit))
-        r
+        r)
         ⌝ }
     ensures short { λ r. ⌜ r ≤ 81 ⌝ }
 {
     let offset = wide(log[3 * j]);
     let main = main_at(log, j);
     let alt = alt_at(log, j);
-    let right = indent(byte_at(fragment, offset as usize), depth);
+    let right = indent(class_of_row(fragment, log, classes, j), depth);
     let bytes = display::display(fragment, fragment, offset as usize, 0);
     write_row_line(out, scale, offset, main, alt, right, bytes)
 }
@@ -323,7 +413,7 @@ pub fn write_heading(out: &mut [u8], scale: u32) -> usize
     let a = text::write_word(out, 0, b"offset main  alt total |");
     let b = text::write_labelled(out, a, b"of ", scale as u64);
     let c = write_same(out, b, b' ', left_of(16, 3 + digits(scale as u64)));
-    text::write_word(out, c, b"| bytes\n")
+    text::write_word(out, c, b"| bytes       instruction\n")
 }
 
 // The total of heights.

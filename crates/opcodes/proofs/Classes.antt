@@ -1,6 +1,7 @@
 -- What is proved of the class numbers, for a `match` on one.
 use Rattle.definition.specs.Stacks.{builtIn}
-use Rattle.opcodes.specs.View.{GoodRows, rulesBy, BuiltInRows}
+use Rattle.opcodes.specs.View.{GoodRows, BuiltInRows}
+use Rattle.definition.specs.Maps.{builtInOptions, rulesBy}
 use lib.ListN.{length, getD, List·getD-eq-default}
 use mathlib.Core.Bool.{Bool, true, false, _&&_}
 use mathlib.Core.List.{List, [], _∷_}
@@ -78,7 +79,7 @@ module _ (rows : List ℕ) (e : length rows ≡ 256) (t : T (every (λ n. eqb (g
   good-rows : GoodRows rows
   good-rows = record { size = e; below = λ code. subst (λ (n : ℕ). n < 32) (sym (row-is code)) (number-below code) }
 
-  rules-by : rulesBy rows 244 ≡ builtIn
+  rules-by : rulesBy rows builtInOptions ≡ builtIn
   unfolding classOf
   rules-by = λ i. record { classFor = λ code. classAt (row-is code i); limit = 244 }
 

@@ -12,7 +12,7 @@ use lib.Seq.{take-all}
 use Rattle.definition.specs.Basics.{Bytes}
 use Rattle.definition.specs.Decoding.{Instruction, decode, instructions, malformedAt}
 use Rattle.definition.specs.Papers.{Fragment, field, partAt, bytesOf, entries, mostParameters, fragments}
-use Rattle.definition.specs.Stacks.{Rules, Stacks, builtIn}
+use Rattle.definition.specs.Stacks.{Rules, Stacks}
 use Rattle.definition.specs.Walk.{Item, Move, moves, refuses, effect, Frame, State, met, onward, follow, atEnd, walk, answered, begin, unknowns, tested, Marked, analysisOf, analysis}
 use Rattle.stack_analysis.specs.View.{summarized}
 use Rattle.stack_analysis.specs.declared.Summary.{Summary}
@@ -88,45 +88,49 @@ module _ (log : List ℕ) (from : ℕ) where
   none-after rest = ap (λ l. rest ++ l) (drop-of-length-le (drop from log) {i = length log - from} (omega (arith, length-drop from log))) ∙ append-nil rest
 
 -- the analysis of s from there on
-module _ (s : Bytes) (main alt from : ℕ) (log : List ℕ) where
+module _ (R : Rules) (s : Bytes) (main alt from : ℕ) (log : List ℕ) where
   abbrev analysed : List ℕ → Marked
-  analysed l = analysis builtIn s main alt l
+  analysed l = analysis R s main alt l
 
   pub marks-part : (t : Bytes) (rest : List ℕ) (r : Summary) → s ≡ t → from ≤ length log
       → r ≡ summarized (analysed (take (length log - from) (drop from log)) .verdict) → rest ≡ analysed (take (length log - from) (drop from log)) .log
-      → Marks (analysis builtIn t main alt (drop from log)) from log r (take from log ++ (rest ++ drop (length log - from) (drop from log)))
+      → Marks (analysis R t main alt (drop from log)) from log r (take from log ++ (rest ++ drop (length log - from) (drop from log)))
   unfolding summarized
   marks-part t rest r q h e f =
       let e′ : r ≡ summarized (analysed (drop from log) .verdict) = e ∙ ap (λ l. summarized (analysed l .verdict)) (all-left log from) in
       let f′ : rest ≡ analysed (drop from log) .log = f ∙ ap (λ l. analysed l .log) (all-left log from) in
-      subst (λ (u : Bytes). Marks (analysis builtIn u main alt (drop from log)) from log r (take from log ++ (rest ++ drop (length log - from) (drop from log)))) q
+      subst (λ (u : Bytes). Marks (analysis R u main alt (drop from log)) from log r (take from log ++ (rest ++ drop (length log - from) (drop from log)))) q
       (record {
         same = e′;
         logged = ap (λ l. take from log ++ l) (none-after log from rest ∙ f′);
-        room = omega (arith, ap (λ (v : Summary). v .rows) e′, rows-analysis builtIn s main alt (drop from log), length-drop from log);
+        room = omega (arith, ap (λ (v : Summary). v .rows) e′, rows-analysis R s main alt (drop from log), length-drop from log);
       })
 
 -- What is promised of a fragment
 
-pub record FragmentMarks (p : Bytes) (k rows : ℕ) (log : List ℕ) (r : Summary) (new : List ℕ) : Type 0 where
-  pub same : r ≡ summarized (fragmentMarked p k rows log .verdict)
-  pub logged : new ≡ fragmentMarked p k rows log .log
+pub record FragmentMarks (R : Rules) (p : Bytes) (k rows : ℕ) (log : List ℕ) (r : Summary) (new : List ℕ) : Type 0 where
+  pub same : r ≡ summarized (fragmentMarked R p k rows log .verdict)
+  pub logged : new ≡ fragmentMarked R p k rows log .log
   pub room : 3 * rows ≤ length log → 3 * (rows + r .rows) ≤ length log
 
-module _ (p : Bytes) (k rows : ℕ) (log : List ℕ) where
+pub fragment-marks-by : {R Q : Rules} → R ≡ Q → (p : Bytes) (k rows : ℕ) (log : List ℕ) (r : Summary) (new : List ℕ) → FragmentMarks R p k rows log r new
+    → FragmentMarks Q p k rows log r new
+fragment-marks-by e p k rows log r new m = subst (λ (X : Rules). FragmentMarks X p k rows log r new) e m
+
+module _ (R : Rules) (p : Bytes) (k rows : ℕ) (log : List ℕ) where
   pub no-fragment : length (fragments p) ≤ k
-      → FragmentMarks p k rows log (record { number = 19; offset = 0; first = 0; second = 0; rows = 0; peak = 0; ended = false; main = 0; alt = 0 }) log
+      → FragmentMarks R p k rows log (record { number = 19; offset = 0; first = 0; second = 0; rows = 0; peak = 0; ended = false; main = 0; alt = 0 }) log
   unfolding fragmentMarked summarized
   no-fragment h = record { same = rw (le-ltb k (length (fragments p)) h); logged = rw (le-ltb k (length (fragments p)) h); room = λ g. omega arith }
 
   module _ (there : k < length (fragments p)) where
-    marked-there : fragmentMarked p k rows log ≡ record { verdict = fragmentAnalysis p k rows log .verdict; log = take (3 * rows) log ++ fragmentAnalysis p k rows log .log }
+    marked-there : fragmentMarked R p k rows log ≡ record { verdict = fragmentAnalysis R p k rows log .verdict; log = take (3 * rows) log ++ fragmentAnalysis R p k rows log .log }
     unfolding fragmentMarked
     marked-there = rw (lt-ltb k (length (fragments p)) there)
 
     module _ (r : Summary) (new : List ℕ) where
       -- for a caller whose rows lie within the log
-      pub fragment-marks : FragmentMarks p k rows log r new → 3 * rows ≤ length log → Marks (fragmentAnalysis p k rows log) (3 * rows) log r new
+      pub fragment-marks : FragmentMarks R p k rows log r new → 3 * rows ≤ length log → Marks (fragmentAnalysis R p k rows log) (3 * rows) log r new
       fragment-marks m h = record {
         same = m .same ∙ ap (λ (x : Marked). summarized (x .verdict)) marked-there;
         logged = m .logged ∙ ap (λ (x : Marked). x .log) marked-there;
@@ -134,11 +138,11 @@ module _ (p : Bytes) (k rows : ℕ) (log : List ℕ) where
       }
 
       module _ (from : ℕ) (start : from ≡ min (3 * rows) (length log)) where
-        in-log : (f : Fragment) → fragmentAt p k ≡ f → Marks (analysis builtIn (f .bytes) (f .main) (f .alt) (drop from log)) from log r new → FragmentMarks p k rows log r new
+        in-log : (f : Fragment) → fragmentAt p k ≡ f → Marks (analysis R (f .bytes) (f .main) (f .alt) (drop from log)) from log r new → FragmentMarks R p k rows log r new
         in-log f e m =
             let d : drop from log ≡ drop (3 * rows) log = ap (λ n. drop n log) start ∙ drop-min (3 * rows) log in
             let t : take from log ≡ take (3 * rows) log = ap (λ n. take n log) start ∙ take-min (3 * rows) log in
-            let a : analysis builtIn (f .bytes) (f .main) (f .alt) (drop from log) ≡ fragmentAnalysis p k rows log = rw (d, ← e) in
+            let a : analysis R (f .bytes) (f .main) (f .alt) (drop from log) ≡ fragmentAnalysis R p k rows log = rw (d, ← e) in
             record {
               same = m .same ∙ ap (λ (x : Marked). summarized (x .verdict)) a ∙ sym (ap (λ (x : Marked). summarized (x .verdict)) marked-there);
               logged = m .logged ∙ ap₂ (λ (x : List ℕ) (y : Marked). x ++ y .log) t a ∙ sym (ap (λ (x : Marked). x .log) marked-there);
@@ -146,13 +150,13 @@ module _ (p : Bytes) (k rows : ℕ) (log : List ℕ) where
             }
 
         pub marks-body : (n parameters fields : ℕ) → n ≡ field p 0 → k < n → parameters ≡ field p (8 + 6 * k) → fields ≡ field p 2
-            → Marks (analysis builtIn (bytesOf p (partAt p (8 + 6 * k + 2))) (parameters + fields) 0 (drop from log)) from log r new → FragmentMarks p k rows log r new
+            → Marks (analysis R (bytesOf p (partAt p (8 + 6 * k + 2))) (parameters + fields) 0 (drop from log)) from log r new → FragmentMarks R p k rows log r new
         marks-body n parameters fields e h f g m =
             in-log (bodyAt p (8 + 6 * k)) (fragment-body p k (omega (arith, e, h)))
-            (subst (λ (main : ℕ). Marks (analysis builtIn (bytesOf p (partAt p (8 + 6 * k + 2))) main 0 (drop from log)) from log r new) (rw (f, g)) m)
+            (subst (λ (main : ℕ). Marks (analysis R (bytesOf p (partAt p (8 + 6 * k + 2))) main 0 (drop from log)) from log r new) (rw (f, g)) m)
 
         pub marks-state : (n most : ℕ) → n ≡ field p 0 → n ≤ k → most ≡ mostParameters (entries p)
-            → Marks (analysis builtIn (bytesOf p (partAt p 4)) most 1 (drop from log)) from log r new → FragmentMarks p k rows log r new
+            → Marks (analysis R (bytesOf p (partAt p 4)) most 1 (drop from log)) from log r new → FragmentMarks R p k rows log r new
         marks-state n most e h f m =
             in-log (state p) (fragment-state p k (omega (arith, e, h)) there)
-            (subst (λ (main : ℕ). Marks (analysis builtIn (bytesOf p (partAt p 4)) main 1 (drop from log)) from log r new) f m)
+            (subst (λ (main : ℕ). Marks (analysis R (bytesOf p (partAt p 4)) main 1 (drop from log)) from log r new) f m)

@@ -5,7 +5,7 @@ use Prim.Native.String.{String}
 use lib.ListN.{getD}
 use Rattle.definition.specs.Basics.{Bytes}
 use Rattle.definition.specs.Lines.{text, labelled}
-use Rattle.text.specs.Hex.{hexByte}
+use Rattle.definition.specs.Hex.{hexByte}
 
 -- a word with both figures
 abbrev pub both : String → ℕ → String → ℕ → Bytes
@@ -45,6 +45,10 @@ reasons first second =
     ∷ text "bad sitting"
     ∷ text "crooked number: a needless 00 (05 00) or 80 (negative zero)"
     ∷ text "negative index: top bit of the last byte set (81 is minus 1)"
+    ∷ text "strange word"
+    ∷ text "output short"
+    ∷ text "bad map"
+    ∷ text "bad limit"
     ∷ []
 
 -- that of one number, and nothing for a number past the table

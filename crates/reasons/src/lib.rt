@@ -4,7 +4,7 @@ ghost use mathlib.Core.List.{_++_};
 ghost use Prim.Native.Nat.{_+_, _≤_};
 ghost use lib.ListN.{length};
 ghost use Rattle.definition.specs.Lines.{decimal};
-ghost use Rattle.text.specs.Hex.{hexByte};
+ghost use Rattle.definition.specs.Hex.{hexByte};
 ghost use Rattle.text.specs.View.{Written};
 ghost use Rattle.reasons.specs.Reasons.{reason};
 
@@ -37,7 +37,7 @@ fn write_opcode(out: &mut [u8], at: usize, word: &[u8], opcode: u64) -> usize
     text::write_hex(out, next, opcode)
 }
 
-// The word of a number with its figures: document 01, section 7, and document 02. From 0 to 5, to 11, to 17, to 23 and to 25.
+// The word of a number with its figures: document 01, section 7, and document 02. From 0 to 5, to 11, to 17, to 23 and to 27.
 fn write_reason_0(out: &mut [u8], at: usize, number: u32, first: u64, second: u64) -> usize
     requires { ⌜ (at + 80 ≤ length (now out)) × ((0 ≤ number) × (number ≤ 5)) ⌝ }
     ensures same { λ r. ⌜ Written (now (out .entry)) at (reason number first second) (now (out .exit)) r ⌝ }
@@ -113,7 +113,7 @@ fn write_reason_18(out: &mut [u8], at: usize, number: u32, first: u64, second: u
 }
 
 fn write_reason_24(out: &mut [u8], at: usize, number: u32, first: u64, second: u64) -> usize
-    requires { ⌜ (at + 80 ≤ length (now out)) × ((24 ≤ number) × (number ≤ 25)) ⌝ }
+    requires { ⌜ (at + 80 ≤ length (now out)) × ((24 ≤ number) × (number ≤ 29)) ⌝ }
     ensures same { λ r. ⌜ Written (now (out .entry)) at (reason number first second) (now (out .exit)) r ⌝ }
     ensures short { λ r. ⌜ r ≤ at + 80 ⌝ }
 {
@@ -123,11 +123,15 @@ fn write_reason_24(out: &mut [u8], at: usize, number: u32, first: u64, second: u
             at,
             b"crooked number: a needless 00 (05 00) or 80 (negative zero)",
         ),
-        _ => text::write_word(
+        25 => text::write_word(
             out,
             at,
             b"negative index: top bit of the last byte set (81 is minus 1)",
         ),
+        26 => text::write_word(out, at, b"strange word"),
+        27 => text::write_word(out, at, b"output short"),
+        28 => text::write_word(out, at, b"bad map"),
+        _ => text::write_word(out, at, b"bad limit"),
     }
 }
 
@@ -149,7 +153,7 @@ pub fn write_reason(out: &mut [u8], at: usize, number: u32, first: u64, second: 
     if number < 24 {
         return write_reason_18(out, at, number, first, second);
     }
-    if number < 26 {
+    if number < 30 {
         return write_reason_24(out, at, number, first, second);
     }
     at

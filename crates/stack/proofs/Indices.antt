@@ -15,7 +15,7 @@ use Rattle.definition.specs.Walk.{Item, known, bytesKnown, marking}
 use Rattle.decode.specs.View.{lowBytes, itemOf, valueOf, Held}
 use Rattle.decode.specs.declared.Value.{Value}
 use Rattle.decode.proofs.Bytes.{length-low}
-use Rattle.decode.proofs.Numbers.{held-number, item-of-number}
+use Rattle.number_form.proofs.Numbers.{held-number, item-of-number}
 use Rattle.slots.specs.View.{slotItem, cells, Canon}
 use Rattle.slots.specs.Parts.{Suffice, Copied, Turned, codeLength}
 use Rattle.slots.proofs.Codes.{either, by-code, item-low, item-high}

@@ -5,4 +5,3 @@ pub mod Fresh
 pub mod Values
 pub mod Pops
 pub mod Indices
-pub mod Ends

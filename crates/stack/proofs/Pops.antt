@@ -19,11 +19,12 @@ use Rattle.definition.specs.Stacks as S
 use Rattle.definition.specs.Stacks.{pop, popIndex, readable}
 use Rattle.definition.specs.Walk.{Item, bytesKnown, marking}
 use Rattle.definition.specs.Replay.{AreBytes}
-use Rattle.decode.specs.View.{lowBytes, itemOf, Held, indexed}
+use Rattle.decode.specs.View.{lowBytes, itemOf, Held}
+use Rattle.number_form.specs.View.{indexed}
 use Rattle.decode.specs.declared.Value.{Value}
 use Rattle.decode.specs.declared.Value.the-variants.{Unknown, Exact}
-use Rattle.decode.specs.declared.Index.{Index}
-use Rattle.decode.specs.declared.Index.the-variants as I
+use Rattle.number_form.specs.declared.Index.{Index}
+use Rattle.number_form.specs.declared.Index.the-variants as I
 use Rattle.decode.proofs.Bytes.{bytes-low, length-low}
 use Rattle.slots.specs.View.{sufficient, cells}
 use Rattle.slots.specs.Parts.{InSlot}

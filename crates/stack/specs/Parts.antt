@@ -1,8 +1,6 @@
 -- What the private functions of this crate ensure.
 use mathlib.Core.Path.{_≡_}
 use Prim.Native.Nat.{ℕ, _-_, _^_, _≤_, _<_}
-use lib.Dec.{ltb}
-use Rattle.definition.specs.Basics.{pick}
 use Rattle.definition.specs.Decoding as D
 use Rattle.definition.specs.Stacks as S
 use Rattle.definition.specs.Walk.{Item, marking}
@@ -37,7 +35,3 @@ counted (Refused f) s next = S.refused (refusalOf f)
 pub record Pops (s : Stacks) (r : Count) : Type 0 where
   pub small : Small (s .mains) r
   pub same : (next : ℕ → S.Stacks Item → S.Outcome Item) → S.popIndex marking (view s) next ≡ counted r (view (without s 1)) next
-
--- the slot of item k of all, main from bottom to top and then alt from bottom to top, whose bottom is slot 243
-unfoldable pub endSlot : ℕ → ℕ → ℕ
-endSlot mains k = pick (ltb k mains) k (243 - (k - mains))

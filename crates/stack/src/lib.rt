@@ -7,15 +7,13 @@ ghost use Rattle.definition.specs.Stacks.{pushItem, dropItems, copyItems, rotat
 ghost use Rattle.definition.specs.Decoding.{indexOf};
 ghost use Rattle.definition.specs.Walk.{exact, bytesKnown, marking, joinStacks};
 ghost use Rattle.decode.specs.View.{lowBytes, itemOf, Held};
-ghost use Rattle.ends.specs.View.{itemLength, itemNumber, packedEnd};
-ghost use Rattle.slots.specs.View.{slotItem, codeOf, sufficient, Canon};
+ghost use Rattle.slots.specs.View.{slotItem, codeOf, sufficient};
 ghost use Rattle.stack.specs.View.{view, Fit, Fresh, Says, Steps};
-ghost use Rattle.stack.specs.Parts.{countOf, Pops, endSlot};
-use decode::Index;
+ghost use Rattle.stack.specs.Parts.{countOf, Pops};
 use decode::Value;
-use decode::number_value;
-use decode::read_index;
-use ends::EndStacks;
+use number_form::Index;
+use number_form::number_value;
+use number_form::read_index;
 use slots::all_suffice;
 use slots::code_length;
 use slots::code_of;
@@ -84,41 +82,6 @@ fn count_of(v: Value) -> Count
         Index::NoNumber => Count::Refused(Refusal::CrookedNumber),
         Index::Negative => Count::Refused(Refusal::NegativeIndex),
     }
-}
-
-// The slot of item k of all, main from bottom to top and then alt from bottom to top.
-fn end_slot(k: usize, mains: usize) -> usize
-    requires { ⌜ k < mains + 244 ⌝ }
-    ensures { λ r. ⌜ r ≡ endSlot mains k ⌝ }
-{
-    if k < mains {
-        return k;
-    }
-    243 - (k - mains)
-}
-
-// The length of the item in a slot of this code; 255 if it is unknown.
-fn end_length(code: u8) -> u8
-    ensures { λ r. ⌜ ((n : ℕ) → r ≡ itemLength (slotItem code n)) ⌝ }
-{
-    if code == 9 {
-        return 255;
-    }
-    code_length(code)
-}
-
-// The bytes of the item in a slot as one number; 0 if it is unknown.
-fn end_number(code: u8, bytes: u64) -> u64
-    requires { ⌜ Canon code bytes ⌝ }
-    ensures { λ r. ⌜ r ≡ itemNumber (slotItem code bytes) ⌝ }
-{
-    if code > 9 {
-        return (code - 10) as u64;
-    }
-    if suffices(code) {
-        return 0;
-    }
-    bytes
 }
 
 impl Stacks {
@@ -587,36 +550,6 @@ impl Stacks {
         Stepped {
             stacks: self,
             answer: Answer::Done,
-        }
-    }
-
-    // The stacks in the form that a caller reads.
-    pub fn ends(self) -> EndStacks
-        requires { ⌜ Fit self ⌝ }
-        ensures { λ r. ⌜ r ≡ packedEnd (view self) ⌝ }
-    {
-        let main = self.mains;
-        let alt = self.alts;
-        let m = main as usize;
-        let count = m + alt as usize;
-        let codes = self.codes;
-        let all = self.bytes;
-        let mut lens = [255u8; 244];
-        let mut bytes = [0u64; 244];
-        let mut k: usize = 0;
-        while k < count {
-            let i = end_slot(k, m);
-            let code = codes[i];
-            let n = all[i];
-            lens[k] = end_length(code);
-            bytes[k] = end_number(code, n);
-            k += 1;
-        }
-        EndStacks {
-            main,
-            alt,
-            lens,
-            bytes,
         }
     }
 

@@ -9,10 +9,10 @@ use Rattle.definition.specs.Stacks.{Rules}
 use Rattle.definition.specs.Walk.{dead, refusedVerdict}
 use Rattle.stack.specs.View.{refusalOf}
 use Rattle.stack.specs.declared.Refusal.{Refusal}
-use Rattle.stack.proofs.Ends.{main-length, alt-length}
+use Rattle.ends.proofs.Packing.{main-length, alt-length}
 use Rattle.stack_analysis.specs.View.{summarized}
 use Rattle.walk.specs.Runs.{arm, resume, resumeBy}
-use Rattle.stack_analysis.specs.Walkers.{Ended, concluded, concludedBy}
+use Rattle.arms.specs.Walkers.{Ended, concluded, concludedBy}
 use Rattle.walk.specs.declared.Stop.{Stop}
 use Rattle.walk.specs.declared.Stop.the-variants.{Running, End, Conditional, Else, Endif, Refused}
 use Rattle.stack_analysis.specs.declared.Summary.{Summary}

@@ -1,6 +1,5 @@
--- What the walkers' proofs go by.
-pub mod Conditionals
-pub mod Cycle
+-- What the entries' proofs go by.
 pub mod Answers
 pub mod Entries
+pub mod WithMap
 pub mod LongData

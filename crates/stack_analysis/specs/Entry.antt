@@ -5,13 +5,13 @@ use Prim.Native.Nat.{ℕ, _+_, _*_, _≤_}
 use lib.ListN.{length}
 use Rattle.definition.specs.Basics.{Bytes}
 use Rattle.definition.specs.Decoding.{decode, instructions}
-use Rattle.definition.specs.Stacks.{builtIn}
+use Rattle.definition.specs.Stacks.{Rules}
 use Rattle.definition.specs.Walk.{dead, unknowns, begin, walk, answered, Marked, analysis}
 use Rattle.ends.specs.declared.EndStacks.{EndStacks}
 use Rattle.stack.specs.View.{Fit}
 use Rattle.walk.specs.declared.Walk.{Walk}
 use Rattle.stack_analysis.specs.View.{summarized}
-use Rattle.stack_analysis.specs.Walkers.{Ended, concluded}
+use Rattle.arms.specs.Walkers.{Ended, concluded}
 use Rattle.stack_analysis.specs.declared.Start.{Start}
 use Rattle.stack_analysis.specs.declared.Start.the-variants.{Refused, Walks}
 use Rattle.stack_analysis.specs.declared.Summary.{Summary}
@@ -24,15 +24,15 @@ pub record RefusedEarly (r : Summary) (log : List ℕ) (m : Marked) : Type 0 whe
   pub logged : log ≡ m .log
 
 -- nothing is against the walk, and the analysis is the walk
-pub record MayWalk (s : Bytes) (main alt : ℕ) (log : List ℕ) : Type 0 where
+pub record MayWalk (R : Rules) (s : Bytes) (main alt : ℕ) (log : List ℕ) : Type 0 where
   pub short : length s ≤ 10000
-  pub low : main + alt ≤ 244
+  pub low : main + alt ≤ R .limit
   pub room : 3 * length (instructions (decode s)) ≤ length log
-  pub same : analysis builtIn s main alt log ≡ answered (walk builtIn (instructions (decode s)) (begin (unknowns main alt) log))
+  pub same : analysis R s main alt log ≡ answered (walk R (instructions (decode s)) (begin (unknowns main alt) log))
 
-abbrev pub Starts : Bytes → ℕ → ℕ → List ℕ → Start → Type 0
-Starts s main alt log (Refused r) = RefusedEarly r log (analysis builtIn s main alt log)
-Starts s main alt log Walks = MayWalk s main alt log
+abbrev pub Starts : Rules → Bytes → ℕ → ℕ → List ℕ → Start → Type 0
+Starts R s main alt log (Refused r) = RefusedEarly r log (analysis R s main alt log)
+Starts R s main alt log Walks = MayWalk R s main alt log
 
 -- a walk has stopped with w, with no conditional open; its verdict and the log are those of m
 pub record Stops (w : Walk) (log : List ℕ) (m : Marked) : Type 0 where

@@ -1,3 +1,2 @@
-pub mod Walkers
 pub mod View
 pub mod Entry

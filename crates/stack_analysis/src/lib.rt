@@ -1,26 +1,26 @@
-// The walk over a fragment and the analysis: document 01, sections 4 and 7.
+// The analysis of a fragment: document 01, sections 4 and 7.
 ghost use mathlib.Core.List.{List};
 ghost use mathlib.Core.Path.{_≡_};
 ghost use Prim.Native.Nat.{ℕ, _+_, _*_, _≤_};
 ghost use lib.ListN.{length};
 ghost use Rattle.definition.specs.Stacks.{Rules, builtIn};
-ghost use Rattle.stack.specs.View.{Fit};
-ghost use Rattle.definition.specs.Basics.{Bytes};
 ghost use Rattle.definition.specs.Decoding.{decode, instructions};
 ghost use Rattle.definition.specs.Refusals.{answer, refusedAt};
 ghost use Rattle.definition.specs.Replay.{Demand3};
 ghost use Rattle.definition.specs.Walk.{dead, unknowns, begin, walk, answered, analysis, refusedVerdict};
+ghost use Rattle.definition.specs.Maps.{rulesBy, rulesOf, analysisWith};
 ghost use Rattle.stack.specs.View.{refusalOf};
-ghost use Rattle.opcodes.specs.View.{GoodRows, rulesBy};
-ghost use Rattle.walk.specs.Runs.{armOf, arm, stopOf, Ready};
+ghost use Rattle.opcodes.specs.View.{GoodRows};
+ghost use Rattle.walk.specs.Runs.{optionsOf, arm};
 ghost use Rattle.stack_analysis.specs.View.{verdictOf, packedVerdict, summarized};
 ghost use Rattle.stack_analysis.specs.Entry.{Starts, Stops, withEnd};
-ghost use Rattle.stack_analysis.specs.Walkers.{concluded, Ended, Enters, Joins, Finishes, Walks, Closes};
+ghost use Rattle.arms.specs.Walkers.{concluded, Ended, Walks};
+use arms::arm;
 use decode::Counted;
 use ends::EndStacks;
-use stack::Answer;
 use stack::Refusal;
 use stack::Stacks;
+use walk::Options;
 use walk::Stop;
 use walk::Walk;
 
@@ -60,183 +60,6 @@ struct Figures {
     number: u32,
     first: u64,
     second: u64,
-}
-
-// How a walk stands after a stack operation.
-fn stop_of(answer: Answer) -> Stop
-    ensures { λ r. ⌜ r ≡ stopOf answer ⌝ }
-{
-    match answer {
-        Answer::Done => Stop::Running,
-        Answer::Refused(r) => Stop::Refused(r),
-    }
-}
-
-// w with these stacks, this arm and this stop.
-fn turned(w: Walk, stacks: Stacks, live: bool, stop: Stop) -> Walk
-    ensures { λ r.
-        ⌜
-        r
-        ≡ record {
-          stacks = stacks;
-          live = live;
-          at = w .at;
-          last = w .last;
-          rows = w .rows;
-          peak = w .peak;
-          stop = stop;
-        }
-        ⌝ }
-{
-    Walk {
-        stacks,
-        live,
-        at: w.at,
-        last: w.last,
-        rows: w.rows,
-        peak: w.peak,
-        stop,
-    }
-}
-
-// The conditional at whose IF or NOTIF w stands, with depth of them open, is opened: the condition is popped where the
-// arm is live.
-fn enter(w: Walk, depth: u32) -> Walk
-    requires { ⌜ (Fit (w .stacks)) × (w .stop ≡ Stop.Conditional) ⌝ }
-    requires { ⌜ depth ≤ 24 ⌝ }
-    ensures { λ r. ⌜ ((R : Rules) (s : Bytes) → Enters R s depth w r) ⌝ }
-{
-    let s = w.stacks;
-    let live = w.live;
-    if depth == 24 {
-        return turned(w, s, live, Stop::Refused(Refusal::Nesting));
-    }
-    if !live {
-        return turned(w, s, false, Stop::Running);
-    }
-    let p = s.drop_items(1);
-    let answer = p.answer;
-    let t = p.stacks;
-    if let Answer::Refused(r) = answer {
-        return turned(w, t, true, Stop::Refused(r));
-    }
-    turned(w, t, true, Stop::Running)
-}
-
-// At ENDIF the arm of w joins the other.
-fn close(w: Walk, other: Stacks, alive: bool) -> Walk
-    requires { ⌜ (Fit (w .stacks)) × (Fit other) ⌝ }
-    ensures { λ r. ⌜ ((R : Rules) (s : Bytes) → Joins R s w (armOf alive other) r) ⌝ }
-{
-    let s = w.stacks;
-    let live = w.live;
-    if !alive {
-        return turned(w, s, live, Stop::Running);
-    }
-    if !live {
-        return turned(w, other, true, Stop::Running);
-    }
-    let j = s.join(other);
-    let t = j.stacks;
-    let answer = j.answer;
-    let stop = stop_of(answer);
-    turned(w, t, true, stop)
-}
-
-// w with a refusal.
-fn refused(w: Walk, r: Refusal) -> Walk
-    ensures { λ v.
-        ⌜
-        v
-        ≡ record {
-          stacks = w .stacks;
-          live = w .live;
-          at = w .at;
-          last = w .last;
-          rows = w .rows;
-          peak = w .peak;
-          stop = Stop.Refused r;
-        }
-        ⌝ }
-{
-    let s = w.stacks;
-    let live = w.live;
-    turned(w, s, live, Stop::Refused(r))
-}
-
-// The last arm of a conditional is done with w; the other arm is the empty one, as it started, or the first.
-fn finish(w: Walk, other: Stacks, alive: bool) -> Walk
-    requires { ⌜ (Fit (w .stacks)) × (Fit other) ⌝ }
-    requires { ⌜ Ended (w .stop) ⌝ }
-    ensures { λ r. ⌜ ((R : Rules) (s : Bytes) → Finishes R s w (armOf alive other) r) ⌝ }
-{
-    let stop = w.stop;
-    match stop {
-        Stop::Endif => close(w, other, alive),
-        Stop::Else => refused(w, Refusal::SecondElse),
-        Stop::End => refused(w, Refusal::OpenIf),
-        Stop::Refused(_) => w,
-        Stop::Running => w,
-        Stop::Conditional => w,
-    }
-}
-
-// Walks an arm from start, with depth conditionals open around it, to the end, or to the ELSE or ENDIF of the innermost:
-// "An arm may hold conditionals".
-fn arm(code: &[u8], log: &mut [u16], classes: &[u8], limit: u32, start: Walk, depth: u32) -> Walk
-    requires { ⌜ (Ready (now code) (now log) start) × (start .stop ≡ Stop.Running) ⌝ }
-    requires { ⌜ (GoodRows (now classes)) × (limit ≤ 244) × (depth ≤ 24) ⌝ }
-    ensures { λ r.
-        ⌜ Walks (rulesBy (now (classes .entry)) limit) (now (code .entry)) depth start (now (log .entry)) r (now (log .exit)) ⌝ }
-{
-    let mut w = walk::plain(code, log, classes, limit, start);
-    loop {
-        let met = w.stop;
-        let Stop::Conditional = met else {
-            return w;
-        };
-        let v = conditional(code, log, classes, limit, w, depth);
-        let closed = v.stop;
-        if let Stop::Refused(_) = closed {
-            return v;
-        }
-        w = walk::plain(code, log, classes, limit, v);
-    }
-}
-
-// Walks the conditional at whose IF or NOTIF w stands, up to and with its ENDIF: "each conditional holds one or two arms".
-fn conditional(
-    code: &[u8],
-    log: &mut [u16],
-    classes: &[u8],
-    limit: u32,
-    w: Walk,
-    depth: u32,
-) -> Walk
-    requires { ⌜ (Ready (now code) (now log) w) × (w .stop ≡ Stop.Conditional) ⌝ }
-    requires { ⌜ (GoodRows (now classes)) × (limit ≤ 244) × (depth ≤ 24) ⌝ }
-    ensures { λ r. ⌜ Closes (rulesBy (now (classes .entry)) limit) (now (code .entry)) depth w (now (log .entry)) r (now (log .exit)) ⌝ }
-{
-    let mut v = enter(w, depth);
-    let opened = v.stop;
-    if let Stop::Refused(_) = opened {
-        return v;
-    }
-    let start = v.stacks;
-    let live = v.live;
-    let first = arm(code, log, classes, limit, v, depth + 1);
-    let stop = first.stop;
-    if let Stop::Else = stop {
-        let s = first.stacks;
-        // the second arm starts from the same stacks
-        v.at = first.at;
-        v.last = first.last;
-        v.rows = first.rows;
-        v.peak = first.peak;
-        v = arm(code, log, classes, limit, v, depth + 1);
-        return finish(v, s, first.live);
-    }
-    finish(first, start, live)
 }
 
 // The number and the figures of a refusal: section 7, and request L2.
@@ -410,9 +233,17 @@ fn conclude(w: Walk) -> Summary
 }
 
 // The walk of a fragment from so many unknown items, with room in the log for each of its instructions.
-fn walk_all(fragment: &[u8], main: u32, alt: u32, log: &mut [u16]) -> Walk
+fn walk_all(
+    fragment: &[u8],
+    main: u32,
+    alt: u32,
+    classes: &[u8],
+    options: Options,
+    log: &mut [u16],
+) -> Walk
     requires { ⌜ (length (now fragment) ≤ 10000) × (main + alt ≤ 244) ⌝ }
     requires { ⌜ 3 * length (instructions (decode (now fragment))) ≤ length (now log) ⌝ }
+    requires { ⌜ (GoodRows (now classes)) × (options .limit ≤ 244) ⌝ }
     ensures { λ r.
         ⌜
         Stops
@@ -420,7 +251,7 @@ fn walk_all(fragment: &[u8], main: u32, alt: u32, log: &mut [u16]) -> Walk
         (now (log .exit))
         (answered
         (walk
-        builtIn
+        (rulesBy (now (classes .entry)) (optionsOf options))
         (instructions (decode (now (fragment .entry))))
         (begin (unknowns main alt) (now (log .entry)))))
         ⌝ }
@@ -435,8 +266,7 @@ fn walk_all(fragment: &[u8], main: u32, alt: u32, log: &mut [u16]) -> Walk
         peak: main + alt,
         stop: Stop::Running,
     };
-    let classes = opcodes::table();
-    arm(fragment, log, &classes, 244, start, 0)
+    arm(fragment, log, classes, options, start, 0)
 }
 
 // The verdict of a summary and the end stacks.
@@ -455,16 +285,20 @@ fn with_end(v: Summary, end: EndStacks) -> Verdict
     }
 }
 
-// The tests before the walk, in their order; so many numbers of the log are lent.
-fn early(fragment: &[u8], main: u32, alt: u32, lent: usize) -> Start
-    ensures { λ r. ⌜ ((log : List ℕ) → length log ≡ lent → Starts (now (fragment .entry)) main alt log r) ⌝ }
+// The tests before the walk, in their order, by this limit; so many numbers of the log are lent.
+fn early(fragment: &[u8], main: u32, alt: u32, limit: u32, lent: usize) -> Start
+    ensures { λ r.
+        ⌜
+        ((R : Rules) (log : List ℕ)
+        → R .limit ≡ limit → length log ≡ lent → Starts R (now (fragment .entry)) main alt log r)
+        ⌝ }
 {
     let sum = (main as u64) + (alt as u64);
     if fragment.len() > 10000 {
         return Start::Refused(refusal(1, 0, fragment.len() as u64, 10000, 0));
     }
-    if sum > 244 {
-        return Start::Refused(refusal(2, 0, sum, 244, 0));
+    if sum > limit as u64 {
+        return Start::Refused(refusal(2, 0, sum, limit as u64, 0));
     }
     let counted = decode::count_instructions(fragment);
     match counted {
@@ -475,6 +309,88 @@ fn early(fragment: &[u8], main: u32, alt: u32, lent: usize) -> Start
             }
             Start::Walks
         }
+    }
+}
+
+// The analysis of a fragment by the classes of lent rows, from main and alt unknown items; one row of the lent log is written
+// for each instruction met.
+pub fn analyze_rows(
+    fragment: &[u8],
+    main: u32,
+    alt: u32,
+    classes: &[u8],
+    options: Options,
+    log: &mut [u16],
+) -> Verdict
+    requires { ⌜ (GoodRows (now classes)) × (options .limit ≤ 244) ⌝ }
+    ensures same { λ r.
+        ⌜
+        r
+        ≡ packedVerdict
+        (analysis (rulesBy (now (classes .entry)) (optionsOf options)) (now (fragment .entry)) main alt (now (log .entry)) .verdict)
+        ⌝ }
+    ensures shows { λ r.
+        ⌜
+        verdictOf r
+        ≡ analysis (rulesBy (now (classes .entry)) (optionsOf options)) (now (fragment .entry)) main alt (now (log .entry)) .verdict
+        ⌝ }
+    ensures within { λ r. ⌜ r .end .main + r .end .alt ≤ 244 ⌝ }
+    ensures logged { λ r.
+        ⌜
+        now (log .exit)
+        ≡ analysis (rulesBy (now (classes .entry)) (optionsOf options)) (now (fragment .entry)) main alt (now (log .entry)) .log
+        ⌝ }
+    ensures replayed { λ r.
+        ⌜
+        (r .number ≡ 0
+        → Demand3
+        (rulesBy (now (classes .entry)) (optionsOf options))
+        (instructions (decode (now (fragment .entry))))
+        (unknowns main alt)
+        (record { verdict = verdictOf r; log = now (log .exit) }))
+        ⌝ }
+{
+    let start = early(fragment, main, alt, options.limit, log.len());
+    match start {
+        Start::Refused(v) => with_end(v, EndStacks::none()),
+        Start::Walks => {
+            let w = walk_all(fragment, main, alt, classes, options, log);
+            let v = conclude(w);
+            if v.ended {
+                let s = w.stacks;
+                return with_end(v, EndStacks::of(s));
+            }
+            with_end(v, EndStacks::none())
+        }
+    }
+}
+
+// The same with the heights of the end in place of the end stacks, for callers that read no item.
+pub fn analyze_heights_rows(
+    fragment: &[u8],
+    main: u32,
+    alt: u32,
+    classes: &[u8],
+    options: Options,
+    log: &mut [u16],
+) -> Summary
+    requires { ⌜ (GoodRows (now classes)) × (options .limit ≤ 244) ⌝ }
+    ensures same { λ r.
+        ⌜
+        r
+        ≡ summarized
+        (analysis (rulesBy (now (classes .entry)) (optionsOf options)) (now (fragment .entry)) main alt (now (log .entry)) .verdict)
+        ⌝ }
+    ensures logged { λ r.
+        ⌜
+        now (log .exit)
+        ≡ analysis (rulesBy (now (classes .entry)) (optionsOf options)) (now (fragment .entry)) main alt (now (log .entry)) .log
+        ⌝ }
+{
+    let start = early(fragment, main, alt, options.limit, log.len());
+    match start {
+        Start::Refused(v) => v,
+        Start::Walks => conclude(walk_all(fragment, main, alt, classes, options, log)),
     }
 }
 
@@ -508,19 +424,9 @@ pub fn analyze(fragment: &[u8], main: u32, alt: u32, log: &mut [u16]) -> Verdict
         (record { verdict = verdictOf r; log = now (log .exit) }))
         ⌝ }
 {
-    let start = early(fragment, main, alt, log.len());
-    match start {
-        Start::Refused(v) => with_end(v, EndStacks::none()),
-        Start::Walks => {
-            let w = walk_all(fragment, main, alt, log);
-            let v = conclude(w);
-            if v.ended {
-                let s = w.stacks;
-                return with_end(v, s.ends());
-            }
-            with_end(v, EndStacks::none())
-        }
-    }
+    let classes = opcodes::table();
+    let options = Options::built_in();
+    analyze_rows(fragment, main, alt, &classes, options, log)
 }
 
 // The same with the heights of the end in place of the end stacks, for callers that read no item.
@@ -537,9 +443,51 @@ pub fn analyze_heights(fragment: &[u8], main: u32, alt: u32, log: &mut [u16]) ->
         ≡ analysis builtIn (now (fragment .entry)) main alt (now (log .entry)) .log
         ⌝ }
 {
-    let start = early(fragment, main, alt, log.len());
-    match start {
-        Start::Refused(v) => v,
-        Start::Walks => conclude(walk_all(fragment, main, alt, log)),
+    let classes = opcodes::table();
+    let options = Options::built_in();
+    analyze_heights_rows(fragment, main, alt, &classes, options, log)
+}
+
+// The analysis of a fragment by a lent map and a lent limit: 28 and then 29 before all else.
+pub fn analyze_with(
+    fragment: &[u8],
+    main: u32,
+    alt: u32,
+    map: &[u8],
+    options: Options,
+    log: &mut [u16],
+) -> Verdict
+    ensures same { λ r.
+        ⌜
+        r
+        ≡ packedVerdict
+        (analysisWith (now (map .entry)) (optionsOf options) (now (fragment .entry)) main alt (now (log .entry)) .verdict)
+        ⌝ }
+    ensures shows { λ r.
+        ⌜
+        verdictOf r
+        ≡ analysisWith (now (map .entry)) (optionsOf options) (now (fragment .entry)) main alt (now (log .entry)) .verdict
+        ⌝ }
+    ensures within { λ r. ⌜ r .end .main + r .end .alt ≤ 244 ⌝ }
+    ensures logged { λ r.
+        ⌜
+        now (log .exit)
+        ≡ analysisWith (now (map .entry)) (optionsOf options) (now (fragment .entry)) main alt (now (log .entry)) .log
+        ⌝ }
+    ensures replayed { λ r.
+        ⌜
+        (r .number ≡ 0
+        → Demand3
+        (rulesOf (now (map .entry)) (optionsOf options))
+        (instructions (decode (now (fragment .entry))))
+        (unknowns main alt)
+        (record { verdict = verdictOf r; log = now (log .exit) }))
+        ⌝ }
+{
+    let number = maps::judge(map, options.limit);
+    if number != 0 {
+        return with_end(refusal(number, 0, 0, 0, 0), EndStacks::none());
     }
+    let classes = maps::rows(map);
+    analyze_rows(fragment, main, alt, classes, options, log)
 }

@@ -4,7 +4,7 @@ ghost use mathlib.Core.Path.{_≡_};
 ghost use Prim.Native.Nat.{_+_, _≤_, _<_};
 ghost use lib.ListN.{length};
 ghost use Rattle.definition.specs.Lines.{decimal};
-ghost use Rattle.text.specs.Hex.{hexDigit, hexByte};
+ghost use Rattle.definition.specs.Hex.{hexDigit, hexByte};
 ghost use Rattle.text.specs.View.{Written};
 
 // A word, byte by byte.
@@ -52,7 +52,7 @@ pub fn write_labelled(out: &mut [u8], at: usize, word: &[u8], n: u64) -> usize
 }
 
 // One byte.
-fn write_byte(out: &mut [u8], at: usize, byte: u8) -> usize
+pub fn write_byte(out: &mut [u8], at: usize, byte: u8) -> usize
     requires { ⌜ at < length (now out) ⌝ }
     ensures { λ r. ⌜ Written (now (out .entry)) at (byte ∷ []) (now (out .exit)) r ⌝ }
 {

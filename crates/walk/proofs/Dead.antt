@@ -9,6 +9,7 @@ use Rattle.definition.specs.Basics.{Bytes}
 use Rattle.definition.specs.Decoding.{instructions}
 use Rattle.definition.specs.Classes.{Class, IF, NOTIF, ELSE, ENDIF, RETURN, ordinary, plain, classAt}
 use Rattle.definition.specs.Replay.{AreBytes}
+use Rattle.definition.specs.Maps.{Options}
 use Rattle.definition.specs.Stacks.{Rules}
 use Rattle.definition.specs.Walk.{dead, logRow}
 use Rattle.decode.specs.View.{codeAt}
@@ -24,18 +25,18 @@ use Rattle.walk.specs.declared.Walk.{Walk}
 use Rattle.walk.proofs.Goings.{stays, goes-on}
 use Rattle.walk.proofs.Loop.{Walking, Met, Skips, met-if, met-notif, met-else, met-endif, met-dead, none-left}
 
--- the loop's invariant: it goes so at every limit and whatever stacks are left aside
-pub record Skipping (R : ℕ → Rules) (s : Bytes) (before : List ℕ) (at₀ last₀ rows₀ : ℕ) (now : List ℕ) (at last rows : ℕ) : Type 0 where
+-- the loop's invariant: it goes so by all options and whatever stacks are left aside
+pub record Skipping (R : Options → Rules) (s : Bytes) (before : List ℕ) (at₀ last₀ rows₀ : ℕ) (now : List ℕ) (at last rows : ℕ) : Type 0 where
   pub bytes : AreBytes s
   pub ready : Room s before at₀ rows₀
   pub len : length now ≡ length before
   pub low : at₀ ≤ at
   pub high : at ≤ length s
   pub fewer : rows + length (instructions (codeAt s at)) ≤ rows₀ + length (instructions (codeAt s at₀))
-  pub goes : (limit : ℕ) (x : Stacks) (peak : ℕ) → Fit x → Goes (R limit) s Any (deadWalk x at₀ last₀ rows₀ peak Running) before (deadWalk x at last rows peak Running) now
+  pub goes : (options : Options) (x : Stacks) (peak : ℕ) → Fit x → Goes (R options) s Any (deadWalk x at₀ last₀ rows₀ peak Running) before (deadWalk x at last rows peak Running) now
 
-pub skipping-none : {R : ℕ → Rules} {s : Bytes} {log : List ℕ} {at last rows : ℕ} → AreBytes s → Room s log at rows → Skipping R s log at last rows log at last rows
-skipping-none b r = record { bytes = b; ready = r; len = refl; low = omega arith; high = r .high; fewer = omega arith; goes = λ limit x peak f. stays f (r .high) }
+pub skipping-none : {R : Options → Rules} {s : Bytes} {log : List ℕ} {at last rows : ℕ} → AreBytes s → Room s log at rows → Skipping R s log at last rows log at last rows
+skipping-none b r = record { bytes = b; ready = r; len = refl; low = omega arith; high = r .high; fewer = omega arith; goes = λ options x peak f. stays f (r .high) }
 
 -- the numbers of the conditionals' classes, and what is skipped besides
 abbrev pub conditionals : List (List ℕ)
@@ -59,19 +60,19 @@ is-skipped R NOTIF e i fs = absurd (omega (arith, e))
 is-skipped R ELSE e i fs = absurd (omega (arith, e))
 is-skipped R ENDIF e i fs = absurd (omega (arith, e))
 
-module _ {R : ℕ → Rules} {s : Bytes} {before : List ℕ} {at₀ last₀ rows₀ : ℕ} {old : List ℕ} {at last rows : ℕ} (k : Skipping R s before at₀ last₀ rows₀ old at last rows) where
-  walking : (limit : ℕ) (x : Stacks) (peak : ℕ) → Fit x → Walking (R limit) s before (deadWalk x at₀ last₀ rows₀ peak Running) old (deadWalk x at last rows peak Running)
-  walking limit x peak f = record {
+module _ {R : Options → Rules} {s : Bytes} {before : List ℕ} {at₀ last₀ rows₀ : ℕ} {old : List ℕ} {at last rows : ℕ} (k : Skipping R s before at₀ last₀ rows₀ old at last rows) where
+  walking : (options : Options) (x : Stacks) (peak : ℕ) → Fit x → Walking (R options) s before (deadWalk x at₀ last₀ rows₀ peak Running) old (deadWalk x at last rows peak Running)
+  walking options x peak f = record {
     bytes = k .bytes;
     ready = record { fit = f; high = k .ready .high; short = k .ready .short; room = k .ready .room };
     len = k .len;
-    goes = k .goes limit x peak f;
+    goes = k .goes options x peak f;
   }
 
   -- no instruction stands at the offset
-  pub dead-end : instructions (codeAt s at) ≡ [] → (limit : ℕ) (x : Stacks) (peak : ℕ) → Fit x
-      → Runs (R limit) s (deadWalk x at₀ last₀ rows₀ peak Running) before (deadWalk x at last rows peak End) old
-  dead-end n limit x peak f = none-left (walking limit x peak f) refl (omega arith) n
+  pub dead-end : instructions (codeAt s at) ≡ [] → (options : Options) (x : Stacks) (peak : ℕ) → Fit x
+      → Runs (R options) s (deadWalk x at₀ last₀ rows₀ peak Running) before (deadWalk x at last rows peak End) old
+  dead-end n options x peak f = none-left (walking options x peak f) refl (omega arith) n
 
   module _ {i : Instruction} (stands : InstructionAt s at i) where
     there : length (instructions (codeAt s at)) ≡ suc (length (instructions (codeAt s (i .next))))
@@ -81,25 +82,25 @@ module _ {R : ℕ → Rules} {s : Bytes} {before : List ℕ} {at₀ last₀ rows
     pub dead-room : 3 * rows + 2 < length old
     dead-room = omega (arith, k .ready .room, k .fewer, k .len, there)
 
-    module _ {new : List ℕ} {class : ℕ} (len : length new ≡ length old) (row : new ≡ logRow rows at dead old) (kind : (limit : ℕ) → R limit .classFor (i .opcode) ≡ classAt class) (small : class < 32) where
-      meets : (limit : ℕ) (x : Stacks) (peak : ℕ) → Fit x → Met (R limit) s before (deadWalk x at₀ last₀ rows₀ peak Running) old (deadWalk x at last rows peak Running) new i peak class
-      meets limit x peak f = record { walking = walking limit x peak f; run = refl; stands = stands; len = len; row = row; high = omega arith; kind = kind limit; small = small }
+    module _ {new : List ℕ} {class : ℕ} (len : length new ≡ length old) (row : new ≡ logRow rows at dead old) (kind : (options : Options) → R options .classFor (i .opcode) ≡ classAt class) (small : class < 32) where
+      meets : (options : Options) (x : Stacks) (peak : ℕ) → Fit x → Met (R options) s before (deadWalk x at₀ last₀ rows₀ peak Running) old (deadWalk x at last rows peak Running) new i peak class
+      meets options x peak f = record { walking = walking options x peak f; run = refl; stands = stands; len = len; row = row; high = omega arith; kind = kind options; small = small }
 
       -- a conditional ends it
       abbrev Ends : Stop → Type 0
-      Ends stop = (limit : ℕ) (x : Stacks) (peak : ℕ) → Fit x → Runs (R limit) s (deadWalk x at₀ last₀ rows₀ peak Running) before (deadWalk x (i .next) at (rows + 1) peak stop) new
+      Ends stop = (options : Options) (x : Stacks) (peak : ℕ) → Fit x → Runs (R options) s (deadWalk x at₀ last₀ rows₀ peak Running) before (deadWalk x (i .next) at (rows + 1) peak stop) new
 
       pub dead-if : class ≡ 3 → Ends Conditional
-      dead-if e limit x peak f = met-if (meets limit x peak f) e
+      dead-if e options x peak f = met-if (meets options x peak f) e
 
       pub dead-notif : class ≡ 4 → Ends Conditional
-      dead-notif e limit x peak f = met-notif (meets limit x peak f) e
+      dead-notif e options x peak f = met-notif (meets options x peak f) e
 
       pub dead-else : class ≡ 5 → Ends Else
-      dead-else e limit x peak f = met-else (meets limit x peak f) e
+      dead-else e options x peak f = met-else (meets options x peak f) e
 
       pub dead-endif : class ≡ 6 → Ends Endif
-      dead-endif e limit x peak f = met-endif (meets limit x peak f) e
+      dead-endif e options x peak f = met-endif (meets options x peak f) e
 
       -- and every other instruction is skipped
       pub dead-again : Rest conditionals class → Skipping R s before at₀ last₀ rows₀ new (i .next) at (rows + 1)
@@ -110,7 +111,7 @@ module _ {R : ℕ → Rules} {s : Bytes} {before : List ℕ} {at₀ last₀ rows
         low = omega (arith, k .low, stands .onward);
         high = stands .within;
         fewer = omega (arith, k .fewer, there);
-        goes = λ limit x peak f. met-dead (meets limit x peak f) (is-skipped (R limit) (classAt class) (below (λ n. asSkipped (classAt n)) conditionals class 1 32 rest small tt)) refl .goes;
+        goes = λ options x peak f. met-dead (meets options x peak f) (is-skipped (R options) (classAt class) (below (λ n. asSkipped (classAt n)) conditionals class 1 32 rest small tt)) refl .goes;
       }
 
 -- What `plain` takes from it.

@@ -9,15 +9,21 @@ use Rattle.definition.specs.Basics.{Bytes}
 use Rattle.definition.specs.Decoding.{instructions}
 use Rattle.definition.specs.Refusals as D
 use Rattle.definition.specs.Stacks.{Rules}
+use Rattle.definition.specs.Maps as Maps
 use Rattle.definition.specs.Walk.{Arm, dead, live, Frame, Move, refuses, onElse, onEndif, conditional, State, totalOf, WalkEnd, follow, atEnd, walk, Marked, answered, refusedVerdict}
 use Rattle.decode.specs.View.{codeAt}
 use Rattle.stack.specs.View.{view, refusalOf, Fit}
 use Rattle.stack.specs.declared.Stacks.{Stacks}
 use Rattle.stack.specs.declared.Answer.{Answer}
 use Rattle.stack.specs.declared.Answer.the-variants as A
+use Rattle.walk.specs.declared.Options.{Options}
 use Rattle.walk.specs.declared.Stop.{Stop}
 use Rattle.walk.specs.declared.Stop.the-variants.{Running, End, Conditional, Else, Endif, Refused}
 use Rattle.walk.specs.declared.Walk.{Walk}
+
+-- what is lent beside the classes
+abbrev pub optionsOf : Options → Maps.Options
+optionsOf o = record { limit = o .limit }
 
 -- the arm of a walk
 abbrev pub armOf : Bool → Stacks → Arm

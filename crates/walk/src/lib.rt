@@ -3,8 +3,10 @@ ghost use mathlib.Core.Path.{_≡_};
 ghost use Prim.Native.Nat.{ℕ, _+_, _*_, _≤_, _<_, max};
 ghost use lib.ListN.{length, set};
 ghost use Rattle.stack.specs.View.{Fit};
-ghost use Rattle.opcodes.specs.View.{GoodRows, rulesBy};
-ghost use Rattle.walk.specs.Runs.{deadWalk, Room, Ready, Runs};
+ghost use Rattle.definition.specs.Maps.{builtInOptions, rulesBy};
+ghost use Rattle.definition.specs.Maps as Maps;
+ghost use Rattle.opcodes.specs.View.{GoodRows};
+ghost use Rattle.walk.specs.Runs.{optionsOf, deadWalk, Room, Ready, Runs};
 use decode::Decoded;
 use decode::Value;
 use stack::Answer;
@@ -14,6 +16,21 @@ use stack::Stepped;
 
 // What the log has for a height in a dead arm.
 const DEAD: u16 = 65535;
+
+// What a walk goes by besides the classes: the most items that the stacks hold together. Request L6.
+pub struct Options {
+    pub limit: u32,
+}
+
+impl Options {
+    // What stands beside the built-in table: 244 items.
+    pub fn built_in() -> Options
+        ensures same { λ r. ⌜ optionsOf r ≡ builtInOptions ⌝ }
+        ensures limit { λ r. ⌜ r .limit ≡ 244 ⌝ }
+    {
+        Options { limit: 244 }
+    }
+}
 
 // How a walk stands: it runs, or has stopped at the end, at an instruction of a conditional, whose row is written, or
 // with a refusal.
@@ -118,10 +135,10 @@ fn skip(
     requires { ⌜ GoodRows (now classes) ⌝ }
     ensures { λ r.
         ⌜
-        ((limit : ℕ) (s : Stacks) (peak : ℕ)
+        ((options : Maps.Options) (s : Stacks) (peak : ℕ)
         → Fit s
         → Runs
-        (rulesBy (now (classes .entry)) limit)
+        (rulesBy (now (classes .entry)) options)
         (now (code .entry))
         (deadWalk s from met written peak Stop.Running)
         (now (log .entry))
@@ -165,11 +182,12 @@ fn skip(
 
 // The instructions up to the next IF, NOTIF, ELSE or ENDIF, whose row is written too, or to the end. It calls no walker,
 // so that the methods of the stacks are compiled into its loop.
-pub fn plain(code: &[u8], log: &mut [u16], classes: &[u8], limit: u32, start: Walk) -> Walk
+pub fn plain(code: &[u8], log: &mut [u16], classes: &[u8], options: Options, start: Walk) -> Walk
     requires { ⌜ (Ready (now code) (now log) start) × (start .stop ≡ Stop.Running) ⌝ }
-    requires { ⌜ (GoodRows (now classes)) × (limit ≤ 244) ⌝ }
-    ensures { λ r. ⌜ Runs (rulesBy (now (classes .entry)) limit) (now (code .entry)) start (now (log .entry)) r (now (log .exit)) ⌝ }
+    requires { ⌜ (GoodRows (now classes)) × (options .limit ≤ 244) ⌝ }
+    ensures { λ r. ⌜ Runs (rulesBy (now (classes .entry)) (optionsOf options)) (now (code .entry)) start (now (log .entry)) r (now (log .exit)) ⌝ }
 {
+    let limit = options.limit;
     let s0 = start.stacks;
     let mut t = Stepped {
         stacks: s0,

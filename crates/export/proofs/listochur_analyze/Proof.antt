@@ -1,14 +1,14 @@
 use mathlib.Core.List.{List}
 use mathlib.Core.Path.{ap, _∙_}
 use Prim.Native.Nat.{ℕ}
-use Rattle.export.specs.View.{written}
-use Rattle.export.proofs.Items.{summary-is}
+use Rattle.places.specs.View.{written}
+use Rattle.places.proofs.Items.{summary-is}
 use borrow.Author.Needs.{needs}
 use Rattle.export.proofs.listochur_analyze.Statement.{statement}
 use Rattle.export.proofs.listochur_analyze.Tie as tie
 use Rattle.export.proofs.listochur_analyze.Reads as reads
 use Rattle.export.proofs.listochur_analyze.Lts as lts
-use Rattle.export.proofs.write.Reads as write-reads
+use Rattle.places.proofs.write.Reads as write-reads
 use Rattle.stack_analysis.proofs.analyze_heights.Reads as analyze-heights-reads
 
 analyze-heights-requires : tie.Need-analyze-heights-requires

@@ -1,25 +1,17 @@
 use mathlib.Core.List.{List}
 use mathlib.Core.Path.{ap, _∙_}
 use Prim.Native.Nat.{ℕ}
-use Rattle.export.specs.View.{written}
-use Rattle.export.proofs.Items.{verdict-is}
+use Rattle.places.specs.View.{written}
+use Rattle.places.proofs.Items.{verdict-is}
 use borrow.Author.Needs.{needs}
 use Rattle.export.proofs.listochur_analyze_items.Statement.{statement}
 use Rattle.export.proofs.listochur_analyze_items.Tie as tie
-use Rattle.export.proofs.listochur_analyze_items.Reads as reads
-use Rattle.export.proofs.listochur_analyze_items.Lts as lts
-use Rattle.export.proofs.write.Reads as write-reads
-use Rattle.export.proofs.write_items.Reads as write-items-reads
-use Rattle.stack_analysis.proofs.analyze.Reads as analyze-reads
 
 analyze-requires : tie.Need-analyze-requires
 analyze-requires c κs = search needs
 
-write-items-requires : tie.Need-write-items-requires
-write-items-requires c κs = search needs
-
-write-requires : tie.Need-write-requires
-write-requires c κs = search needs
+write-verdict-requires : tie.Need-write-verdict-requires
+write-verdict-requires c κs = search needs
 
 same-length : tie.Need-same-length
 same-length c = search needs
@@ -32,22 +24,13 @@ same-length-3 c = search needs
 
 returns : tie.Need-returns
 returns c =
-    let w = c .before .before in
-    let i = w .before .before .before .before in
-    let d = i .before .before .before .before .before in
+    let w = c .before .before .before .before in
+    let d = w .before .before .before .before .before in
     let a = d .before .before .before .before .before .before .args in
     let e = d .analyze .ensures in
+    let v = w .write-verdict .ensures in
     let m = verdict-is _ _ (e .0) in
-    (m .number, (e .1 .1 .1 .0, (i .write-items .ensures ∙ ap (λ (ns : List ℕ). written ns (a .items .now)) (m .items), w .write .ensures ∙ ap (λ (ns : List ℕ). written ns (a .out .now)) (m .heights))))
+    (v .0 ∙ m .number, (e .1 .1 .1 .0, (v .1 .0 ∙ ap (λ (ns : List ℕ). written ns (a .items .now)) (m .items), v .1 .1 ∙ ap (λ (ns : List ℕ). written ns (a .out .now)) (m .heights))))
 
 pub listochur-analyze-items-spec : {M : Type 1} → statement M
-listochur-analyze-items-spec =
-    tie.close
-    (tie.spec
-    analyze-requires
-    write-items-requires
-    write-requires
-    same-length
-    same-length-2
-    same-length-3
-    returns)
+listochur-analyze-items-spec = tie.close (tie.spec analyze-requires write-verdict-requires same-length same-length-2 same-length-3 returns)

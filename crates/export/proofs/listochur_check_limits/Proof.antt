@@ -1,6 +1,6 @@
 use mathlib.Core.Path.{ap, _∙_}
 use Rattle.definition.specs.Refusals.{Answer}
-use Rattle.export.specs.View.{written, answerNumbers}
+use Rattle.places.specs.View.{written, answerNumbers}
 use borrow.Author.Needs.{needs}
 use Rattle.export.proofs.listochur_check_limits.Statement.{statement}
 use Rattle.export.proofs.listochur_check_limits.Tie as tie

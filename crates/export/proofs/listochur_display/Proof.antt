@@ -1,8 +1,8 @@
 use mathlib.Core.List.{List}
 use mathlib.Core.Path.{ap, _∙_}
 use Prim.Native.Nat.{ℕ}
-use Rattle.export.specs.View.{written}
-use Rattle.export.proofs.Parts.{part-size, part-shown, part-inside, part-numbers}
+use Rattle.places.specs.View.{written}
+use Rattle.places.proofs.Parts.{part-size, part-shown, part-inside, part-numbers}
 use borrow.Author.Needs.{needs}
 use Rattle.export.proofs.listochur_display.Statement.{statement}
 use Rattle.export.proofs.listochur_display.Tie as tie

@@ -1,4 +1,4 @@
-use Rattle.export.proofs.Counters.{gain-answer, gain-counters}
+use Rattle.places.proofs.Counters.{gain-answer, gain-counters}
 use borrow.Author.Needs.{needs}
 use Rattle.export.proofs.listochur_gain.Statement.{statement}
 use Rattle.export.proofs.listochur_gain.Tie as tie

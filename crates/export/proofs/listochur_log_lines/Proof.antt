@@ -1,8 +1,8 @@
 use mathlib.Core.List.{[], _∷_}
 use mathlib.Core.Path.{ap, _∙_}
 use Prim.Native.Nat.{ℕ}
-use Rattle.export.specs.View.{written}
-use Rattle.export.proofs.Places.{where-room}
+use Rattle.places.specs.View.{written}
+use Rattle.places.proofs.Places.{where-room}
 use borrow.Author.Needs.{needs}
 use Rattle.export.proofs.listochur_log_lines.Statement.{statement}
 use Rattle.export.proofs.listochur_log_lines.Tie as tie

@@ -1,8 +1,8 @@
 use mathlib.Core.List.{List, [], _∷_}
 use mathlib.Core.Path.{ap, _∙_}
 use Prim.Native.Nat.{ℕ}
-use Rattle.export.specs.View.{written}
-use Rattle.export.proofs.Places.{held-number, held-size, held-text}
+use Rattle.places.specs.View.{written}
+use Rattle.places.proofs.Places.{held-number, held-size, held-text}
 use borrow.Author.Needs.{needs}
 use native.Mathlib.Omega.{arith}
 use Rattle.export.proofs.listochur_mark_lines.Statement.{statement}
@@ -11,17 +11,8 @@ use Rattle.export.proofs.listochur_mark_lines.Tie as tie
 mark-lines-requires : tie.Need-mark-lines-requires
 mark-lines-requires c κs = search needs
 
-array-share-prefix-bytes : tie.Need-array-share-prefix-bytes
-array-share-prefix-bytes c = search needs
-
-slice-aggregate-write-text : tie.Need-slice-aggregate-write-text
-slice-aggregate-write-text c = search needs
-
-write-text-requires : tie.Need-write-text-requires
-write-text-requires c κs = search needs
-
-write-size-requires : tie.Need-write-size-requires
-write-size-requires c κs = search needs
+write-lines-requires : tie.Need-write-lines-requires
+write-lines-requires c κs = search needs
 
 same-length : tie.Need-same-length
 same-length c = search needs
@@ -34,26 +25,15 @@ same-length-3 c = search needs
 
 returns : tie.Need-returns
 returns c =
-    let z = c .before .before in
-    let w = z .before .before .before .before in
-    let m = w .before .before .before .before .before .before in
+    let w = c .before .before .before .before in
+    let m = w .before .before .before .before .before in
     let a = m .before .before .before .before .before .before .args in
     let e = m .mark-lines .ensures .0 in
+    let v = w .write-lines .ensures in
     let size = held-size _ _ _ e in
-    let text = w .write-text .ensures ∙ ap (λ (t : List ℕ). written t (a .text .now)) (held-text _ _ _ e) in
-    let out = z .write-size .ensures ∙ ap (λ (n : ℕ). written (n ∷ []) (a .out .now)) size in
-    (held-number _ _ _ e, (m .mark-lines .ensures .1 .0, (text, (out, omega (arith, size, m .mark-lines .ensures .1 .1 .1)))))
+    let text = v .1 .0 ∙ ap (λ (t : List ℕ). written t (a .text .now)) (held-text _ _ _ e) in
+    let out = v .1 .1 ∙ ap (λ (n : ℕ). written (n ∷ []) (a .out .now)) size in
+    (v .0 ∙ held-number _ _ _ e, (m .mark-lines .ensures .1 .0, (text, (out, omega (arith, size, m .mark-lines .ensures .1 .1 .1)))))
 
 pub listochur-mark-lines-spec : {M : Type 1} → statement M
-listochur-mark-lines-spec =
-    tie.close
-    (tie.spec
-    mark-lines-requires
-    array-share-prefix-bytes
-    slice-aggregate-write-text
-    write-text-requires
-    write-size-requires
-    same-length
-    same-length-2
-    same-length-3
-    returns)
+listochur-mark-lines-spec = tie.close (tie.spec mark-lines-requires write-lines-requires same-length same-length-2 same-length-3 returns)

@@ -1,7 +1,7 @@
 use mathlib.Core.Path.{ap, _∙_}
 use Rattle.definition.specs.Papers.{PaperVerdict}
 use Rattle.paper.specs.View.{paperOf}
-use Rattle.export.specs.View.{written, paperNumbers}
+use Rattle.places.specs.View.{written, paperNumbers}
 use borrow.Author.Needs.{needs}
 use Rattle.export.proofs.listochur_mark_paper.Statement.{statement}
 use Rattle.export.proofs.listochur_mark_paper.Tie as tie

@@ -2,8 +2,8 @@ use mathlib.Core.List.{List, [], _∷_}
 use mathlib.Core.Path.{refl, ap, _∙_}
 use Prim.Native.Nat.{ℕ}
 use lib.ListN.{length-take}
-use Rattle.export.specs.View.{written}
-use Rattle.export.proofs.Places.{first-size, first-text}
+use Rattle.places.specs.View.{written}
+use Rattle.places.proofs.Places.{first-size, first-text}
 use borrow.Author.Needs.{needs}
 use native.Mathlib.Omega.{arith}
 use Rattle.export.proofs.listochur_reason.Statement.{statement}

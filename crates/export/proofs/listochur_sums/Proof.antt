@@ -1,6 +1,6 @@
 use mathlib.Core.Path.{ap, _∙_}
 use Rattle.definition.specs.Sums.{SittingSums}
-use Rattle.export.specs.View.{written, sumsNumbers}
+use Rattle.places.specs.View.{written, sumsNumbers}
 use borrow.Author.Needs.{needs}
 use Rattle.export.proofs.listochur_sums.Statement.{statement}
 use Rattle.export.proofs.listochur_sums.Tie as tie

@@ -9,10 +9,10 @@ use Rattle.header.proofs.dispatch_check.Lts as lts
 use Rattle.header.proofs.field.Reads as field-reads
 
 abbrev Inv-loop : tie.InvT-loop
-Inv-loop paper count fields k₀ k = Dispatching paper count k
+Inv-loop paper limit count fields k₀ k = Dispatching limit paper count k
 
 abbrev μ-loop : tie.MeasureT-loop
-μ-loop paper count fields k₀ k = count - k
+μ-loop paper limit count fields k₀ k = count - k
 
 field-requires : tie.Need-field-requires Inv-loop μ-loop
 field-requires c κs = search needs
@@ -24,7 +24,7 @@ field-requires-2 : tie.Need-field-requires-2 Inv-loop μ-loop
 field-requires-2 c κs = search needs
 
 loop-holds : tie.Need-loop-holds Inv-loop μ-loop
-loop-holds c = dispatching-all _ _ (c .before .field .ensures .0)
+loop-holds c = dispatching-all _ _ _ (c .before .field .ensures .0)
 
 mul-field : tie.Need-mul-field Inv-loop μ-loop
 mul-field c = search needs
@@ -45,7 +45,7 @@ returns : tie.Need-returns Inv-loop μ-loop
 returns c =
     let l = c .before .before .before in
     let a = l .before .before in
-    dispatching-over (a .before .before .args .paper .now) (a .field .result) (a .field .ensures .0) (l .loop .k) (l .loop .inv) (c .before .before .loop-test .taken) (c .before .field3 .result) (l .before .field2 .result) (c .before .field3 .ensures .0) (l .before .field2 .ensures .0) (c .if1 .taken)
+    dispatching-over (a .before .before .args .limit) (a .before .before .args .paper .now) (a .field .result) (a .field .ensures .0) (l .loop .k) (l .loop .inv) (c .before .before .loop-test .taken) (c .before .field3 .result) (l .before .field2 .result) (c .before .field3 .ensures .0) (l .before .field2 .ensures .0) (c .if1 .taken)
 
 add-k : tie.Need-add-k Inv-loop μ-loop
 add-k c = search needs
@@ -57,13 +57,13 @@ loop-again : tie.Need-loop-again Inv-loop μ-loop
 loop-again c =
     let l = c .before .before .before in
     let a = l .before .before in
-    dispatching-more (a .before .before .args .paper .now) (a .field .result) (a .field .ensures .0) (l .loop .k) (l .loop .inv) (c .before .before .loop-test .taken) (c .before .field3 .result) (l .before .field2 .result) (c .before .field3 .ensures .0) (l .before .field2 .ensures .0) (c .if1 .left)
+    dispatching-more (a .before .before .args .limit) (a .before .before .args .paper .now) (a .field .result) (a .field .ensures .0) (l .loop .k) (l .loop .inv) (c .before .before .loop-test .taken) (c .before .field3 .result) (l .before .field2 .result) (c .before .field3 .ensures .0) (l .before .field2 .ensures .0) (c .if1 .left)
 
 returns-2 : tie.Need-returns-2 Inv-loop μ-loop
 returns-2 c =
     let l = c .before in
     let a = l .before .before in
-    dispatching-none (a .before .before .args .paper .now) (a .field .result) (a .field .ensures .0) (l .loop .k) (l .loop .inv) (c .loop-test .left)
+    dispatching-none (a .before .before .args .limit) (a .before .before .args .paper .now) (a .field .result) (a .field .ensures .0) (l .loop .k) (l .loop .inv) (c .loop-test .left)
 
 pub dispatch-check-spec : {M : Type 1} → statement M
 dispatch-check-spec =

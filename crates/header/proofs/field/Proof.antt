@@ -1,4 +1,4 @@
-use Rattle.header.proofs.Headers.{field-past, field-last, field-whole}
+use Rattle.header.proofs.Fields.{field-past, field-last, field-whole}
 use borrow.Author.Needs.{needs}
 use native.Mathlib.Omega.{arith}
 use Rattle.header.proofs.field.Statement.{statement}

@@ -14,8 +14,8 @@ returns : tie.Need-returns
 returns c =
     let w = c .before .before in
     let b = w .before .before in
-    let a = b .before .before .before .before .args in
-    (lines-long (a .paper .now) (a .log .now) (b .if1 .taken) (w .refuse .ensures .0) (w .refuse .ensures .1 .1), omega (arith, w .refuse .ensures .1 .0))
+    let a = b .before .before .before .before .before .args in
+    (lines-long _ (a .paper .now) (a .log .now) (b .if1 .taken) (w .refuse .ensures .0) (w .refuse .ensures .1 .1), omega (arith, w .refuse .ensures .1 .0))
 
 header-ok-requires : tie.Need-header-ok-requires
 header-ok-requires c κs = search needs
@@ -31,8 +31,8 @@ returns-2 c =
     let w = c .before .before in
     let b = w .before .before in
     let h = b .before in
-    let a = h .before .before .before .before .before .args in
-    (lines-bad (a .paper .now) (a .log .now) (h .before .if1 .left) (h .header-ok .result) (h .header-ok .ensures) (b .if2 .taken) (w .refuse2 .ensures .0) (w .refuse2 .ensures .1 .1), omega (arith, w .refuse2 .ensures .1 .0))
+    let a = h .before .before .before .before .before .before .args in
+    (lines-bad _ (a .paper .now) (a .log .now) (h .before .if1 .left) (h .header-ok .result) (h .header-ok .ensures) (b .if2 .taken) (w .refuse2 .ensures .0) (w .refuse2 .ensures .1 .1), omega (arith, w .refuse2 .ensures .1 .0))
 
 dispatch-check-requires : tie.Need-dispatch-check-requires
 dispatch-check-requires c κs = search needs
@@ -42,6 +42,9 @@ enum-known-d c = search needs
 
 cast-refuse : tie.Need-cast-refuse
 cast-refuse c = search needs
+
+cast-refuse-2 : tie.Need-cast-refuse-2
+cast-refuse-2 c = search needs
 
 refuse-requires-3 : tie.Need-refuse-requires-3
 refuse-requires-3 c κs = search needs
@@ -53,8 +56,8 @@ write-fragments-requires : tie.Need-write-fragments-requires
 write-fragments-requires c κs =
     let b = c .before .before .before .before .before in
     let h = b .before in
-    let s = h .before .before .before .before .before in
-    (few-fragments (s .args .paper .now) (h .header-ok .result) (h .header-ok .ensures) (b .if2 .left), s .pre)
+    let s = h .before .before .before .before .before .before in
+    ((few-fragments (s .args .paper .now) (h .header-ok .result) (h .header-ok .ensures) (b .if2 .left), s .pre .0), s .pre .1)
 
 same-length-3 : tie.Need-same-length-3
 same-length-3 c = search needs
@@ -66,8 +69,8 @@ returns-3 c =
     let d = e .before .before in
     let b = d .before in
     let h = b .before in
-    let a = h .before .before .before .before .before .args in (
-      lines-over (a .paper .now) (a .log .now) (h .before .if1 .left) (h .header-ok .result) (h .header-ok .ensures) (b .if2 .left) (d .dispatch-check .result) (d .dispatch-check .ensures) _ _ (e .d .given .1) (w .refuse3 .ensures .0) (w .refuse3 .ensures .1 .1),
+    let a = h .before .before .before .before .before .before .args in (
+      lines-over _ (a .paper .now) (a .log .now) (h .before .if1 .left) (h .header-ok .result) (h .header-ok .ensures) (b .if2 .left) (d .dispatch-check .result) (d .dispatch-check .ensures) _ _ (e .d .given .1) (w .refuse3 .ensures .0) (w .refuse3 .ensures .1 .1),
       omega (arith, w .refuse3 .ensures .1 .0),
     )
 
@@ -84,8 +87,8 @@ returns-4 c =
     let d = e .before .before in
     let b = d .before in
     let h = b .before in
-    let a = h .before .before .before .before .before .args in (
-      lines-marked (a .paper .now) (a .log .now) (h .before .if1 .left) (h .header-ok .result) (h .header-ok .ensures) (b .if2 .left) (d .dispatch-check .result) (d .dispatch-check .ensures) (e .enum-told .given .1) (w .write-fragments .ensures .0),
+    let a = h .before .before .before .before .before .before .args in (
+      lines-marked _ (a .paper .now) (a .log .now) (h .before .if1 .left) (h .header-ok .result) (h .header-ok .ensures) (b .if2 .left) (d .dispatch-check .result) (d .dispatch-check .ensures) (e .enum-told .given .1) (w .write-fragments .ensures .0),
       w .write-fragments .ensures .1,
     )
 
@@ -103,6 +106,7 @@ write-lines-spec =
     dispatch-check-requires
     enum-known-d
     cast-refuse
+    cast-refuse-2
     refuse-requires-3
     enum-told
     write-fragments-requires

@@ -2,6 +2,7 @@ use native.Mathlib.Omega.{arith}
 use Rattle.log_blocks.proofs.Puts.{put-as, then-put}
 use mathlib.Core.Path.{ap}
 use mathlib.Core.List.{_++_}
+use Rattle.definition.specs.Maps.{rulesBy}
 use Rattle.definition.specs.Basics.{Bytes}
 use Rattle.log_rows.specs.Rows.{rows}
 use Rattle.log_lines.specs.Log.{start, verdictLine}
@@ -32,12 +33,13 @@ returns c =
     let b = v .before .before .before .before in
     let a = b .before .before .before .before in
     let f = a .before .before in
-    let s = f .before .before .before .before in
+    let s = f .before .before .before .before .before in
     let x = s .args in (
-      put-as
-          (ap (λ (l : Bytes). start (x .paper .now) (x .k) ++ rows l (x .log .now) (x .t .peak) (x .from) (x .t .rows)
-          ++ verdictLine l (x .log .now) (x .from) (x .t)) (f .fragment-bytes .ensures))
-          (then-put (then-put (a .put-start .ensures .0) (b .put-table .ensures .0)) (v .put-verdict .ensures .0)),
+      λ options.
+          put-as
+          (ap (λ (l : Bytes). start (x .paper .now) (x .k) ++ rows (rulesBy (x .classes .now) options) l (x .log .now) (x .t .peak) (x .from) (x .t .rows)
+          ++ verdictLine (rulesBy (x .classes .now) options) l (x .log .now) (x .from) (x .t)) (f .fragment-bytes .ensures))
+          (then-put (then-put (a .put-start .ensures .0) (b .put-table .ensures .0 options)) (v .put-verdict .ensures .0 options)),
       omega (arith, a .put-start .ensures .1, b .put-table .ensures .1, v .put-verdict .ensures .1),
     )
 

@@ -20,8 +20,8 @@ slice-aggregate-put c =
 
 put-requires : tie.Need-put-requires
 put-requires c κs =
-    let s = c .before .before .before .before .before .before .before .before in
-    (omega (arith, s .pre), simp length-take (omega arith))
+    let s = c .before .before .before .before .before .before .before .before .before in
+    (omega (arith, s .pre .0), simp length-take (omega arith))
 
 same-length : tie.Need-same-length
 same-length c = search needs
@@ -30,7 +30,7 @@ returns : tie.Need-returns
 returns c =
     let p = c .before .before in
     let w = p .before .before .before .before in
-    (line-put (w .write-verdict .ensures .0) (p .put .ensures .0), p .put .ensures .1)
+    (λ options. line-put (w .write-verdict .ensures .0 options) (p .put .ensures .0), p .put .ensures .1)
 
 pub put-verdict-spec : {M : Type 1} → statement M
 put-verdict-spec =

@@ -6,8 +6,8 @@ use Rattle.log_lines.proofs.other_main.Tie as tie
 main-at-requires : tie.Need-main-at-requires
 main-at-requires c κs = search needs
 
-opcode-at-requires : tie.Need-opcode-at-requires
-opcode-at-requires c κs = search needs
+class-of-row-requires : tie.Need-class-of-row-requires
+class-of-row-requires c κs = search needs
 
 is-if-requires : tie.Need-is-if-requires
 is-if-requires c κs = search needs
@@ -19,8 +19,8 @@ returns c =
     let t = i .before in
     let o = t .before in
     let m = o .before in
-    let s = m .before .before .before in
-    main-none (s .args .fragment .now) (s .args .log .now) (s .args .row) (o .opcode-at .result) (m .main-at .result) (o .opcode-at .ensures) (m .main-at .ensures .0) (t .is-if .result) (t .is-if .ensures) (i .if1 .taken) (j .if2 .taken)
+    let s = m .before .before .before .before in
+    main-none (s .args .classes .now) (s .args .fragment .now) (s .args .log .now) (s .args .row) (o .class-of-row .result) (m .main-at .result) (o .class-of-row .ensures) (m .main-at .ensures .0) (t .is-if .result) (t .is-if .ensures) (i .if1 .taken) (j .if2 .taken)
 
 sub-result : tie.Need-sub-result
 sub-result c = search needs
@@ -31,8 +31,8 @@ returns-2 c =
     let t = i .before in
     let o = t .before in
     let m = o .before in
-    let s = m .before .before .before in
-    main-less (s .args .fragment .now) (s .args .log .now) (s .args .row) (o .opcode-at .result) (m .main-at .result) (o .opcode-at .ensures) (m .main-at .ensures .0) (t .is-if .result) (t .is-if .ensures) (i .if1 .taken)
+    let s = m .before .before .before .before in
+    main-less (s .args .classes .now) (s .args .fragment .now) (s .args .log .now) (s .args .row) (o .class-of-row .result) (m .main-at .result) (o .class-of-row .ensures) (m .main-at .ensures .0) (t .is-if .result) (t .is-if .ensures) (i .if1 .taken)
 
 returns-3 : tie.Need-returns-3
 returns-3 c =
@@ -40,15 +40,15 @@ returns-3 c =
     let t = i .before in
     let o = t .before in
     let m = o .before in
-    let s = m .before .before .before in
-    main-same (s .args .fragment .now) (s .args .log .now) (s .args .row) (o .opcode-at .result) (m .main-at .result) (o .opcode-at .ensures) (m .main-at .ensures .0) (t .is-if .result) (t .is-if .ensures) (i .if1 .left)
+    let s = m .before .before .before .before in
+    main-same (s .args .classes .now) (s .args .fragment .now) (s .args .log .now) (s .args .row) (o .class-of-row .result) (m .main-at .result) (o .class-of-row .ensures) (m .main-at .ensures .0) (t .is-if .result) (t .is-if .ensures) (i .if1 .left)
 
 pub other-main-spec : {M : Type 1} → statement M
 other-main-spec =
     tie.close
     (tie.spec
     main-at-requires
-    opcode-at-requires
+    class-of-row-requires
     is-if-requires
     returns
     sub-result

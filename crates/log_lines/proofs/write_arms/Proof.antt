@@ -1,6 +1,7 @@
 use native.Mathlib.Omega.{arith}
 use Prim.Native.Nat.{_≤_}
 use lib.ListN.{length}
+use Rattle.definition.specs.Maps.{rulesBy}
 use Rattle.text.proofs.Texts.{then-written}
 use Rattle.log_lines.proofs.Arms.{arms-written}
 use borrow.Author.Needs.{needs}
@@ -53,7 +54,13 @@ slice-aggregate-write-labelled-4 : tie.Need-slice-aggregate-write-labelled-4
 slice-aggregate-write-labelled-4 c = search needs
 
 alt-at-requires-2 : tie.Need-alt-at-requires-2
-alt-at-requires-2 c κs = search needs
+alt-at-requires-2 c κs =
+    let d = c .before .before .before .before in
+    let b = d .before .before .before .before .before .before in
+    let a = b .before .before .before .before .before .before in
+    let o = a .before .before .before .before in
+    let s = o .before .before .before .before .before in
+    omega (arith, o .opener .ensures .1, s .pre .0)
 
 cast-write-labelled-4 : tie.Need-cast-write-labelled-4
 cast-write-labelled-4 c = search needs
@@ -63,7 +70,7 @@ write-labelled-requires-4 c κs =
     let d = c .before .before .before .before .before in
     let b = d .before .before .before .before .before .before in
     let a = b .before .before .before .before .before .before in
-    let s = a .before .before .before .before .before .before .before .before in
+    let s = a .before .before .before .before .before .before .before .before .before in
     omega (arith, a .write-labelled, b .write-labelled2, d .write-labelled3, s .pre)
 
 same-length : tie.Need-same-length
@@ -80,10 +87,10 @@ returns c =
     let a = z .before .before .before .before .before in
     let w = a .before in
     let o = w .before .before .before in
-    let s = o .before .before .before .before in
+    let s = o .before .before .before .before .before in
     let room : s .args .at ≤ length (s .args .out .now) = omega (arith, s .pre) in (
-      arms-written (s .args .fragment .now) (s .args .log .now) (s .args .from) (s .args .count) (o .opener .ensures .0) (w .main-at .ensures .0)
-          (z .alt-at .ensures .0) (x .other-main .ensures) (y .alt-at2 .ensures .0)
+      λ options. arms-written (rulesBy (s .args .classes .now) options) (s .args .fragment .now) (s .args .log .now) (s .args .from) (s .args .count) (o .opener .ensures .0 options) (w .main-at .ensures .0)
+          (z .alt-at .ensures .0) (x .other-main .ensures options) (y .alt-at2 .ensures .0)
           (then-written room (then-written room (then-written room (a .write-labelled .ensures .0) (b .write-labelled2 .ensures .0))
           (d .write-labelled3 .ensures .0)) (e .write-labelled4 .ensures .0)),
       omega (

@@ -33,9 +33,9 @@ returns c =
     let d = e .before .before .before .before .before in
     let b = d .before .before .before .before in
     let a = b .before .before .before .before in
-    let s = a .before .before .before .before .before .before in (
-      then-written (omega arith) (then-written (omega arith) (then-written (omega arith) (a .write-word .ensures) (b .write-refusal .ensures .0))
-          (d .write-arms .ensures .0)) (e .write-word2 .ensures),
+    let s = a .before .before .before .before .before .before .before in (
+      λ options. then-written (omega arith) (then-written (omega arith) (then-written (omega arith) (a .write-word .ensures) (b .write-refusal .ensures .0))
+          (d .write-arms .ensures .0 options)) (e .write-word2 .ensures),
       omega (arith, a .write-word .ensures .ends, b .write-refusal .ensures .1, d .write-arms .ensures .1, e .write-word2 .ensures .ends),
     )
 

@@ -1,3 +1,4 @@
+use Rattle.definition.specs.Maps.{rulesBy}
 use Rattle.log_lines.proofs.Verdicts.{verdict-accepted, verdict-malformed, verdict-before, verdict-arms, verdict-walk}
 use borrow.Author.Needs.{needs}
 use Rattle.log_lines.proofs.write_verdict.Statement.{statement}
@@ -13,8 +14,8 @@ returns : tie.Need-returns
 returns c =
     let w = c .before .before in
     let i = w .before .before in
-    let s = i .before .before .before .before .before in
-    (verdict-accepted (s .args .fragment .now) (s .args .log .now) (s .args .from) (s .args .t) (i .if1 .taken) (w .write-accepted .ensures .0), w .write-accepted .ensures .1)
+    let s = i .before .before .before .before .before .before in
+    (λ options. verdict-accepted (rulesBy (s .args .classes .now) options) (s .args .fragment .now) (s .args .log .now) (s .args .from) (s .args .t) (i .if1 .taken) (w .write-accepted .ensures .0), w .write-accepted .ensures .1)
 
 display-requires : tie.Need-display-requires
 display-requires c κs = search needs
@@ -31,8 +32,8 @@ returns-2 c =
     let d = w .before .before in
     let j = d .before in
     let i = j .before .before in
-    let s = i .before .before .before .before .before in (
-      verdict-malformed (s .args .fragment .now) (s .args .log .now) (s .args .from) (s .args .t) (i .if1 .left) (j .if2 .taken) (d .display .ensures) (w .write-malformed .ensures .0),
+    let s = i .before .before .before .before .before .before in (
+      λ options. verdict-malformed (rulesBy (s .args .classes .now) options) (s .args .fragment .now) (s .args .log .now) (s .args .from) (s .args .t) (i .if1 .left) (j .if2 .taken) (d .display .ensures) (w .write-malformed .ensures .0),
       w .write-malformed .ensures .1,
     )
 
@@ -51,8 +52,8 @@ returns-3 c =
     let k = w .before .before .before in
     let j = k .before .before in
     let i = j .before .before in
-    let s = i .before .before .before .before .before in (
-      verdict-before (s .args .fragment .now) (s .args .log .now) (s .args .from) (s .args .t) (i .if1 .left) (j .if2 .left) (k .if3 .taken) (w .write-refusal-line .ensures .0),
+    let s = i .before .before .before .before .before .before in (
+      λ options. verdict-before (rulesBy (s .args .classes .now) options) (s .args .fragment .now) (s .args .log .now) (s .args .from) (s .args .t) (i .if1 .left) (j .if2 .left) (k .if3 .taken) (w .write-refusal-line .ensures .0),
       w .write-refusal-line .ensures .1,
     )
 
@@ -72,8 +73,8 @@ returns-4 c =
     let k = l .before .before in
     let j = k .before .before in
     let i = j .before .before in
-    let s = i .before .before .before .before .before in (
-      verdict-arms (s .args .fragment .now) (s .args .log .now) (s .args .from) (s .args .t) (i .if1 .left) (j .if2 .left) (k .if3 .left) (l .if4 .taken) (w .write-differ .ensures .0),
+    let s = i .before .before .before .before .before .before in (
+      λ options. verdict-arms (rulesBy (s .args .classes .now) options) (s .args .fragment .now) (s .args .log .now) (s .args .from) (s .args .t) (i .if1 .left) (j .if2 .left) (k .if3 .left) (l .if4 .taken) (w .write-differ .ensures .0 options),
       w .write-differ .ensures .1,
     )
 
@@ -93,8 +94,8 @@ returns-5 c =
     let k = l .before .before in
     let j = k .before .before in
     let i = j .before .before in
-    let s = i .before .before .before .before .before in (
-      verdict-walk (s .args .fragment .now) (s .args .log .now) (s .args .from) (s .args .t) (i .if1 .left) (j .if2 .left) (k .if3 .left) (l .if4 .left) (w .write-refusal-line2 .ensures .0),
+    let s = i .before .before .before .before .before .before in (
+      λ options. verdict-walk (rulesBy (s .args .classes .now) options) (s .args .fragment .now) (s .args .log .now) (s .args .from) (s .args .t) (i .if1 .left) (j .if2 .left) (k .if3 .left) (l .if4 .left) (w .write-refusal-line2 .ensures .0),
       w .write-refusal-line2 .ensures .1,
     )
 

@@ -16,7 +16,7 @@ returns c =
     let i = c in
     let t = i .before in
     let s = t .before in
-    (depth-if (s .args .opcode) (s .args .depth) (t .is-if .result) (t .is-if .ensures) (i .if1 .taken), omega arith)
+    (depth-if (s .args .class) (s .args .depth) (t .is-if .result) (t .is-if .ensures) (i .if1 .taken), omega arith)
 
 left-of-requires : tie.Need-left-of-requires
 left-of-requires c κs = search needs
@@ -28,7 +28,7 @@ returns-2 c =
     let i = j .before in
     let t = i .before in
     let s = t .before in (
-      l .left-of .ensures ∙ depth-endif (s .args .opcode) (s .args .depth) (t .is-if .result) (t .is-if .ensures) (i .if1 .left) (j .if2 .taken),
+      l .left-of .ensures ∙ depth-endif (s .args .class) (s .args .depth) (t .is-if .result) (t .is-if .ensures) (i .if1 .left) (j .if2 .taken),
       omega (arith, l .left-of .ensures),
     )
 
@@ -38,7 +38,7 @@ returns-3 c =
     let i = j .before in
     let t = i .before in
     let s = t .before in
-    (depth-same (s .args .opcode) (s .args .depth) (t .is-if .result) (t .is-if .ensures) (i .if1 .left) (j .if2 .left), omega arith)
+    (depth-same (s .args .class) (s .args .depth) (t .is-if .result) (t .is-if .ensures) (i .if1 .left) (j .if2 .left), omega arith)
 
 pub depth-after-spec : {M : Type 1} → statement M
 depth-after-spec =

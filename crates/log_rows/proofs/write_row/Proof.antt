@@ -21,11 +21,8 @@ main-at-requires c κs = search needs
 alt-at-requires : tie.Need-alt-at-requires
 alt-at-requires c κs = search needs
 
-cast-byte-at : tie.Need-cast-byte-at
-cast-byte-at c = search needs
-
-byte-at-requires : tie.Need-byte-at-requires
-byte-at-requires c κs = search needs
+class-of-row-requires : tie.Need-class-of-row-requires
+class-of-row-requires c κs = search needs
 
 indent-requires : tie.Need-indent-requires
 indent-requires c κs = search needs
@@ -42,11 +39,11 @@ write-row-line-requires c κs =
     let a = r .before .before in
     let m = a .before in
     let o = m .before in
-    let s = o .before .before .before .before .before in (
+    let s = o .before .before .before .before .before .before in (
       (s .pre .0 .0, (m .main-at .ensures .1, a .alt-at .ensures .1)),
       (
-        (s .pre .1 .0, total-within (s .args .log .now) (s .args .scale) (s .args .j) (m .main-at .ensures .0) (a .alt-at .ensures .0) (s .pre .1 .1)),
-        (o .wide .ensures .1, r .indent .ensures .1),
+        (s .pre .1 .0 .0, total-within (s .args .log .now) (s .args .scale) (s .args .j) (m .main-at .ensures .0) (a .alt-at .ensures .0) (s .pre .1 .0 .1)),
+        o .wide .ensures .1,
       ),
     )
 
@@ -62,9 +59,9 @@ returns c =
     let a = b .before in
     let m = a .before in
     let o = m .before in
-    let s = o .before .before .before .before .before in (
-      row-written (s .args .fragment .now) (s .args .log .now) (s .args .scale) (s .args .depth) (s .args .j) (o .wide .ensures .0)
-          (m .main-at .ensures .0) (a .alt-at .ensures .0) (b .byte-at .ensures) (r .indent .ensures .0) (d .display .ensures)
+    let s = o .before .before .before .before .before .before in (
+      row-written (s .args .classes .now) (s .args .fragment .now) (s .args .log .now) (s .args .scale) (s .args .depth) (s .args .j) (o .wide .ensures .0)
+          (m .main-at .ensures .0) (a .alt-at .ensures .0) (b .class-of-row .ensures) (r .indent .ensures) (d .display .ensures)
           (w .write-row-line .ensures .0),
       w .write-row-line .ensures .1,
     )
@@ -79,8 +76,7 @@ write-row-spec =
     wide-requires
     main-at-requires
     alt-at-requires
-    cast-byte-at
-    byte-at-requires
+    class-of-row-requires
     indent-requires
     cast-display
     display-requires

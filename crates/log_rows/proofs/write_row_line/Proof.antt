@@ -14,11 +14,8 @@ write-column-requires c κs =
 write-heights-requires : tie.Need-write-heights-requires
 write-heights-requires c κs = search needs
 
-write-same-requires : tie.Need-write-same-requires
-write-same-requires c κs = search needs
-
-write-instruction-requires : tie.Need-write-instruction-requires
-write-instruction-requires c κs = search needs
+write-bytes-field-requires : tie.Need-write-bytes-field-requires
+write-bytes-field-requires c κs = search needs
 
 slice-aggregate-write-word : tie.Need-slice-aggregate-write-word
 slice-aggregate-write-word c = search needs
@@ -26,29 +23,39 @@ slice-aggregate-write-word c = search needs
 write-word-requires : tie.Need-write-word-requires
 write-word-requires c κs = search needs
 
+write-indented-requires : tie.Need-write-indented-requires
+write-indented-requires c κs = search needs
+
+slice-aggregate-write-word-2 : tie.Need-slice-aggregate-write-word-2
+slice-aggregate-write-word-2 c = search needs
+
+write-word-requires-2 : tie.Need-write-word-requires-2
+write-word-requires-2 c κs = search needs
+
 same-length : tie.Need-same-length
 same-length c = search needs
 
 returns : tie.Need-returns
 unfolding rowLine
 returns c =
-    let f = c .before .before in
-    let e = f .before .before .before .before .before in
-    let d = e .before .before .before .before in
+    let g = c .before .before in
+    let f = g .before .before .before .before .before in
+    let e = f .before .before .before .before in
+    let d = e .before .before .before .before .before in
     let b = d .before .before .before .before in
     let a = b .before .before .before .before in
     let s = a .before .before .before .before in (
-      then-written (omega arith) (then-written (omega arith) (then-written (omega arith)
-          (then-written (omega arith) (a .write-column .ensures .0) (b .write-heights .ensures .0)) (d .write-same .ensures .0))
-          (e .write-instruction .ensures .0)) (f .write-word .ensures),
+      then-written (omega arith) (then-written (omega arith) (then-written (omega arith) (then-written (omega arith)
+          (then-written (omega arith) (a .write-column .ensures .0) (b .write-heights .ensures .0)) (d .write-bytes-field .ensures .0))
+          (e .write-word .ensures)) (f .write-indented .ensures .0)) (g .write-word2 .ensures),
       omega (
         arith,
         a .write-column .ensures .1,
         b .write-heights .ensures .1,
-        d .write-same .ensures .1,
-        e .write-instruction .ensures .1,
-        f .write-word .ensures .ends,
-        s .pre .1 .1,
+        d .write-bytes-field .ensures .1,
+        e .write-word .ensures .ends,
+        f .write-indented .ensures .1,
+        g .write-word2 .ensures .ends,
       ),
     )
 
@@ -58,9 +65,11 @@ write-row-line-spec =
     (tie.spec
     write-column-requires
     write-heights-requires
-    write-same-requires
-    write-instruction-requires
+    write-bytes-field-requires
     slice-aggregate-write-word
     write-word-requires
+    write-indented-requires
+    slice-aggregate-write-word-2
+    write-word-requires-2
     same-length
     returns)

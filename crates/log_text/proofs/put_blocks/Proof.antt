@@ -3,47 +3,48 @@ use mathlib.Core.Path.{_≡_}
 use lib.ListN.{length, take, getD}
 use native.Mathlib.Omega.{arith}
 use borrow.Author.Needs.{needs}
+use Rattle.definition.specs.Maps.{builtInOptions}
 use Rattle.log_text.proofs.Blocks.{Blocking, blocking-none, blocking-more, blocking-end, rows-within, blank, length-count, told-at}
 use Rattle.log_text.proofs.put_blocks.Statement.{statement}
 use Rattle.log_text.proofs.put_blocks.Tie as tie
 
 abbrev Inv-loop : tie.InvT-loop
-Inv-loop text₀ go paper log count told at₀ from₀ k₀ t13 text at from k =
-    (Blocking go text₀ paper log (take count told) text at from k) × (k ≤ count)
+Inv-loop text₀ go paper log classes count told at₀ from₀ k₀ t13 text at from k =
+    (Blocking go text₀ classes paper log (take count told) text at from k) × (k ≤ count)
 
 abbrev μ-loop : tie.MeasureT-loop
-μ-loop text₀ go paper log count told at₀ from₀ k₀ t13 text at from k = count - k
+μ-loop text₀ go paper log classes count told at₀ from₀ k₀ t13 text at from k = count - k
 
 -- the array is whole
-whole : (c : tie.At-loop Inv-loop μ-loop) → length (c .before .before .before .before .args .t6) ≡ 33
-whole c = c .before .before .before .before .good .1 .1 .1 .1 .1 .0 .1 .0 .1
+whole : (c : tie.At-loop Inv-loop μ-loop) → length (c .before .before .before .before .before .args .t7) ≡ 33
+whole c = c .before .before .before .before .before .good .1 .1 .1 .1 .1 .1 .0 .1 .0 .1
 
 loop-holds : tie.Need-loop-holds Inv-loop μ-loop
 loop-holds c =
-    let s = c .before .before .before in
-    (blocking-none (s .args .go) (s .args .text .now) (s .args .paper .now) (s .args .log .now) (take (s .args .count) (s .args .t6)), omega arith)
+    let s = c .before .before .before .before in
+    (blocking-none (s .args .go) (s .args .text .now) (s .args .classes .now) (s .args .paper .now) (s .args .log .now) (take (s .args .count) (s .args .t7)), omega arith)
 
 mul-t : tie.Need-mul-t Inv-loop μ-loop
 mul-t c =
     let l = c .before in
-    let s = l .before .before .before .before in
-    omega (arith, s .pre)
+    let s = l .before .before .before .before .before in
+    omega (arith, s .pre .0)
 
 array-copy-out-t : tie.Need-array-copy-out-t Inv-loop μ-loop
 array-copy-out-t c =
     let l = c .before in
-    let s = l .before .before .before .before in
-    omega (arith, s .pre)
+    let s = l .before .before .before .before .before in
+    omega (arith, s .pre .0)
 
 put-block-requires : tie.Need-put-block-requires Inv-loop μ-loop
 put-block-requires c κs =
     let x = c .before .before in
     let l = x .before in
-    let s = l .before .before .before .before in
-    let r = rows-within (s .args .go) (s .args .text .now) (s .args .paper .now) (s .args .log .now) (take (s .args .count) (s .args .t6)) (l .loop .text) (l .loop .at) (l .loop .from) (l .loop .k) (l .loop .inv .0)
-    (omega (arith, length-count (s .args .t6) (s .args .count) (whole l) (s .pre .0 .0), x .loop-test .taken)) blank (getD (s .args .t6) (l .loop .k) blank)
-    (told-at (s .args .t6) (s .args .count) (whole l) (s .pre .0 .0) (l .loop .k) blank (omega (arith, x .loop-test .taken))) in
-    ((omega (arith, r, s .pre, l .loop .inv .0 .near), omega (arith, r, s .pre)))
+    let s = l .before .before .before .before .before in
+    let r = rows-within (s .args .go) (s .args .text .now) (s .args .classes .now) (s .args .paper .now) (s .args .log .now) (take (s .args .count) (s .args .t7)) (l .loop .text) (l .loop .at) (l .loop .from) (l .loop .k) (l .loop .inv .0)
+    (omega (arith, length-count (s .args .t7) (s .args .count) (whole l) (s .pre .0 .0), x .loop-test .taken)) blank (getD (s .args .t7) (l .loop .k) blank)
+    (told-at (s .args .t7) (s .args .count) (whole l) (s .pre .0 .0) (l .loop .k) blank (omega (arith, x .loop-test .taken))) in
+    ((omega (arith, r, s .pre .0, l .loop .inv .0 .near), omega (arith, r, s .pre .1 .0)), s .pre .1 .1)
 
 slice-aggregate-put : tie.Need-slice-aggregate-put Inv-loop μ-loop
 slice-aggregate-put c = search needs
@@ -53,21 +54,21 @@ put-requires c κs =
     let b = c .before .before .before .before in
     let x = b .before .before .before in
     let l = x .before in
-    let s = l .before .before .before .before in
-    let r = rows-within (s .args .go) (s .args .text .now) (s .args .paper .now) (s .args .log .now) (take (s .args .count) (s .args .t6)) (l .loop .text) (l .loop .at) (l .loop .from) (l .loop .k) (l .loop .inv .0)
-    (omega (arith, length-count (s .args .t6) (s .args .count) (whole l) (s .pre .0 .0), x .loop-test .taken)) blank (getD (s .args .t6) (l .loop .k) blank)
-    (told-at (s .args .t6) (s .args .count) (whole l) (s .pre .0 .0) (l .loop .k) blank (omega (arith, x .loop-test .taken))) in
-    (omega (arith, r, s .pre, l .loop .inv .0 .near, b .put-block .ensures .1), omega arith)
+    let s = l .before .before .before .before .before in
+    let r = rows-within (s .args .go) (s .args .text .now) (s .args .classes .now) (s .args .paper .now) (s .args .log .now) (take (s .args .count) (s .args .t7)) (l .loop .text) (l .loop .at) (l .loop .from) (l .loop .k) (l .loop .inv .0)
+    (omega (arith, length-count (s .args .t7) (s .args .count) (whole l) (s .pre .0 .0), x .loop-test .taken)) blank (getD (s .args .t7) (l .loop .k) blank)
+    (told-at (s .args .t7) (s .args .count) (whole l) (s .pre .0 .0) (l .loop .k) blank (omega (arith, x .loop-test .taken))) in
+    (omega (arith, r, s .pre .0, l .loop .inv .0 .near, b .put-block .ensures .1), omega arith)
 
 add-from : tie.Need-add-from Inv-loop μ-loop
 add-from c =
     let x = c .before .before .before .before .before .before .before .before .before .before .before in
     let l = x .before in
-    let s = l .before .before .before .before in
-    let r = rows-within (s .args .go) (s .args .text .now) (s .args .paper .now) (s .args .log .now) (take (s .args .count) (s .args .t6)) (l .loop .text) (l .loop .at) (l .loop .from) (l .loop .k) (l .loop .inv .0)
-    (omega (arith, length-count (s .args .t6) (s .args .count) (whole l) (s .pre .0 .0), x .loop-test .taken)) blank (getD (s .args .t6) (l .loop .k) blank)
-    (told-at (s .args .t6) (s .args .count) (whole l) (s .pre .0 .0) (l .loop .k) blank (omega (arith, x .loop-test .taken))) in
-    omega (arith, r, s .pre)
+    let s = l .before .before .before .before .before in
+    let r = rows-within (s .args .go) (s .args .text .now) (s .args .classes .now) (s .args .paper .now) (s .args .log .now) (take (s .args .count) (s .args .t7)) (l .loop .text) (l .loop .at) (l .loop .from) (l .loop .k) (l .loop .inv .0)
+    (omega (arith, length-count (s .args .t7) (s .args .count) (whole l) (s .pre .0 .0), x .loop-test .taken)) blank (getD (s .args .t7) (l .loop .k) blank)
+    (told-at (s .args .t7) (s .args .count) (whole l) (s .pre .0 .0) (l .loop .k) blank (omega (arith, x .loop-test .taken))) in
+    omega (arith, r, s .pre .0)
 
 add-k : tie.Need-add-k Inv-loop μ-loop
 add-k c = search needs
@@ -81,10 +82,10 @@ loop-again c =
     let b = p .before .before .before .before .before in
     let x = b .before .before .before in
     let l = x .before in
-    let s = l .before .before .before .before in (
-      blocking-more (s .args .go) (s .args .text .now) (s .args .paper .now) (s .args .log .now) (take (s .args .count) (s .args .t6)) (l .loop .text) (l .loop .at) (l .loop .from) (l .loop .k) (l .loop .inv .0)
-          (omega (arith, length-count (s .args .t6) (s .args .count) (whole l) (s .pre .0 .0), x .loop-test .taken)) blank (getD (s .args .t6) (l .loop .k) blank)
-          (told-at (s .args .t6) (s .args .count) (whole l) (s .pre .0 .0) (l .loop .k) blank (omega (arith, x .loop-test .taken)))
+    let s = l .before .before .before .before .before in (
+      blocking-more (s .args .go) (s .args .text .now) (s .args .classes .now) (s .args .paper .now) (s .args .log .now) (take (s .args .count) (s .args .t7)) (l .loop .text) (l .loop .at) (l .loop .from) (l .loop .k) (l .loop .inv .0)
+          (omega (arith, length-count (s .args .t7) (s .args .count) (whole l) (s .pre .0 .0), x .loop-test .taken)) blank (getD (s .args .t7) (l .loop .k) blank)
+          (told-at (s .args .t7) (s .args .count) (whole l) (s .pre .0 .0) (l .loop .k) blank (omega (arith, x .loop-test .taken)))
           (b .put-block .ensures .0) (p .put .ensures .0) (b .put-block .ensures .1) (p .put .ensures .1),
       omega (arith, x .loop-test .taken),
     )
@@ -92,15 +93,15 @@ loop-again c =
 same-length : tie.Need-same-length Inv-loop μ-loop
 same-length c =
     let l = c .before in
-    l .loop .inv .0 .puts .sized
+    l .loop .inv .0 .puts builtInOptions .sized
 
 returns : tie.Need-returns Inv-loop μ-loop
 returns c =
     let l = c .before in
-    let s = l .before .before .before .before in
-    let e = blocking-end (s .args .go) (s .args .text .now) (s .args .paper .now) (s .args .log .now) (take (s .args .count) (s .args .t6)) (l .loop .text) (l .loop .at) (l .loop .from) (l .loop .k) (l .loop .inv .0)
-    (omega (arith, length-count (s .args .t6) (s .args .count) (whole l) (s .pre .0 .0))) in
-    (e .0, (e .1, omega (arith, e .1, s .pre, l .loop .inv .0 .near)))
+    let s = l .before .before .before .before .before in
+    let e = blocking-end (s .args .go) (s .args .text .now) (s .args .classes .now) (s .args .paper .now) (s .args .log .now) (take (s .args .count) (s .args .t7)) (l .loop .text) (l .loop .at) (l .loop .from) (l .loop .k) (l .loop .inv .0)
+    (omega (arith, length-count (s .args .t7) (s .args .count) (whole l) (s .pre .0 .0))) in
+    (e .0, (e .1, omega (arith, e .1, s .pre .0, l .loop .inv .0 .near)))
 
 pub put-blocks-spec : {M : Type 1} → statement M
 put-blocks-spec =

@@ -1,11 +1,15 @@
 use native.Mathlib.Omega.{arith}
-use Rattle.log_text.proofs.Texts.{refused-header, refused-dispatch, refused-long, refused-fragment}
+use Rattle.definition.specs.Maps.{rulesBy}
+use Rattle.log_text.proofs.Texts.{refused-alone, refused-header, refused-dispatch, refused-fragment}
 use borrow.Author.Needs.{needs}
 use Rattle.log_text.proofs.put_refused.Statement.{statement}
 use Rattle.log_text.proofs.put_refused.Tie as tie
 
-put-header-requires : tie.Need-put-header-requires
-put-header-requires c κs = search needs
+alone-requires : tie.Need-alone-requires
+alone-requires c κs = search needs
+
+put-alone-requires : tie.Need-put-alone-requires
+put-alone-requires c κs = search needs
 
 same-length : tie.Need-same-length
 same-length c = search needs
@@ -14,11 +18,12 @@ returns : tie.Need-returns
 returns c =
     let w = c .before .before in
     let i = w .before .before in
-    let s = i .before .before .before .before .before in
-    (refused-header (s .args .paper .now) (s .args .log .now) (s .args .entry) (s .args .from) (s .args .t) (i .if1 .taken) (w .put-header .ensures .0), omega (arith, w .put-header .ensures .1, s .pre))
+    let a = i .before in
+    let s = a .before .before .before .before .before in
+    (λ options. refused-alone (rulesBy (s .args .classes .now) options) (s .args .paper .now) (s .args .log .now) (s .args .entry) (s .args .from) (s .args .t) (a .alone .result) (a .alone .ensures) (i .if1 .taken) (w .put-alone .ensures .0), omega (arith, w .put-alone .ensures .1, s .pre .0))
 
-put-dispatch-requires : tie.Need-put-dispatch-requires
-put-dispatch-requires c κs = search needs
+put-header-requires : tie.Need-put-header-requires
+put-header-requires c κs = search needs
 
 same-length-2 : tie.Need-same-length-2
 same-length-2 c = search needs
@@ -28,11 +33,12 @@ returns-2 c =
     let w = c .before .before in
     let j = w .before .before in
     let i = j .before .before in
-    let s = i .before .before .before .before .before in
-    (refused-dispatch (s .args .paper .now) (s .args .log .now) (s .args .entry) (s .args .from) (s .args .t) (i .if1 .left) (j .if2 .taken) (w .put-dispatch .ensures .0), omega (arith, w .put-dispatch .ensures .1, s .pre))
+    let a = i .before in
+    let s = a .before .before .before .before .before in
+    (λ options. refused-header (rulesBy (s .args .classes .now) options) (s .args .paper .now) (s .args .log .now) (s .args .entry) (s .args .from) (s .args .t) (a .alone .result) (a .alone .ensures) (i .if1 .left) (j .if2 .taken) (w .put-header .ensures .0), omega (arith, w .put-header .ensures .1, s .pre .0))
 
-put-long-requires : tie.Need-put-long-requires
-put-long-requires c κs = search needs
+put-dispatch-requires : tie.Need-put-dispatch-requires
+put-dispatch-requires c κs = search needs
 
 same-length-3 : tie.Need-same-length-3
 same-length-3 c = search needs
@@ -43,8 +49,9 @@ returns-3 c =
     let k = w .before .before in
     let j = k .before .before in
     let i = j .before .before in
-    let s = i .before .before .before .before .before in
-    (refused-long (s .args .paper .now) (s .args .log .now) (s .args .entry) (s .args .from) (s .args .t) (i .if1 .left) (j .if2 .left) (k .if3 .taken) (w .put-long .ensures .0), omega (arith, w .put-long .ensures .1, s .pre))
+    let a = i .before in
+    let s = a .before .before .before .before .before in
+    (λ options. refused-dispatch (rulesBy (s .args .classes .now) options) (s .args .paper .now) (s .args .log .now) (s .args .entry) (s .args .from) (s .args .t) (a .alone .result) (a .alone .ensures) (i .if1 .left) (j .if2 .left) (k .if3 .taken) (w .put-dispatch .ensures .0), omega (arith, w .put-dispatch .ensures .1, s .pre .0))
 
 put-block-requires : tie.Need-put-block-requires
 put-block-requires c κs = search needs
@@ -58,20 +65,22 @@ returns-4 c =
     let k = w .before .before in
     let j = k .before .before in
     let i = j .before .before in
-    let s = i .before .before .before .before .before in
-    (refused-fragment (s .args .paper .now) (s .args .log .now) (s .args .entry) (s .args .from) (s .args .t) (i .if1 .left) (j .if2 .left) (k .if3 .left) (w .put-block .ensures .0), omega (arith, w .put-block .ensures .1, s .pre))
+    let a = i .before in
+    let s = a .before .before .before .before .before in
+    (λ options. refused-fragment (rulesBy (s .args .classes .now) options) (s .args .paper .now) (s .args .log .now) (s .args .entry) (s .args .from) (s .args .t) (a .alone .result) (a .alone .ensures) (i .if1 .left) (j .if2 .left) (k .if3 .left) (w .put-block .ensures .0 options), omega (arith, w .put-block .ensures .1, s .pre .0))
 
 pub put-refused-spec : {M : Type 1} → statement M
 put-refused-spec =
     tie.close
     (tie.spec
-    put-header-requires
+    alone-requires
+    put-alone-requires
     same-length
     returns
-    put-dispatch-requires
+    put-header-requires
     same-length-2
     returns-2
-    put-long-requires
+    put-dispatch-requires
     same-length-3
     returns-3
     put-block-requires

@@ -1,15 +1,23 @@
-use Rattle.log_text.proofs.Texts.{holds-fits, logs-out, logs-written}
 use borrow.Author.Needs.{needs}
+use native.Mathlib.Omega.{arith}
+use Rattle.stack_analysis.proofs.Entries.{built-in-rules}
+use Rattle.log_text.proofs.Texts.{logs-by}
 use Rattle.log_text.proofs.write_log.Statement.{statement}
 use Rattle.log_text.proofs.write_log.Tie as tie
 
-mark-requires : tie.Need-mark-requires
-mark-requires c κs = search needs
+table-requires : tie.Need-table-requires
+table-requires c κs = search needs
 
-put-log-requires : tie.Need-put-log-requires
-put-log-requires c κs =
-    let m = c .before .before .before .before .before in
-    holds-fits _ (m .mark .result) _ (m .mark .ensures)
+built-in-requires : tie.Need-built-in-requires
+built-in-requires c κs = search needs
+
+slice-aggregate-write-log-rows : tie.Need-slice-aggregate-write-log-rows
+slice-aggregate-write-log-rows c = search needs
+
+write-log-rows-requires : tie.Need-write-log-rows-requires
+write-log-rows-requires c κs =
+    let b = c .before .before .before in
+    (b .before .table .ensures .good, omega (arith, b .built-in .ensures .1))
 
 same-length : tie.Need-same-length
 same-length c = search needs
@@ -19,42 +27,12 @@ same-length-2 c = search needs
 
 returns : tie.Need-returns
 returns c =
-    let i = c in
-    let w = i .before .before .before in
-    let m = w .before .before .before .before .before .before in
-    let s = m .before .before .before .before .before in
-    logs-out (s .args .paper .now) (s .args .log .now) (s .args .text .now) (m .mark .result) _ (m .mark .ensures) _ _ (w .put-log .ensures) (i .if1 .taken)
-
-put-log-requires-2 : tie.Need-put-log-requires-2
-put-log-requires-2 c κs =
-    let m = c .before .before .before .before .before .before .before .before .before .before .before in
-    holds-fits _ (m .mark .result) _ (m .mark .ensures)
-
-same-length-3 : tie.Need-same-length-3
-same-length-3 c = search needs
-
-same-length-4 : tie.Need-same-length-4
-same-length-4 c = search needs
-
-returns-2 : tie.Need-returns-2
-returns-2 c =
-    let v = c .before .before in
-    let i = v .before .before .before in
-    let w = i .before .before .before in
-    let m = w .before .before .before .before .before .before in
-    let s = m .before .before .before .before .before in
-    logs-written (s .args .paper .now) (s .args .log .now) (s .args .text .now) (m .mark .result) _ (m .mark .ensures) _ _ (w .put-log .ensures) (i .if1 .left) (v .put-log2 .ensures)
+    let w = c .before .before .before .before in
+    let b = w .before .before .before .before in
+    let s = b .before .before .before .before .before in
+    logs-by (s .args .paper .now) (s .args .log .now) (built-in-rules (b .before .table .ensures) (b .built-in .ensures .0)) (w .write-log-rows .ensures)
 
 pub write-log-spec : {M : Type 1} → statement M
 write-log-spec =
     tie.close
-    (tie.spec
-    mark-requires
-    put-log-requires
-    same-length
-    same-length-2
-    returns
-    put-log-requires-2
-    same-length-3
-    same-length-4
-    returns-2)
+    (tie.spec table-requires built-in-requires slice-aggregate-write-log-rows write-log-rows-requires same-length same-length-2 returns)

@@ -1,91 +1,31 @@
-use Rattle.paper.proofs.Markings.{paper-long, paper-bad, paper-over, paper-marked, paper-replays}
 use borrow.Author.Needs.{needs}
 use native.Mathlib.Omega.{arith}
+use Rattle.stack_analysis.proofs.Entries.{built-in-rules}
+use Rattle.paper.proofs.Markings.{marked-by}
 use Rattle.paper.proofs.mark_paper.Statement.{statement}
 use Rattle.paper.proofs.mark_paper.Tie as tie
-use Rattle.paper.proofs.mark_paper.Reads as reads
-use Rattle.paper.proofs.mark_paper.Lts as lts
-use Rattle.header.proofs.dispatch_check.Reads as dispatch-check-reads
-use Rattle.header.proofs.header_ok.Reads as header-ok-reads
-use Rattle.paper.proofs.mark_fragments.Reads as mark-fragments-reads
-use Rattle.paper.proofs.refused.Reads as refused-reads
 
-refused-requires : tie.Need-refused-requires
-refused-requires c κs = search needs
+table-requires : tie.Need-table-requires
+table-requires c κs = search needs
 
-returns : tie.Need-returns
-returns c =
-    let a = c .before .before .before .before .args in
-    let m = paper-long (a .paper .now) (a .log .now) (c .before .if1 .taken) _ (c .refused .ensures) in
-    (m .same, (m .logged, λ z. paper-replays (a .paper .now) (a .log .now) _ _ m z))
+built-in-requires : tie.Need-built-in-requires
+built-in-requires c κs = search needs
 
-header-ok-requires : tie.Need-header-ok-requires
-header-ok-requires c κs = search needs
+slice-aggregate-mark-paper-rows : tie.Need-slice-aggregate-mark-paper-rows
+slice-aggregate-mark-paper-rows c = search needs
 
-refused-requires-2 : tie.Need-refused-requires-2
-refused-requires-2 c κs = search needs
-
-returns-2 : tie.Need-returns-2
-returns-2 c =
-    let h = c .before .before in
-    let a = h .before .before .before .before .args in
-    let m = paper-bad (a .paper .now) (a .log .now) (h .before .if1 .left) (h .header-ok .result) (h .header-ok .ensures) (c .before .if2 .taken) _ (c .refused2 .ensures) in
-    (m .same, (m .logged, λ z. paper-replays (a .paper .now) (a .log .now) _ _ m z))
-
-dispatch-check-requires : tie.Need-dispatch-check-requires
-dispatch-check-requires c κs = search needs
-
-enum-known-d : tie.Need-enum-known-d
-enum-known-d c = search needs
-
-cast-refused : tie.Need-cast-refused
-cast-refused c = search needs
-
-refused-requires-3 : tie.Need-refused-requires-3
-refused-requires-3 c κs = search needs
-
-enum-told : tie.Need-enum-told
-enum-told c = search needs
-
-mark-fragments-requires : tie.Need-mark-fragments-requires
-mark-fragments-requires c κs = search needs
-
-returns-3 : tie.Need-returns-3
-returns-3 c =
-    let e = c .before .before .d in
-    let d = c .before .before .before .before in
-    let h = d .before .before in
-    let a = h .before .before .before .before .args in
-    let m = paper-over (a .paper .now) (a .log .now) (h .before .if1 .left) (h .header-ok .result) (h .header-ok .ensures) (d .before .if2 .left) (d .dispatch-check .result) (d .dispatch-check .ensures) _ _ (e .given .1) _ (c .refused3 .ensures) in
-    (m .same, (m .logged, λ z. paper-replays (a .paper .now) (a .log .now) _ _ m z))
+mark-paper-rows-requires : tie.Need-mark-paper-rows-requires
+mark-paper-rows-requires c κs =
+    let b = c .before .before in
+    (b .before .table .ensures .good, omega (arith, b .built-in .ensures .1))
 
 same-length : tie.Need-same-length
 same-length c = search needs
 
-returns-4 : tie.Need-returns-4
-returns-4 c =
-    let r = c .before .before in
-    let d = r .before .before .before .before in
-    let h = d .before .before in
-    let a = h .before .before .before .before .args in
-    let m = paper-marked (a .paper .now) (a .log .now) (h .before .if1 .left) (h .header-ok .result) (h .header-ok .ensures) (d .before .if2 .left) (d .dispatch-check .result) (d .dispatch-check .ensures) (r .before .before .enum-told .given .1) (r .mark-fragments .result) _ (r .mark-fragments .ensures .0) (r .mark-fragments .ensures .1) in
-    (m .same, (m .logged, λ z. paper-replays (a .paper .now) (a .log .now) _ _ m z))
+returns : tie.Need-returns
+returns c =
+    let b = c .before .before .before .before .before in
+    marked-by (built-in-rules (b .before .table .ensures) (b .built-in .ensures .0)) _ _ _ _ (c .before .before .mark-paper-rows .ensures)
 
 pub mark-paper-spec : {M : Type 1} → statement M
-mark-paper-spec =
-    tie.close
-    (tie.spec
-    refused-requires
-    returns
-    header-ok-requires
-    refused-requires-2
-    returns-2
-    dispatch-check-requires
-    enum-known-d
-    cast-refused
-    refused-requires-3
-    enum-told
-    mark-fragments-requires
-    returns-3
-    same-length
-    returns-4)
+mark-paper-spec = tie.close (tie.spec table-requires built-in-requires slice-aggregate-mark-paper-rows mark-paper-rows-requires same-length returns)

@@ -4,7 +4,7 @@ use Rattle.stack.proofs.count_of.Statement.{statement}
 use Rattle.stack.proofs.count_of.Tie as tie
 use Rattle.stack.proofs.count_of.Reads as reads
 use Rattle.stack.proofs.count_of.Lts as lts
-use Rattle.decode.proofs.read_index.Reads as read-index-reads
+use Rattle.number_form.proofs.read_index.Reads as read-index-reads
 
 read-index-requires : tie.Need-read-index-requires
 read-index-requires c κs = search needs

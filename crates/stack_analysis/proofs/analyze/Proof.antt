@@ -1,106 +1,33 @@
-use mathlib.Core.Path.{refl, subst}
-use Rattle.stack_analysis.specs.Entry.{MayWalk, Starts}
-use Rattle.stack_analysis.proofs.Entries.{answers-early, answers-live, answers-dead}
+use Rattle.stack_analysis.proofs.Entries.{built-in-rules, analysed-by}
 use borrow.Author.Needs.{needs}
+use native.Mathlib.Omega.{arith}
 use Rattle.stack_analysis.proofs.analyze.Statement.{statement}
 use Rattle.stack_analysis.proofs.analyze.Tie as tie
-use Rattle.stack_analysis.proofs.analyze.Reads as reads
-use Rattle.stack_analysis.proofs.analyze.Lts as lts
-use Rattle.ends.proofs.EndStacks.none.Reads as none-reads
-use Rattle.stack.proofs.Stacks.ends.Reads as ends-reads
-use Rattle.stack_analysis.proofs.conclude.Reads as conclude-reads
-use Rattle.stack_analysis.proofs.early.Reads as early-reads
-use Rattle.stack_analysis.proofs.walk_all.Reads as walk-all-reads
-use Rattle.stack_analysis.proofs.with_end.Reads as with-end-reads
 
-early-requires : tie.Need-early-requires
-early-requires c κs = search needs
+table-requires : tie.Need-table-requires
+table-requires c κs = search needs
 
-enum-known-start : tie.Need-enum-known-start
-enum-known-start c = search needs
+built-in-requires : tie.Need-built-in-requires
+built-in-requires c κs = search needs
 
-none-requires : tie.Need-none-requires
-none-requires c κs = search needs
+slice-aggregate-analyze-rows : tie.Need-slice-aggregate-analyze-rows
+slice-aggregate-analyze-rows c = search needs
 
-with-end-requires : tie.Need-with-end-requires
-with-end-requires c κs = search needs
-
-enum-told : tie.Need-enum-told
-enum-told c = search needs
-
--- nothing is against the walk
-may : (c : tie.After-enum-told) → let a = c .before .before .before .before .before .args in MayWalk (a .fragment .now) (a .main) (a .alt) (a .log .now)
-may c =
-    let e = c .before .before in
-    let a = e .before .before .before .args in
-    subst (Starts (a .fragment .now) (a .main) (a .alt) (a .log .now)) (c .enum-told .given .1) (e .early .ensures (a .log .now) refl)
-
-walk-all-requires : tie.Need-walk-all-requires
-walk-all-requires c κs = let m = may (c .before) in ((m .short, m .low), m .room)
-
-conclude-requires : tie.Need-conclude-requires
-conclude-requires c κs = search needs
-
-ends-requires : tie.Need-ends-requires
-ends-requires c κs = search needs
-
-with-end-requires-2 : tie.Need-with-end-requires-2
-with-end-requires-2 c κs = search needs
+analyze-rows-requires : tie.Need-analyze-rows-requires
+analyze-rows-requires c κs =
+    let b = c .before .before in
+    (b .before .table .ensures .good, omega (arith, b .built-in .ensures .1))
 
 same-length : tie.Need-same-length
 same-length c = search needs
 
 returns : tie.Need-returns
 returns c =
-    let e = c .before in
-    let v = e .before .before .before in
-    let w = v .before .before .before in
-    let m = answers-live _ _ _ _ (may (w .before .before)) (w .walk-all .result) _ (w .walk-all .ensures) (v .conclude .result) (v .conclude .ensures) (e .before .before .if1 .taken) (e .ends .result) (e .ends .ensures) _ (c .with-end2 .ensures) in
-    (m .same, (m .shows, (m .within, (m .logged, m .replayed))))
-
-none-requires-2 : tie.Need-none-requires-2
-none-requires-2 c κs = search needs
-
-with-end-requires-3 : tie.Need-with-end-requires-3
-with-end-requires-3 c κs = search needs
-
-returns-2 : tie.Need-returns-2
-returns-2 c =
-    let n = c .before in
-    let e = n .before .before .before .before in
-    let a = e .before .before .before .args in
-    let r = subst (Starts (a .fragment .now) (a .main) (a .alt) (a .log .now)) (n .before .before .start .given .1) (e .early .ensures (a .log .now) refl) in
-    let m = answers-early (a .fragment .now) (a .main) (a .alt) (a .log .now) _ r (n .none .result) (n .none .ensures) _ (c .with-end .ensures) in
-    (m .same, (m .shows, (m .within, (m .logged, m .replayed))))
-
-same-length-2 : tie.Need-same-length-2
-same-length-2 c = search needs
-
-returns-3 : tie.Need-returns-3
-returns-3 c =
-    let n = c .before in
-    let v = n .before .before in
-    let w = v .before .before .before in
-    let m = answers-dead _ _ _ _ (may (w .before .before)) (w .walk-all .result) _ (w .walk-all .ensures) (v .conclude .result) (v .conclude .ensures) (n .before .if1 .left) (n .none2 .result) (n .none2 .ensures) _ (c .with-end3 .ensures) in
+    let b = c .before .before .before .before .before in
+    let k = c .before .before .analyze-rows .ensures in
+    let m = analysed-by (built-in-rules (b .before .table .ensures) (b .built-in .ensures .0)) _ _ _ _ _ _
+    (record { same = k .0; shows = k .1 .0; within = k .1 .1 .0; logged = k .1 .1 .1 .0; replayed = k .1 .1 .1 .1 }) in
     (m .same, (m .shows, (m .within, (m .logged, m .replayed))))
 
 pub analyze-spec : {M : Type 1} → statement M
-analyze-spec =
-    tie.close
-    (tie.spec
-    early-requires
-    enum-known-start
-    none-requires
-    with-end-requires
-    enum-told
-    walk-all-requires
-    conclude-requires
-    ends-requires
-    with-end-requires-2
-    same-length
-    returns
-    none-requires-2
-    with-end-requires-3
-    returns-2
-    same-length-2
-    returns-3)
+analyze-spec = tie.close (tie.spec table-requires built-in-requires slice-aggregate-analyze-rows analyze-rows-requires same-length returns)

@@ -1,60 +1,31 @@
-use mathlib.Core.Path.{refl, subst}
-use Rattle.stack_analysis.specs.Entry.{MayWalk, Starts}
+use Rattle.stack_analysis.proofs.Entries.{built-in-rules, summed-by}
 use borrow.Author.Needs.{needs}
-use Rattle.stack_analysis.proofs.Entries.{summed-early, summed}
+use native.Mathlib.Omega.{arith}
 use Rattle.stack_analysis.proofs.analyze_heights.Statement.{statement}
 use Rattle.stack_analysis.proofs.analyze_heights.Tie as tie
-use Rattle.stack_analysis.proofs.analyze_heights.Reads as reads
-use Rattle.stack_analysis.proofs.analyze_heights.Lts as lts
-use Rattle.stack_analysis.proofs.conclude.Reads as conclude-reads
-use Rattle.stack_analysis.proofs.early.Reads as early-reads
-use Rattle.stack_analysis.proofs.walk_all.Reads as walk-all-reads
 
-early-requires : tie.Need-early-requires
-early-requires c κs = search needs
+table-requires : tie.Need-table-requires
+table-requires c κs = search needs
 
-enum-known-start : tie.Need-enum-known-start
-enum-known-start c = search needs
+built-in-requires : tie.Need-built-in-requires
+built-in-requires c κs = search needs
 
-enum-told : tie.Need-enum-told
-enum-told c = search needs
+slice-aggregate-analyze-heights-rows : tie.Need-slice-aggregate-analyze-heights-rows
+slice-aggregate-analyze-heights-rows c = search needs
 
--- nothing is against the walk
-may : (c : tie.After-enum-told) → let a = c .before .before .before .before .before .args in MayWalk (a .fragment .now) (a .main) (a .alt) (a .log .now)
-may c =
-    let e = c .before .before in
-    let a = e .before .before .before .args in
-    subst (Starts (a .fragment .now) (a .main) (a .alt) (a .log .now)) (c .enum-told .given .1) (e .early .ensures (a .log .now) refl)
-
-walk-all-requires : tie.Need-walk-all-requires
-walk-all-requires c κs = let m = may (c .before) in ((m .short, m .low), m .room)
-
-conclude-requires : tie.Need-conclude-requires
-conclude-requires c κs = search needs
-
-returns : tie.Need-returns
-returns c =
-    let e = c .before .before .before in
-    let a = e .before .before .before .args in
-    summed-early (a .fragment .now) (a .main) (a .alt) (a .log .now) _ (subst (Starts (a .fragment .now) (a .main) (a .alt) (a .log .now)) (c .before .start .given .1) (e .early .ensures (a .log .now) refl))
+analyze-heights-rows-requires : tie.Need-analyze-heights-rows-requires
+analyze-heights-rows-requires c κs =
+    let b = c .before .before in
+    (b .before .table .ensures .good, omega (arith, b .built-in .ensures .1))
 
 same-length : tie.Need-same-length
 same-length c = search needs
 
-returns-2 : tie.Need-returns-2
-returns-2 c =
-    let w = c .before .before .before in
-    summed _ _ _ _ (may (w .before .before)) (w .walk-all .result) _ (w .walk-all .ensures) (c .conclude .result) (c .conclude .ensures)
+returns : tie.Need-returns
+returns c =
+    let b = c .before .before .before .before .before in
+    let k = c .before .before .analyze-heights-rows .ensures in
+    summed-by (built-in-rules (b .before .table .ensures) (b .built-in .ensures .0)) _ _ _ _ _ _ (k .0, k .1)
 
 pub analyze-heights-spec : {M : Type 1} → statement M
-analyze-heights-spec =
-    tie.close
-    (tie.spec
-    early-requires
-    enum-known-start
-    enum-told
-    walk-all-requires
-    conclude-requires
-    returns
-    same-length
-    returns-2)
+analyze-heights-spec = tie.close (tie.spec table-requires built-in-requires slice-aggregate-analyze-heights-rows analyze-heights-rows-requires same-length returns)

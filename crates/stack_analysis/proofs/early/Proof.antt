@@ -19,13 +19,13 @@ refusal-requires : tie.Need-refusal-requires
 refusal-requires c κs = search needs
 
 returns : tie.Need-returns
-returns c log l = too-long _ _ _ log (omega arith) _ (c .refusal .ensures)
+returns c R log k l = too-long R _ _ _ log (omega arith) _ (c .refusal .ensures)
 
 refusal-requires-2 : tie.Need-refusal-requires-2
 refusal-requires-2 c κs = search needs
 
 returns-2 : tie.Need-returns-2
-returns-2 c log l = too-high _ _ _ log (omega arith) (omega arith) _ (c .refusal2 .ensures)
+returns-2 c R log k l = too-high R _ _ _ log _ k (omega arith) (omega arith) _ (c .refusal2 .ensures)
 
 count-instructions-requires : tie.Need-count-instructions-requires
 count-instructions-requires c κs = search needs
@@ -54,13 +54,13 @@ refusal-requires-4 : tie.Need-refusal-requires-4
 refusal-requires-4 c κs = search needs
 
 returns-3 : tie.Need-returns-3
-returns-3 c log l = short-log _ _ _ log (omega arith) (omega arith) _ (counted2 (c .before .before)) _ l (c .before .if3 .taken) _ (c .refusal4 .ensures)
+returns-3 c R log k l = short-log R _ _ _ log _ k (omega arith) (omega arith) _ (counted2 (c .before .before)) _ l (c .before .if3 .taken) _ (c .refusal4 .ensures)
 
 returns-4 : tie.Need-returns-4
-returns-4 c log l = not-whole _ _ _ log (omega arith) (omega arith) _ (ap countedOf (sym (c .before .before .counted .given .1)) ∙ c .before .before .before .before .count-instructions .ensures) _ (c .refusal3 .ensures)
+returns-4 c R log k l = not-whole R _ _ _ log _ k (omega arith) (omega arith) _ (ap countedOf (sym (c .before .before .counted .given .1)) ∙ c .before .before .before .before .count-instructions .ensures) _ (c .refusal3 .ensures)
 
 returns-5 : tie.Need-returns-5
-returns-5 c log l = may-walk _ _ _ log (omega arith) (omega arith) _ (counted2 (c .before)) _ l (c .if3 .left)
+returns-5 c R log k l = may-walk R _ _ _ log _ k (omega arith) (omega arith) _ (counted2 (c .before)) _ l (c .if3 .left)
 
 pub early-spec : {M : Type 1} → statement M
 early-spec =

@@ -4,7 +4,7 @@ use Rattle.stack.proofs.Stacks.depth.Statement.{statement}
 use Rattle.stack.proofs.Stacks.depth.Tie as tie
 use Rattle.stack.proofs.Stacks.depth.Reads as reads
 use Rattle.stack.proofs.Stacks.depth.Lts as lts
-use Rattle.decode.proofs.number_value.Reads as number-value-reads
+use Rattle.number_form.proofs.number_value.Reads as number-value-reads
 use Rattle.stack.proofs.Stacks.push.Reads as push-reads
 
 cast-number-value : tie.Need-cast-number-value

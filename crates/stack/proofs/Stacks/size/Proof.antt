@@ -4,7 +4,7 @@ use Rattle.stack.proofs.Stacks.size.Statement.{statement}
 use Rattle.stack.proofs.Stacks.size.Tie as tie
 use Rattle.stack.proofs.Stacks.size.Reads as reads
 use Rattle.stack.proofs.Stacks.size.Lts as lts
-use Rattle.decode.proofs.number_value.Reads as number-value-reads
+use Rattle.number_form.proofs.number_value.Reads as number-value-reads
 use Rattle.slots.proofs.code_length.Reads as code-length-reads
 use Rattle.stack.proofs.Stacks.apply_effect.Reads as apply-effect-reads
 use Rattle.stack.proofs.Stacks.push.Reads as push-reads

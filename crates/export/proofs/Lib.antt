@@ -1,5 +1,0 @@
-mod Places
-mod Parts
-mod Counters
-mod Items
-mod Sittings
