@@ -55,38 +55,39 @@ module _ (R : Rules) where
       by out onward true e h = let g = onward (rows + v .rows) (max peak (v .peak)) out h in omega (arith, g)
       by out onward false e h = absurd (eqb-false (v .answer .number) 0 e h)
 
+-- on from the answer for fragment k by these rules, as `markFrom` goes
+module _ (k rows peak : ℕ) (fs : List Fragment) (log : List ℕ) where
+  unfoldable pub next : Rules → Marked → Bool → PaperMarked
+  next T a b =
+      pick b (after (a .verdict) (markFrom T (k + 1) (rows + a .verdict .rows) (max peak (a .verdict .peak)) fs (take (3 * rows) log ++ a .log)))
+      (record {
+        paper = record { entry = k; verdict = record { answer = a .verdict .answer; rows = rows + a .verdict .rows; peak = 0; end = dead } };
+        verdicts = [];
+        log = take (3 * rows) log ++ a .log;
+      })
+
 module _ (R S : Rules) (covers : Covers R S) where
   abbrev FromFits : Type 0 → PaperMarked → PaperMarked → Type 0
   FromFits Starts m n =
       m .paper .verdict .answer .number ≡ 0
       → (n ≡ m) ⊎ (ShortFrom (R .limit) (S .limit) (AllModest R) Starts (m .paper .verdict .peak) n)
 
-  -- on from the answer for a fragment
   module _ (k rows peak : ℕ) (fs : List Fragment) (log : List ℕ) where
-    next : Rules → Marked → Bool → PaperMarked
-    next T a b =
-        pick b (after (a .verdict) (markFrom T (k + 1) (rows + a .verdict .rows) (max peak (a .verdict .peak)) fs (take (3 * rows) log ++ a .log)))
-        (record {
-          paper = record { entry = k; verdict = record { answer = a .verdict .answer; rows = rows + a .verdict .rows; peak = 0; end = dead } };
-          verdicts = [];
-          log = take (3 * rows) log ++ a .log;
-        })
-
     module _ (start : ℕ) (Starts : Type 0) (m n : Marked) (fits : AnalysisFits R S covers start m n)
         (onward : (rows p : ℕ) (log : List ℕ) → FromFits Starts (markFrom R (k + 1) rows p fs log) (markFrom S (k + 1) rows p fs log)) where
       abbrev NextFits : PaperMarked → Type 0
-      NextFits q = (q ≡ next R m true) ⊎ (ShortFrom (R .limit) (S .limit) (AllModest R) ((start ≤ S .limit) × Starts) (next R m true .paper .verdict .peak) q)
+      NextFits q = (q ≡ next k rows peak fs log R m true) ⊎ (ShortFrom (R .limit) (S .limit) (AllModest R) ((start ≤ S .limit) × Starts) (next k rows peak fs log R m true .paper .verdict .peak) q)
 
       -- the same answer
-      same-next : next R m true .paper .verdict .answer .number ≡ 0 → NextFits (next S m true)
+      same-next : next k rows peak fs log R m true .paper .verdict .answer .number ≡ 0 → NextFits (next k rows peak fs log S m true)
       unfolding next
       same-next h =
           ⊎-elim (λ g. inl (ap (after (m .verdict)) g)) (λ s. inr (record { number = λ q. s .number (q .1); lower = s .lower; overPeak = s .overPeak }))
           (onward (rows + m .verdict .rows) (max peak (m .verdict .peak)) (take (3 * rows) log ++ m .log) h)
 
       -- a fragment that is short of room
-      short-next : next R m true .paper .verdict .answer .number ≡ 0 → Short (R .limit) (S .limit) (AllModest R) start (m .verdict .peak) n
-          → (c : Bool) → eqb (n .verdict .answer .number) 0 ≡ c → NextFits (next S n c)
+      short-next : next k rows peak fs log R m true .paper .verdict .answer .number ≡ 0 → Short (R .limit) (S .limit) (AllModest R) start (m .verdict .peak) n
+          → (c : Bool) → eqb (n .verdict .answer .number) 0 ≡ c → NextFits (next k rows peak fs log S n c)
       unfolding next
       short-next h s true e =
           let z = eqb-true (n .verdict .answer .number) 0 e in
@@ -99,14 +100,14 @@ module _ (R S : Rules) (covers : Covers R S) where
             overPeak = λ p. omega (arith, g, s .overPeak p);
           })
 
-      refused-next : eqb (m .verdict .answer .number) 0 ≡ false → next R m false .paper .verdict .answer .number ≡ 0 → ⊥
+      refused-next : eqb (m .verdict .answer .number) 0 ≡ false → next k rows peak fs log R m false .paper .verdict .answer .number ≡ 0 → ⊥
       unfolding next
       refused-next e h = eqb-false (m .verdict .answer .number) 0 e h
 
       next-fits : (b : Bool) → eqb (m .verdict .answer .number) 0 ≡ b
-          → FromFits ((start ≤ S .limit) × Starts) (next R m b) (next S n (eqb (n .verdict .answer .number) 0))
+          → FromFits ((start ≤ S .limit) × Starts) (next k rows peak fs log R m b) (next k rows peak fs log S n (eqb (n .verdict .answer .number) 0))
       next-fits true e h =
-          ⊎-elim (λ g. subst (λ a. NextFits (next S a (eqb (a .verdict .answer .number) 0))) (sym g) (subst (λ b. NextFits (next S m b)) (sym e) (same-next h)))
+          ⊎-elim (λ g. subst (λ a. NextFits (next k rows peak fs log S a (eqb (a .verdict .answer .number) 0))) (sym g) (subst (λ b. NextFits (next k rows peak fs log S m b)) (sym e) (same-next h)))
           (λ s. short-next h s (eqb (n .verdict .answer .number) 0) refl) (fits (eqb-true (m .verdict .answer .number) 0 e))
       next-fits false e h = absurd (refused-next e h)
 

@@ -25,4 +25,5 @@ pub mod BuiltInMap
 pub mod UnderEveryMap
 pub mod Allowed
 pub mod AllowedPapers
+pub mod ExaminedMode
 pub mod Raising
