@@ -225,3 +225,110 @@ module _ (classFor : ℕ → Class) (limit : ℕ) where
             (pick (ltb limit (main + alt)) (refusedEarly 0 (startTooLarge (main + alt) limit) log) (tested S (malformedAt (decode fragment)) is s log)))
         long true h = absurd (omega (arith, h))
         long false h = large (ltb limit (main + alt)) refl h
+
+    -- The fragments of a paper, one after another
+
+    abbrev paperNumber : PaperMarked → ℕ
+    paperNumber m = m .paper .verdict .answer .number
+
+    module _ (k rows peak : ℕ) (fs : List Fragment) (log : List ℕ) (Here : Type 0) (m n : Marked)
+        (fits : Examined Here (λ m. m .verdict .answer .number) m n)
+        (onward : (rows p : ℕ) (log : List ℕ) → Examined (SomeReachesLong R fs) paperNumber (markFrom R (k + 1) rows p fs log) (markFrom S (k + 1) rows p fs log)) where
+      abbrev NextExamined : PaperMarked → Type 0
+      NextExamined q = ((q ≡ next k rows peak fs log R m true) × (Here ⊎ (SomeReachesLong R fs) → ⊥)) ⊎ ((paperNumber q ≡ 30) × (Here ⊎ (SomeReachesLong R fs)))
+
+      same-next : (Here → ⊥) → paperNumber (next k rows peak fs log R m true) ≡ 0 → NextExamined (next k rows peak fs log S m true)
+      unfolding next
+      same-next never h = ⊎-elim
+          (λ q. inl (ap (after (m .verdict)) (q .0), λ r. ⊎-elim never (q .1) r))
+          (λ q. inr (q .0, inr (q .1)))
+          (onward _ _ _ h)
+
+      long-next : n .verdict .answer .number ≡ 30 → Here → (c : Bool) → eqb (n .verdict .answer .number) 0 ≡ c → NextExamined (next k rows peak fs log S n c)
+      unfolding next
+      long-next z r true e = absurd (omega (arith, z, eqb-true (n .verdict .answer .number) 0 e))
+      long-next z r false e = inr (z, inl r)
+
+      refused-next : eqb (m .verdict .answer .number) 0 ≡ false → paperNumber (next k rows peak fs log R m false) ≡ 0 → ⊥
+      unfolding next
+      refused-next e h = eqb-false (m .verdict .answer .number) 0 e h
+
+      next-examined : (b : Bool) → eqb (m .verdict .answer .number) 0 ≡ b
+          → Examined (Here ⊎ (SomeReachesLong R fs)) paperNumber (next k rows peak fs log R m b) (next k rows peak fs log S n (eqb (n .verdict .answer .number) 0))
+      next-examined true e h = ⊎-elim
+          (λ q. subst (λ a. NextExamined (next k rows peak fs log S a (eqb (a .verdict .answer .number) 0))) (sym (q .0))
+          (subst (λ b. NextExamined (next k rows peak fs log S m b)) (sym e) (same-next (q .1) h)))
+          (λ q. long-next (q .0) (q .1) (eqb (n .verdict .answer .number) 0) refl)
+          (fits (eqb-true (m .verdict .answer .number) 0 e))
+      next-examined false e h = absurd (refused-next e h)
+
+    from-examined : (k rows peak : ℕ) (fs : List Fragment) (log : List ℕ)
+        → Examined (SomeReachesLong R fs) paperNumber (markFrom R k rows peak fs log) (markFrom S k rows peak fs log)
+    unfolding markFrom next
+    from-examined k rows peak [] log h = inl (refl, λ r. r)
+    from-examined k rows peak (f ∷ fs) log h =
+        next-examined k rows peak fs log (ReachesLong R (instructions (decode (f .bytes))) (unknowns (f .main) (f .alt)))
+        (analysis R (f .bytes) (f .main) (f .alt) (drop (3 * rows) log)) (analysis S (f .bytes) (f .main) (f .alt) (drop (3 * rows) log))
+        (analysis-examined (f .bytes) (f .main) (f .alt) (drop (3 * rows) log))
+        (λ rows p log. from-examined (k + 1) rows p fs log)
+        (eqb (analysis R (f .bytes) (f .main) (f .alt) (drop (3 * rows) log) .verdict .answer .number) 0) refl h
+
+    -- The paper
+
+    module _ (paper : Bytes) (log : List ℕ) where
+      abbrev BothPapers : PaperMarked → PaperMarked → Type 0
+      BothPapers m n = Examined (SomeReachesLong R (fragments paper)) paperNumber m n
+
+      dispatch-examined : (k : ℕ) (es : List Entry) → BothPapers (dispatch R paper k es log) (dispatch S paper k es log)
+      unfolding dispatch
+      dispatch-examined k [] h = from-examined 0 0 0 (fragments paper) log h
+      dispatch-examined k (e ∷ es) h = by (dispatch-examined (k + 1) es) (ltb limit sum) h
+        where
+          sum : ℕ
+          sum = e .parameters + stateFields paper + 3
+
+          by : BothPapers (dispatch R paper (k + 1) es log) (dispatch S paper (k + 1) es log) → (b : Bool) → BothPapers
+              (pick b (refusedPaper k (dispatchTooLarge sum limit) log) (dispatch R paper (k + 1) es log))
+              (pick b (refusedPaper k (dispatchTooLarge sum limit) log) (dispatch S paper (k + 1) es log))
+          by onward true h = absurd (omega (arith, h))
+          by onward false h = onward h
+
+      paper-examined : BothPapers (markPaper R paper log) (markPaper S paper log)
+      unfolding markPaper
+      paper-examined = long (ltb maxPaper (length paper))
+        where
+          header : (b : Bool) → BothPapers
+              (pick b (dispatch R paper 0 (entries paper) log) (refusedPaper 0 badHeader log)) (pick b (dispatch S paper 0 (entries paper) log) (refusedPaper 0 badHeader log))
+          header true h = dispatch-examined 0 (entries paper) h
+          header false h = absurd (omega (arith, h))
+
+          long : (b : Bool) → BothPapers
+              (pick b (refusedPaper 0 (longPaper (length paper)) log) (pick (goodHeader paper) (dispatch R paper 0 (entries paper) log) (refusedPaper 0 badHeader log)))
+              (pick b (refusedPaper 0 (longPaper (length paper)) log) (pick (goodHeader paper) (dispatch S paper 0 (entries paper) log) (refusedPaper 0 badHeader log)))
+          long true h = absurd (omega (arith, h))
+          long false h = header (goodHeader paper) h
+
+-- by one of the two cases, both of the request's sentences
+as-said : {X : Type 0} {Reaches : Type 0} (number : X → ℕ) (m n : X) → number m ≡ 0 → ((n ≡ m) × (Reaches → ⊥)) ⊎ ((number n ≡ 30) × Reaches)
+    → ExaminedAs Reaches (number n) m n
+as-said number m n z (inl q) =
+    record { exactly = ((λ h. absurd (omega (arith, z, h, ap number (q .0)))), (λ r. absurd (q .1 r))); else = λ h. q .0 }
+as-said number m n z (inr q) = record { exactly = ((λ h. q .1), (λ r. q .0)); else = λ h. absurd (h (q .1)) }
+
+-- "What plain mode accepts gets 30 in the examined one exactly when a plain replay reaches such a push, else the same verdict and
+-- log": by all bytes lent for a map and every limit, since what is accepted has both good.
+pub examining : (map : Bytes) (limit : ℕ) → Examining map limit
+examining map limit = record {
+  fragments = λ fragment main alt log h.
+      let b = acceptedIsGood map (plainAt limit) fragment main alt log h in
+      let here = analysis-good map (plainAt limit) fragment main alt log (b .0) (b .1) in
+      let there = analysis-good map (examinedAt limit) fragment main alt log (b .0) (b .1) in
+      rw (here, there) (as-said (λ (m : Marked). m .verdict .answer .number) _ _ (rw here at h)
+      (analysis-examined _ limit (omega (arith, limit-within limit (b .1) .1)) fragment main alt log (rw here at h)));
+  papers = λ paper log h.
+      let b = acceptedPaperIsGood map (plainAt limit) paper log h in
+      let here = paper-good map (plainAt limit) paper log (b .0) (b .1) in
+      let there = paper-good map (examinedAt limit) paper log (b .0) (b .1) in
+      rw (here, there) (as-said (λ (m : PaperMarked). m .paper .verdict .answer .number) _ _ (rw here at h)
+      (paper-examined _ limit (omega (arith, limit-within limit (b .1) .1)) paper log (rw here at h)));
+}
