@@ -3,6 +3,7 @@ pub mod MarkedPapers
 pub mod SpoiltIndices
 pub mod LongDataWitnesses
 pub mod MapWitnesses
+pub mod ExaminedWitnesses
 pub mod Replays
 pub mod Related
 pub mod Arms
