@@ -13,7 +13,7 @@ use Rattle.definition.specs.Basics.{Bytes, pick}
 use Rattle.definition.specs.Decoding.{number, Front, whole, short, alone, pushes, sized, front, Code, ends, malformed, then, onFront, decodeFrom, decode, instructions, malformedAt}
 use Rattle.definition.specs.Walk.{known}
 use Rattle.definition.specs.Replay.{AreBytes}
-use Rattle.decode.specs.View.{itemOf, valueOf, Held, decodedFront, decodedRest, decodedAt, codeAt, instruction, yieldOf, yielded, rest, countedOf, countBy, countIn}
+use Rattle.decode.specs.View.{itemOf, valueOf, Held, unknownSize, decodedFront, decodedRest, decodedAt, codeAt, instruction, yieldOf, yielded, rest, countedOf, countBy, countIn}
 use Rattle.decode.specs.declared.Instruction.{Instruction}
 use Rattle.decode.specs.declared.Decoded.{Decoded}
 use Rattle.decode.specs.declared.Decoded.the-variants.{At, End, Malformed}
@@ -77,6 +77,7 @@ pub record InstructionAt (s : Bytes) (p : ℕ) (i : Instruction) : Type 0 where
   pub value : valueOf (known literal) ≡ i .literal
   pub item : itemOf (i .literal) ≡ known literal
   pub held : Held (i .literal)
+  pub size : i .size ≡ unknownSize literal
   pub offset : i .offset ≡ p
   pub opcodeByte : i .opcode < 256
   pub onward : p < i .next
@@ -111,13 +112,14 @@ module _ (s : Bytes) (p : ℕ) where
         value = refl;
         item = item-of-known l k;
         held = held-known l k;
+        size = refl;
         offset = refl;
         opcodeByte = lt;
         onward = omega arith;
         within = omega (arith, length-drop p s, ap length e);
       })
     where
-      j : record { opcode = b; offset = p; literal = valueOf (known l); next = p + 1 + after } ≡ i
+      j : record { opcode = b; offset = p; literal = valueOf (known l); next = p + 1 + after; size = unknownSize l } ≡ i
       j = cc
   instruction-front b rest f e lt q is-short i h = absurd (let z : _≡_ {A = ℕ} 0 1 = cc in omega arith)
 
@@ -232,7 +234,7 @@ module _ (s : Bytes) (offset count : ℕ) (c : Counting s offset count) where
   -- an opcode that stands alone, and the end, by the tests of the code
   pub counting-alone : AreBytes s → offset < length s → 0x4e < getD s offset 0 → Counting s (offset + 1) (count + 1)
   counting-alone k h g =
-      let i : Instruction = record { opcode = getD s offset 0; offset = offset; literal = valueOf (known (alone (getD s offset 0))); next = offset + 1 } in
+      let i : Instruction = record { opcode = getD s offset 0; offset = offset; literal = valueOf (known (alone (getD s offset 0))); next = offset + 1; size = 0 } in
       counting-more i (code-instruction s offset k i (sym (at-alone s (getD s offset 0) offset h refl (i .literal) g refl)))
 
   pub counting-end : length s ≤ offset → countedOf (C.Whole count) ≡ countIn (decode s)

@@ -14,12 +14,14 @@ pub enum Value {
     Exact { len: u8, bytes: u64 },
 }
 
-// One instruction: its opcode, its offset, its literal as the marker knows it, and where the next one starts. In this order of
-// the fields the compiled decoder is as short as it is where `Malformed` carries no offset.
+// One instruction: its opcode, its offset, its literal as the marker knows it, where the next one starts, and how many bytes an
+// unknown literal has (request L7). An exact one has its length beside its bytes, and 0 here. In this order of the fields the
+// compiled decoder is as short as it is where `Malformed` carries no offset.
 pub struct Instruction {
     pub offset: usize,
     pub literal: Value,
     pub next: usize,
+    pub size: usize,
     pub opcode: u8,
 }
 
@@ -78,6 +80,7 @@ fn pushes(fragment: &[u8], opcode: u8, offset: usize, start: usize, size: usize)
             offset,
             literal: Value::Unknown,
             next,
+            size,
         });
     }
     let bytes = number(fragment, start, size);
@@ -90,6 +93,7 @@ fn pushes(fragment: &[u8], opcode: u8, offset: usize, start: usize, size: usize)
         offset,
         literal,
         next,
+        size: 0,
     })
 }
 
@@ -162,6 +166,7 @@ pub fn decode_at(fragment: &[u8], offset: usize) -> Decoded
             offset,
             literal,
             next: offset + 1,
+            size: 0,
         });
     }
     pushing(fragment, opcode, offset)

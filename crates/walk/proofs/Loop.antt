@@ -24,7 +24,8 @@ use Rattle.decode.proofs.Codes.{InstructionAt, code-ends, code-malformed}
 use Rattle.decode.specs.declared.Instruction.{Instruction}
 use Rattle.opcodes.proofs.Every.{every}
 use Rattle.opcodes.proofs.Match.{Rest, gives, below}
-use Rattle.stack.specs.View.{view, Fit, Says, Steps}
+use Rattle.decode.specs.declared.Value.the-variants.{Unknown, Exact}
+use Rattle.stack.specs.View.{view, pushUnknown, Fit, Says, Steps}
 use Rattle.stack.specs.declared.Stacks.{Stacks}
 use Rattle.stack.specs.declared.Stepped.{Stepped}
 use Rattle.stack.specs.declared.Answer.the-variants as A
@@ -34,6 +35,7 @@ use Rattle.walk.specs.Runs.{arm, Goes, Any, stopOf, Stopped, Ready, Runs
 use Rattle.walk.specs.declared.Stop.{Stop}
 use Rattle.walk.specs.declared.Stop.the-variants.{Running, End, Conditional, Else, Endif, Refused}
 use Rattle.walk.specs.declared.Walk.{Walk}
+use Rattle.walk.proofs.Literals.{exact-pushed, unknown-pushed}
 use Rattle.walk.proofs.Goings.{stays, goes-on}
 use Rattle.walk.proofs.Steps.{past, at-if, at-notif, at-else, at-endif, at-return, skipped, stepped, at-end}
 
@@ -170,9 +172,18 @@ module _ {R : Rules} {s : Bytes} {before : List ℕ} {v : Walk} {old : List ℕ}
   abbrev On : Type 0
   On = Walking R s before v new (past w i peak (r .stacks) (w .live) (stopOf (r .answer)))
 
-  pub met-push : class ≡ 1 → Says r (pushItem (R .limit) (itemOf (i .literal)) (view (w .stacks))) → On
+  -- an exact literal is no long one
+  pub met-push : (len bytes : ℕ) → i .literal ≡ Exact len bytes → class ≡ 1 → Says r (pushItem (R .limit) (itemOf (i .literal)) (view (w .stacks))) → On
   unfolding step
-  met-push e h = met-live m 1 push e refl alive r (subst (λ (x : Item). Says r (pushItem (R .limit) x (view (w .stacks)))) (m .stands .item) h)
+  met-push len bytes x e h = met-live m 1 push e refl alive r
+      (subst (λ o. Says r o) (sym (exact-pushed R (m .stands .literal) (view (w .stacks)) len bytes (m .stands .value ∙ x)))
+      (subst (λ (x : Item). Says r (pushItem (R .limit) x (view (w .stacks)))) (m .stands .item) h))
+
+  pub met-unknown : i .literal ≡ Unknown → class ≡ 1 → Says r (pushUnknown (R .examined) (R .limit) (i .size) (view (w .stacks))) → On
+  unfolding step
+  met-unknown x e h = met-live m 1 push e refl alive r
+      (subst (λ o. Says r o) (sym (unknown-pushed R (m .stands .literal) (view (w .stacks)) (m .stands .value ∙ x)))
+      (subst (λ n. Says r (pushUnknown (R .examined) (R .limit) n (view (w .stacks)))) (m .stands .size) h))
 
   pub met-to-alt : class ≡ 8 → Says r (moveToAlt (view (w .stacks))) → On
   unfolding step
