@@ -1,20 +1,18 @@
 -- What stands at an offset, by the form of the instruction: each law has the tests of the code as premises.
-use mathlib.Core.Bool.{Bool, true, false, _&&_}
-use mathlib.Core.List.{[], _∷_}
-use mathlib.Core.Path.{_≡_, refl, sym, ap, _∙_}
+use mathlib.Core.Path.{_≡_, sym, ap, _∙_}
 use Prim.Native.Nat.{ℕ, zero, suc, _+_, _-_, _*_, _^_, _≤_, _<_}
 use native.Mathlib.Nat.{pow-le-pow-right}
 use native.Mathlib.Numerals.{add-one}
 use native.Mathlib.Omega.{arith}
 use borrow.Author.Tests.{le-leb, lt-leb, eq-eqb, ne-eqb}
-use lib.Dec.{leb, eqb, leb·zero, lit<}
+use lib.Dec.{leb·zero, lit<}
 use lib.ListN.{length, take, drop, getD, length-take, length-drop, drop-of-length-le}
 use lib.Seq.{drop-cons, drop-drop}
-use Rattle.definition.specs.Basics.{Bytes, pick}
+use Rattle.definition.specs.Basics.{Bytes}
 use Rattle.definition.specs.Decoding.{number, whole, alone, pushes, sized, front}
 use Rattle.definition.specs.Walk.{known}
 use Rattle.definition.specs.Replay.{AreBytes}
-use Rattle.decode.specs.View.{valueOf, unknownSize, decodedFront, decodedAt}
+use Rattle.decode.specs.View.{valueOf, decodedFront, decodedAt}
 use Rattle.decode.specs.declared.Value.{Value}
 use Rattle.decode.specs.declared.Value.the-variants.{Unknown, Exact}
 use Rattle.decode.specs.declared.Decoded.{Decoded}
@@ -68,32 +66,30 @@ module _ (s : Bytes) (opcode offset start size : ℕ) (after : offset < start) (
   abbrev Pushed : Decoded
   Pushed = decodedFront (pushes (start - (offset + 1)) size (drop start s)) opcode offset
 
-  abbrev At-next : Value → ℕ → Decoded
-  At-next v n = At (record { opcode = opcode; offset = offset; literal = v; next = start + size; size = n })
+  abbrev At-next : Value → Decoded
+  At-next v = At (record { opcode = opcode; offset = offset; literal = v; next = start + size })
 
   pub pushes-short : length s - start < size → Malformed offset ≡ Pushed
   pushes-short h = rw (length-drop, lt-leb size (length s - start) h)
 
-  pushes-whole : size ≤ length s - start → At-next (valueOf (known (take size (drop start s)))) (unknownSize (take size (drop start s))) ≡ Pushed
+  pushes-whole : size ≤ length s - start → At-next (valueOf (known (take size (drop start s)))) ≡ Pushed
   pushes-whole h =
-      let l = take size (drop start s) in
+      let literal = valueOf (known (take size (drop start s))) in
       rw (length-drop, le-leb size (length s - start) h)
-      (ap (λ (n : ℕ). At (record { opcode = opcode; offset = offset; literal = valueOf (known l); next = n; size = unknownSize l })) (omega arith))
+      (ap (λ (n : ℕ). At (record { opcode = opcode; offset = offset; literal = literal; next = n })) (omega arith))
 
   length-data : size ≤ length s - start → length (take size (drop start s)) ≡ size
   length-data h = rw (length-take, length-drop) (omega arith)
 
-  pub pushes-long : size ≤ length s - start → 8 < size → At-next Unknown size ≡ Pushed
+  pub pushes-long : size ≤ length s - start → 8 < size → At-next Unknown ≡ Pushed
   pushes-long h g =
-      let k : unknownSize (take size (drop start s)) ≡ size = rw (length-data h, lt-leb size 8 g) in
-      ap (λ v. At-next v size) (sym (unknown-known (take size (drop start s)) (rw (length-data h) g))) ∙ ap (At-next _) (sym k) ∙ pushes-whole h
+      ap At-next (sym (unknown-known (take size (drop start s)) (rw (length-data h) g))) ∙ pushes-whole h
 
-  pub pushes-exact : (bytes : ℕ) → size ≤ length s - start → size ≤ 8 → bytes ≡ number (take size (drop start s)) → At-next (Exact size bytes) 0 ≡ Pushed
+  pub pushes-exact : (bytes : ℕ) → size ≤ length s - start → size ≤ 8 → bytes ≡ number (take size (drop start s)) → At-next (Exact size bytes) ≡ Pushed
   pushes-exact bytes h g e =
       let k : valueOf (known (take size (drop start s))) ≡ Exact size bytes
       = exact-known (take size (drop start s)) (rw (length-data h) g) ∙ rw (length-data h, e) in
-      let z : unknownSize (take size (drop start s)) ≡ 0 = rw (length-data h, le-leb size 8 g) in
-      ap (λ v. At-next v 0) (sym k) ∙ ap (At-next _) (sym z) ∙ pushes-whole h
+      ap At-next (sym k) ∙ pushes-whole h
 
 -- a length of n bytes, then the data
 module _ (s : Bytes) (opcode offset n : ℕ) where
@@ -121,18 +117,6 @@ alone-above opcode n h = rw (ne-eqb opcode 0x4f n, le-leb 0x51 opcode (omega ari
 
 pub alone-small : (opcode v : ℕ) → (opcode ≡ 0x4f → ⊥) → 0x51 ≤ opcode → opcode ≤ 0x60 → v ≡ opcode - 0x50 → Exact 1 v ≡ valueOf (known (alone opcode))
 alone-small opcode v n h g e = rw (ne-eqb opcode 0x4f n, le-leb 0x51 opcode h, le-leb opcode 0x60 g, e) (ap (Exact 1) (omega arith))
-
--- what they push is exact
-alone-size : (opcode : ℕ) → unknownSize (alone opcode) ≡ 0
-alone-size opcode = first (eqb opcode 0x4f)
-  where
-    second : (b : Bool) → unknownSize (pick b ((opcode - 0x50) ∷ []) []) ≡ 0
-    second true = refl
-    second false = refl
-
-    first : (b : Bool) → unknownSize (pick b (0x81 ∷ []) (pick (leb 0x51 opcode && leb opcode 0x60) ((opcode - 0x50) ∷ []) [])) ≡ 0
-    first true = refl
-    first false = second (leb 0x51 opcode && leb opcode 0x60)
 
 -- which form an opcode has
 front-alone : (opcode : ℕ) (rest : Bytes) → 0x4e < opcode → front opcode rest ≡ whole 0 (alone opcode)
@@ -168,10 +152,10 @@ module _ (s : Bytes) (opcode offset : ℕ) (within : offset < length s) (is : op
   at-front = rw (drop-cons s offset 0 within, add-one offset, is)
 
   pub at-alone : (v : Value) → 0x4e < opcode → v ≡ valueOf (known (alone opcode))
-      → At (record { opcode = opcode; offset = offset; literal = v; next = offset + 1; size = 0 }) ≡ decodedAt s offset
+      → At (record { opcode = opcode; offset = offset; literal = v; next = offset + 1 }) ≡ decodedAt s offset
   at-alone v h e =
       let z : offset + 1 + 0 ≡ offset + 1 = omega arith in
-      rw (← at-front, front-alone opcode (drop (offset + 1) s) h, z, e, alone-size opcode)
+      rw (← at-front, front-alone opcode (drop (offset + 1) s) h, z, e)
 
   pub at-pushes : (r : Decoded) → opcode < 0x4c → r ≡ decodedFront (pushes (offset + 1 - (offset + 1)) opcode (drop (offset + 1) s)) opcode offset → r ≡ decodedAt s offset
   at-pushes r h e =

@@ -2,9 +2,9 @@
 use mathlib.Core.List.{List, [], _∷_}
 use mathlib.Core.Option.{Option, none, some}
 use Prim.Native.Nat.{ℕ, zero, suc, _+_, _*_, _/_, _%_, _^_, _≤_, _<_}
-use lib.Dec.{leb}
-use lib.ListN.{length, drop}
-use Rattle.definition.specs.Basics.{Bytes, pick}
+use lib.ListN.{length, drop, getD}
+use Rattle.definition.specs.Basics.{Bytes}
+use Rattle.definition.specs.Blank.{lengthBytes}
 use Rattle.definition.specs.Decoding.{number, Front, whole, short, front, Code, ends, malformed, then, decodeFrom, instructions, malformedAt}
 use Rattle.definition.specs.Decoding as D
 use Rattle.definition.specs.Refusals.{malformedFragment, Answer, accepted, refusedAt}
@@ -37,21 +37,10 @@ abbrev pub Held : Value → Type 0
 Held Unknown = Unit {0}
 Held (Exact len n) = (len ≤ 8) × (n < 256 ^ len)
 
--- request L7, "an instruction keeps its length for this": how many bytes an unknown literal has. An exact one has its length in its
--- value, and 0 here.
-abbrev pub unknownSize : Bytes → ℕ
-unknownSize literal = pick (leb (length literal) 8) 0 (length literal)
-
 -- what stands at an offset, by the definition's `front`
 abbrev pub decodedFront : Front → ℕ → ℕ → Decoded
 decodedFront (whole after literal) opcode offset =
-    At (record {
-      opcode = opcode;
-      offset = offset;
-      literal = valueOf (known literal);
-      next = offset + 1 + after;
-      size = unknownSize literal;
-    })
+    At (record { opcode = opcode; offset = offset; literal = valueOf (known literal); next = offset + 1 + after })
 decodedFront short opcode offset = Malformed offset
 
 abbrev pub decodedRest : Bytes → ℕ → Decoded
@@ -64,6 +53,10 @@ decodedAt fragment offset = decodedRest (drop offset fragment) offset
 -- the code that a reading head at offset p of a fragment yields from there on
 unfoldable pub codeAt : Bytes → ℕ → Code
 codeAt s p = decodeFrom 0 p (drop p s)
+
+-- where the data of the instruction at an offset begins: behind its opcode and the bytes of its length
+abbrev pub dataStart : Bytes → ℕ → ℕ
+dataStart fragment offset = offset + 1 + lengthBytes (getD fragment offset 0)
 
 -- "yields its instructions in order, then the end or 3": one thing yielded
 pub data Yield : Type 0 where

@@ -1,13 +1,11 @@
 -- Pushes of values, by their codes and with their bytes.
-use mathlib.Core.Bool.{Bool, true, false, _&&_}
-use mathlib.Core.Path.{_≡_, refl, ap, _∙_}
+use mathlib.Core.Bool.{true, false}
+use mathlib.Core.Path.{_≡_, ap, _∙_}
 use Prim.Native.Nat.{ℕ, _+_, _≤_}
 use native.Mathlib.Omega.{arith}
 use mir.Syntax.{w8}
 use mir.Val.{Fits}
 use lib.ListN.{set}
-use lib.Dec.{ltb}
-use Rattle.definition.specs.Refusals.{maxElement}
 use Rattle.definition.specs.Stacks.{pushItem}
 use Rattle.definition.specs.Walk.{exact}
 use Rattle.decode.specs.View.{lowBytes, itemOf, Held}
@@ -15,9 +13,7 @@ use Rattle.decode.specs.declared.Value.{Value}
 use Rattle.decode.specs.declared.Value.the-variants.{Unknown, Exact}
 use Rattle.slots.specs.View.{slotItem, sufficient, codeOf}
 use Rattle.slots.proofs.Codes.{sufficient-high, item-low, code-item, exact-canon}
-use Rattle.stack.specs.View.{view, pushUnknown, Fit, Says}
-use Rattle.stack.specs.declared.Answer.the-variants.{Refused}
-use Rattle.stack.specs.declared.Refusal.the-variants.{LongElement}
+use Rattle.stack.specs.View.{view, Fit, Says}
 use Rattle.stack.specs.declared.Stacks.{Stacks}
 use Rattle.stack.specs.declared.Stepped.{Stepped}
 use Rattle.stack.proofs.Mains.{stepped, push-put, push-mark}
@@ -52,16 +48,3 @@ module _ (s : Stacks) (limit : ℕ) (v : Value) (r : Stepped) where
 
     pub push-is-exact : Says r (pushItem limit (exact (lowBytes len n)) (view s)) → Says r (pushItem limit (itemOf v) (view s))
     push-is-exact k = rw e k
-
--- a push of an unknown literal of so many bytes
-module _ (s : Stacks) (size : ℕ) (examined : Bool) (limit : ℕ) where
-  pub push-is-long : Fit s → (b : Bool) → b ≡ (examined && ltb maxElement size) → b ≡ true
-      → Says (record { stacks = s; answer = Refused (LongElement size) }) (pushUnknown examined limit size (view s))
-  push-is-long f b e t = let z : (examined && ltb maxElement size) ≡ true = cc in record { fit = f; same = rw z }
-
-  pub push-is-short : (r : Stepped) (b : Bool) → b ≡ (examined && ltb maxElement size) → b ≡ false
-      → Says r (pushItem limit (slotItem 9 0) (view s)) → Says r (pushUnknown examined limit size (view s))
-  push-is-short r b e t k = let z : (examined && ltb maxElement size) ≡ false = cc in rw z k
-
-pub examined-test : (examined : Bool) (size : ℕ) → examined ≡ true → ltb maxElement size ≡ (examined && ltb maxElement size)
-examined-test examined size e = rw e

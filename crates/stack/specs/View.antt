@@ -1,14 +1,11 @@
 -- What the structs and enums of this crate stand for in the definitions of document 01.
-use mathlib.Core.Bool.{Bool, _&&_}
 use mathlib.Core.Path.{_≡_}
 use Prim.Native.Nat.{ℕ, _+_, _≤_}
-use lib.Dec.{ltb}
-use Rattle.definition.specs.Basics.{pick}
 use Rattle.definition.specs.Classes.{Ordinary}
 use Rattle.definition.specs.Decoding.{Instruction}
 use Rattle.definition.specs.Refusals as D
 use Rattle.definition.specs.Stacks as S
-use Rattle.definition.specs.Walk.{Item, unknown, marking, unknowns}
+use Rattle.definition.specs.Walk.{Item, marking, unknowns}
 use Rattle.slots.specs.View.{Slots, slots, cells, backs, tops, Sound}
 use Rattle.stack.specs.declared.Stacks.{Stacks}
 use Rattle.stack.specs.declared.Refusal.{Refusal}
@@ -66,11 +63,6 @@ pub record Says (r : Stepped) (o : S.Outcome Item) : Type 0 where
 pub record Steps (r : Stepped) (limit : ℕ) (o : Ordinary) (s : S.Stacks Item) : Type 0 where
   pub fit : Fit (r .stacks)
   pub same : (R : S.Rules) (i : Instruction) → R .limit ≡ limit → outcome (r .answer) (view (r .stacks)) ≡ S.step marking R i o s
-
--- a literal of which the marker knows the length alone is pushed: `pushLiteral` of it
-abbrev pub pushUnknown : Bool → ℕ → ℕ → S.Stacks Item → S.Outcome Item
-pushUnknown examined limit size s =
-    pick (examined && ltb D.maxElement size) (S.refused (D.longElement size)) (S.pushItem limit unknown s)
 
 -- so many unknown items on each stack
 pub record Fresh (main alt : ℕ) (s : Stacks) : Type 0 where

@@ -1,16 +1,14 @@
 // The two stacks, by value, and what the ordinary opcodes do to them: document 01, section 3.
 ghost use mathlib.Core.Path.{_≡_};
-ghost use mathlib.Core.Bool.{true, false, _&&_};
+ghost use mathlib.Core.Bool.{true, false};
 ghost use Prim.Native.Nat.{ℕ, _+_, _≤_, _<_};
-ghost use lib.Dec.{ltb};
-ghost use Rattle.definition.specs.Refusals.{maxElement};
 ghost use Rattle.definition.specs.Classes.{DEPTH, SIZE, PICK, ZK};
 ghost use Rattle.definition.specs.Stacks.{pushItem, dropItems, copyItems, rotateItems, tuckTop, nipSecond, moveToAlt, moveFromAlt, popIndex, zkDrop, plainStep};
 ghost use Rattle.definition.specs.Decoding.{indexOf};
 ghost use Rattle.definition.specs.Walk.{exact, bytesKnown, marking, joinStacks};
 ghost use Rattle.decode.specs.View.{lowBytes, itemOf, Held};
 ghost use Rattle.slots.specs.View.{slotItem, codeOf, sufficient};
-ghost use Rattle.stack.specs.View.{view, pushUnknown, Fit, Fresh, Says, Steps};
+ghost use Rattle.stack.specs.View.{view, Fit, Fresh, Says, Steps};
 ghost use Rattle.stack.specs.Parts.{countOf, Pops};
 use decode::Value;
 use number_form::Index;
@@ -88,16 +86,6 @@ fn count_of(v: Value) -> Count
     }
 }
 
-// Whether a literal of so many bytes is refused: request L7's examined mode takes 520 at most.
-fn too_long(size: usize, examined: bool) -> bool
-    ensures { λ r. ⌜ r ≡ (examined && ltb maxElement size) ⌝ }
-{
-    if examined {
-        return size > 520;
-    }
-    false
-}
-
 impl Stacks {
     pub fn new(main: u32, alt: u32) -> Stacks
         requires { ⌜ main + alt ≤ 244 ⌝ }
@@ -123,21 +111,6 @@ impl Stacks {
                 return self.push_code(code, limit);
             }
             return self.push_exact(len, bytes, limit);
-        }
-        self.push_code(9, limit)
-    }
-
-    // Pushes an unknown literal of so many bytes. In the examined mode one above 520 bytes is refused, before room is judged.
-    pub fn push_unknown(self, size: usize, examined: bool, limit: u32) -> Stepped
-        requires { ⌜ Fit self ⌝ }
-        requires { ⌜ limit ≤ 244 ⌝ }
-        ensures { λ r. ⌜ Says r (pushUnknown examined limit size (view self)) ⌝ }
-    {
-        if too_long(size, examined) {
-            return Stepped {
-                stacks: self,
-                answer: Answer::Refused(Refusal::LongElement { size }),
-            };
         }
         self.push_code(9, limit)
     }

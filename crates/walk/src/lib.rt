@@ -256,8 +256,14 @@ pub fn plain(code: &[u8], log: &mut [u16], classes: &[u8], options: Options, sta
             opcodes::PUSH => {
                 let v = i.literal;
                 let Value::Exact { len, bytes } = v else {
+                    if decode::too_long(code, last, at, examined) {
+                        let size = decode::data_size(code, last, at);
+                        let s8 = t.stacks;
+                        let stop = Stop::Refused(Refusal::LongElement { size });
+                        return stopped(s8, true, at, last, rows, peak, stop);
+                    }
                     let s = t.stacks;
-                    t = s.push_unknown(i.size, examined, limit);
+                    t = s.push_code(9, limit);
                     continue;
                 };
                 let code = slots::code_of(len, bytes);

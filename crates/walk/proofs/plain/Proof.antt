@@ -9,11 +9,11 @@ use Rattle.definition.specs.Maps.{rulesBy}
 use Rattle.walk.specs.Runs.{optionsOf}
 use Rattle.decode.proofs.Bytes.{slice-bytes}
 use Rattle.decode.proofs.Codes.{code-instruction, code-ends, code-malformed}
-use Rattle.stack.proofs.Values.{held-exact, code-wants, push-is-code, push-is-exact}
+use Rattle.stack.proofs.Values.{unknown-suffices, held-exact, code-wants, push-is-unknown, push-is-code, push-is-exact}
 use Rattle.walk.specs.declared.Stop.the-variants.{Running}
 use Rattle.walk.proofs.Rows.{row-written, high-of, not-live, is-live}
 use Rattle.walk.proofs.Dead.{then-dead, room-there, room-on}
-use Rattle.walk.proofs.Loop.{walkOf, Walking, walking-none, runs-from, Met, was-refused, none-left, row-room, no-instruction, ready-running, nearer, class-left, met-copies, met-else, met-endif, met-from-alt, met-if, met-nip, met-nothing, met-notif, met-push, met-unknown, met-return, met-roll, met-rotates, met-steps, met-plain, met-to-alt, met-tuck, met-unmodelled}
+use Rattle.walk.proofs.Loop.{walkOf, Walking, walking-none, runs-from, Met, was-refused, none-left, row-room, no-instruction, ready-running, nearer, class-left, met-copies, met-else, met-endif, met-from-alt, met-if, met-nip, met-nothing, met-notif, met-push, met-unknown, met-long, data-within, met-return, met-roll, met-rotates, met-steps, met-plain, met-to-alt, met-tuck, met-unmodelled}
 use Rattle.walk.proofs.plain.Statement.{statement}
 use Rattle.walk.proofs.plain.Tie as tie
 use Rattle.walk.proofs.plain.Reads as reads
@@ -29,7 +29,8 @@ use Rattle.stack.proofs.Stacks.move_from_alt.Reads as move-from-alt-reads
 use Rattle.stack.proofs.Stacks.move_to_alt.Reads as move-to-alt-reads
 use Rattle.stack.proofs.Stacks.nip.Reads as nip-reads
 use Rattle.stack.proofs.Stacks.pick.Reads as pick-reads
-use Rattle.stack.proofs.Stacks.push_unknown.Reads as push-unknown-reads
+use Rattle.decode.proofs.too_long.Reads as too-long-reads
+use Rattle.decode.proofs.data_size.Reads as data-size-reads
 use Rattle.stack.proofs.Stacks.push_code.Reads as push-code-reads
 use Rattle.stack.proofs.Stacks.push_exact.Reads as push-exact-reads
 use Rattle.stack.proofs.Stacks.roll.Reads as roll-reads
@@ -50,7 +51,7 @@ abbrev μ-loop : tie.MeasureT-loop
 μ-loop code log₀ classes limit examined t₀ at₀ last₀ rows₀ peak₀ log t at last rows peak = length code - at
 
 -- what is known once an instruction is met, its row is written and its class number is read
-met : (c : lts.After-class-in (skip-reads.Asked, skip-reads.Learnt, stopped-reads.Asked, stopped-reads.Learnt, higher-reads.Asked, higher-reads.Learnt, decode-at-reads.Asked, decode-at-reads.Learnt, log-row-reads.Asked, log-row-reads.Learnt, class-in-reads.Asked, class-in-reads.Learnt, push-unknown-reads.Asked, push-unknown-reads.Learnt, code-of-reads.Asked, code-of-reads.Learnt, suffices-reads.Asked, suffices-reads.Learnt, push-code-reads.Asked, push-code-reads.Learnt, push-exact-reads.Asked, push-exact-reads.Learnt, move-to-alt-reads.Asked, move-to-alt-reads.Learnt, move-from-alt-reads.Asked, move-from-alt-reads.Learnt, depth-reads.Asked, depth-reads.Learnt, size-reads.Asked, size-reads.Learnt, nip-reads.Asked, nip-reads.Learnt, tuck-reads.Asked, tuck-reads.Learnt, pick-reads.Asked, pick-reads.Learnt, roll-reads.Asked, roll-reads.Learnt, zk-reads.Asked, zk-reads.Learnt, extend-from-within-reads.Asked, extend-from-within-reads.Learnt, rotate-left-reads.Asked, rotate-left-reads.Learnt, apply-effect-reads.Asked, apply-effect-reads.Learnt) reads.Pre reads.Post Inv-loop μ-loop)
+met : (c : lts.After-class-in (skip-reads.Asked, skip-reads.Learnt, stopped-reads.Asked, stopped-reads.Learnt, higher-reads.Asked, higher-reads.Learnt, decode-at-reads.Asked, decode-at-reads.Learnt, log-row-reads.Asked, log-row-reads.Learnt, class-in-reads.Asked, class-in-reads.Learnt, too-long-reads.Asked, too-long-reads.Learnt, data-size-reads.Asked, data-size-reads.Learnt, push-code-reads.Asked, push-code-reads.Learnt, code-of-reads.Asked, code-of-reads.Learnt, suffices-reads.Asked, suffices-reads.Learnt, push-exact-reads.Asked, push-exact-reads.Learnt, move-to-alt-reads.Asked, move-to-alt-reads.Learnt, move-from-alt-reads.Asked, move-from-alt-reads.Learnt, depth-reads.Asked, depth-reads.Learnt, size-reads.Asked, size-reads.Learnt, nip-reads.Asked, nip-reads.Learnt, tuck-reads.Asked, tuck-reads.Learnt, pick-reads.Asked, pick-reads.Learnt, roll-reads.Asked, roll-reads.Learnt, zk-reads.Asked, zk-reads.Learnt, extend-from-within-reads.Asked, extend-from-within-reads.Learnt, rotate-left-reads.Asked, rotate-left-reads.Learnt, apply-effect-reads.Asked, apply-effect-reads.Learnt) reads.Pre reads.Post Inv-loop μ-loop)
     → Met (rulesBy (c .before .before .before .before .before .before .before .before .before .before .before .before .before .before .before .before .before .before .before .args .classes .now) (optionsOf (c .before .before .before .before .before .before .before .before .before .before .before .before .before .before .before .before .before .before .before .args .options))) (c .before .before .before .before .before .before .before .before .before .before .before .before .before .before .before .before .before .before .before .args .code .now) (c .before .before .before .before .before .before .before .before .before .before .before .before .before .before .before .before .before .before .before .args .log .now) (record { stacks = c .before .before .before .before .before .before .before .before .before .before .before .before .before .before .before .before .before .before .before .args .start .stacks; live = true; at = c .before .before .before .before .before .before .before .before .before .before .before .before .before .before .before .before .before .before .before .args .start .at; last = c .before .before .before .before .before .before .before .before .before .before .before .before .before .before .before .before .before .before .before .args .start .last; rows = c .before .before .before .before .before .before .before .before .before .before .before .before .before .before .before .before .before .before .before .args .start .rows; peak = c .before .before .before .before .before .before .before .before .before .before .before .before .before .before .before .before .before .before .before .args .start .peak; stop = Running }) (c .before .before .before .before .before .before .before .before .before .before .before .before .loop .log) (walkOf (c .before .before .before .before .before .before .before .before .before .before .before .before .loop .t) (c .before .before .before .before .before .before .before .before .before .before .before .before .loop .at) (c .before .before .before .before .before .before .before .before .before .before .before .before .loop .last) (c .before .before .before .before .before .before .before .before .before .before .before .before .loop .rows) (c .before .before .before .before .before .before .before .before .before .before .before .before .loop .peak)) (c .before .before .before .log-row .last .0) (c .before .before .before .before .before .before .d .given .0 .0) (c .before .before .before .before .before .before .before .before .before .higher .result) (c .class-in .result)
 met c =
     let l = c .before .before .before in
@@ -199,14 +200,29 @@ enum-known-v c = search needs
 enum-told-2 : tie.Need-enum-told-2 Inv-loop μ-loop
 enum-told-2 c = search needs
 
-push-unknown-requires : tie.Need-push-unknown-requires Inv-loop μ-loop
-push-unknown-requires c κs = (search needs, c .before .before .before .before .before .before .before .before .before .before .before .before .before .before .before .before .before .before .before .before .before .before .before .pre .1 .1)
+too-long-requires : tie.Need-too-long-requires Inv-loop μ-loop
+too-long-requires c κs = data-within (met (c .before .before .before)) (c .enum-told2 .given .1)
+
+data-size-requires : tie.Need-data-size-requires Inv-loop μ-loop
+data-size-requires c κs = data-within (met (c .before .before .before .before .before)) (c .before .before .enum-told2 .given .1)
+
+stopped-requires-9 : tie.Need-stopped-requires-9 Inv-loop μ-loop
+stopped-requires-9 c κs = search needs
+
+same-length-9 : tie.Need-same-length-9 Inv-loop μ-loop
+same-length-9 c = let m = met (c .before .before .before .before .before .before .before .before) in m .len ∙ m .walking .len
+
+returns-9 : tie.Need-returns-9 Inv-loop μ-loop
+returns-9 c = rw (c .stopped9 .ensures) (runs-from (c .before .before .before .before .before .before .before .before .before .before .before .before .before .before .before .before .before .before .before .before .before .before .before .before .before .before .before .args .start) (is-live _ (c .before .before .before .before .before .before .before .before .before .before .before .before .before .before .before .before .before .before .before .before .before .if1 .left)) (c .before .before .before .before .before .before .before .before .before .before .before .before .before .before .before .before .before .before .before .before .before .before .before .before .before .before .before .pre .0 .1) (met-long (met (c .before .before .before .before .before .before .before .before)) refl (c .before .before .before .before .before .enum-told2 .given .1) _ (c .before .before .before .before .too-long .ensures) (c .before .before .before .if2 .taken) (c .before .before .before .before .before .before .before .match3 .keys7) _ (c .before .before .data-size .ensures)))
+
+push-code-requires : tie.Need-push-code-requires Inv-loop μ-loop
+push-code-requires c κs = (met (c .before .before .before .before .before .before) .walking .goes .fit, (unknown-suffices, c .before .before .before .before .before .before .before .before .before .before .before .before .before .before .before .before .before .before .before .before .before .before .before .before .before .pre .1 .1))
 
 loop-less-2 : tie.Need-loop-less-2 Inv-loop μ-loop
-loop-less-2 c = nearer (met (c .before .before .before .before .before))
+loop-less-2 c = nearer (met (c .before .before .before .before .before .before .before))
 
 loop-again-2 : tie.Need-loop-again-2 Inv-loop μ-loop
-loop-again-2 c = met-unknown (met (c .before .before .before .before .before)) refl (c .push-unknown .result) (c .before .before .enum-told2 .given .1) (c .before .before .before .before .match3 .keys7) (c .push-unknown .ensures)
+loop-again-2 c = met-unknown (met (c .before .before .before .before .before .before .before)) refl (c .push-code .result) (c .before .before .before .before .enum-told2 .given .1) _ (c .before .before .before .too-long .ensures) (c .before .before .if2 .left) (c .before .before .before .before .before .before .match3 .keys7) (push-is-unknown _ _ _ (c .push-code .result) (c .before .before .before .before .enum-told2 .given .1) (c .push-code .ensures))
 
 code-of-requires : tie.Need-code-of-requires Inv-loop μ-loop
 code-of-requires c κs = search needs
@@ -214,17 +230,17 @@ code-of-requires c κs = search needs
 suffices-requires : tie.Need-suffices-requires Inv-loop μ-loop
 suffices-requires c κs = search needs
 
-push-code-requires : tie.Need-push-code-requires Inv-loop μ-loop
-push-code-requires c κs = (met (c .before .before .before .before .before .before .before .before) .walking .goes .fit, (sym (c .before .before .suffices .ensures) ∙ c .before .if2 .taken, c .before .before .before .before .before .before .before .before .before .before .before .before .before .before .before .before .before .before .before .before .before .before .before .before .before .before .before .pre .1 .1))
+push-code-requires-2 : tie.Need-push-code-requires-2 Inv-loop μ-loop
+push-code-requires-2 c κs = (met (c .before .before .before .before .before .before .before .before) .walking .goes .fit, (sym (c .before .before .suffices .ensures) ∙ c .before .if3 .taken, c .before .before .before .before .before .before .before .before .before .before .before .before .before .before .before .before .before .before .before .before .before .before .before .before .before .before .before .pre .1 .1))
 
 loop-less-3 : tie.Need-loop-less-3 Inv-loop μ-loop
 loop-less-3 c = nearer (met (c .before .before .before .before .before .before .before .before .before))
 
 loop-again-3 : tie.Need-loop-again-3 Inv-loop μ-loop
-loop-again-3 c = met-push (met (c .before .before .before .before .before .before .before .before .before)) refl (c .push-code .result) _ _ (c .before .before .before .before .before .before .v .given .1) (c .before .before .before .before .before .before .before .before .match3 .keys7) (push-is-code _ _ _ (c .push-code .result) _ _ (c .before .before .before .before .before .before .v .given .1) (met (c .before .before .before .before .before .before .before .before .before) .stands .held) _ (c .before .before .before .before .code-of .ensures) (sym (c .before .before .before .suffices .ensures) ∙ c .before .before .if2 .taken) (c .push-code .ensures))
+loop-again-3 c = met-push (met (c .before .before .before .before .before .before .before .before .before)) refl (c .push-code2 .result) _ _ (c .before .before .before .before .before .before .v .given .1) (c .before .before .before .before .before .before .before .before .match3 .keys7) (push-is-code _ _ _ (c .push-code2 .result) _ _ (c .before .before .before .before .before .before .v .given .1) (met (c .before .before .before .before .before .before .before .before .before) .stands .held) _ (c .before .before .before .before .code-of .ensures) (sym (c .before .before .before .suffices .ensures) ∙ c .before .before .if3 .taken) (c .push-code2 .ensures))
 
 push-exact-requires : tie.Need-push-exact-requires Inv-loop μ-loop
-push-exact-requires c κs = (met (c .before .before .before .before .before .before .before .before) .walking .goes .fit, (held-exact _ _ _ (c .before .before .before .before .before .v .given .1) (met (c .before .before .before .before .before .before .before .before) .stands .held), (code-wants _ _ (c .before .before .before .code-of .ensures) (sym (c .before .before .suffices .ensures) ∙ c .before .if2 .left), omega (arith, c .before .before .before .before .before .before .before .before .before .before .before .before .before .before .before .before .before .before .before .before .before .before .before .before .before .before .before .pre .1 .1))))
+push-exact-requires c κs = (met (c .before .before .before .before .before .before .before .before) .walking .goes .fit, (held-exact _ _ _ (c .before .before .before .before .before .v .given .1) (met (c .before .before .before .before .before .before .before .before) .stands .held), (code-wants _ _ (c .before .before .before .code-of .ensures) (sym (c .before .before .suffices .ensures) ∙ c .before .if3 .left), omega (arith, c .before .before .before .before .before .before .before .before .before .before .before .before .before .before .before .before .before .before .before .before .before .before .before .before .before .before .before .pre .1 .1))))
 
 loop-less-4 : tie.Need-loop-less-4 Inv-loop μ-loop
 loop-less-4 c = nearer (met (c .before .before .before .before .before .before .before .before .before))
@@ -503,12 +519,17 @@ plain-spec =
     loop-again
     enum-known-v
     enum-told-2
-    push-unknown-requires
+    too-long-requires
+    data-size-requires
+    stopped-requires-9
+    same-length-9
+    returns-9
+    push-code-requires
     loop-less-2
     loop-again-2
     code-of-requires
     suffices-requires
-    push-code-requires
+    push-code-requires-2
     loop-less-3
     loop-again-3
     push-exact-requires
