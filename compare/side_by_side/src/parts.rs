@@ -922,8 +922,10 @@ fn element_paper(rng: &mut Rng) -> Vec<u8> {
     let state_fields = rng.below(3);
     let mut draft = Draft { state_fields, entries: Vec::new(), initialiser: Vec::new() };
     let part = |rng: &mut Rng, main, alt| {
-        let plain = body(rng, main, alt);
-        if rng.percent(60) { with_elements(rng, &plain) } else { plain }
+        let steps = rng.within(0, 12);
+        let fault = rng.percent(10).then(|| Fault { after: rng.below(steps + 1), number: rng.pick(&FAULTS) });
+        let plain = planned(rng, main, alt, steps, fault);
+        if rng.percent(50) { with_elements(rng, &plain) } else { plain }
     };
     for _ in 0..rng.within(1, 3) {
         let params = rng.below(5);
