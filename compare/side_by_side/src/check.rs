@@ -131,6 +131,7 @@ const LOG: &str = "document 01: the log";
 const ITEMS: &str = "document 01: the items of the end";
 const AGAIN: &str = "the same without the items";
 const BLANKED: &str = "ours with other long data";
+const BLANKED_EXAMINED: &str = "ours in examined mode with other long data";
 const RUST_BLANKED: &str = "the Rust's, both with other long data";
 const RAISED: &str = "the same at another limit: accepted from the peak on, else 2 or 6";
 const RAISED_PAPER: &str = "the same at a higher limit";
@@ -159,11 +160,14 @@ pub struct Checker<'m, M> {
     theirs: Vec<u16>,
     items: Vec<u64>,
     wanted: Vec<u64>,
+    /// The built-in map at 244 in examined mode.
+    examined: Lent,
 }
 
 impl<'m, M: Marker> Checker<'m, M> {
     pub fn new(marker: &'m M) -> Self {
-        Self { marker, ours: Vec::new(), theirs: Vec::new(), items: Vec::new(), wanted: Vec::new() }
+        let examined = Lent { map: built_in_map(), limit: 244, mode: 1 };
+        Self { marker, ours: Vec::new(), theirs: Vec::new(), items: Vec::new(), wanted: Vec::new(), examined }
     }
 
     /// Both logs, as lent.
@@ -330,22 +334,19 @@ impl<'m, M: Marker> Checker<'m, M> {
         Ok(number)
     }
 
-    /// Request L3: two fragments that differ only within long data. Ours have the same numbers, log and items, and the Rust's two
-    /// answers are the same. The verdict number.
+    /// Request L3: two fragments that differ only within long data. Ours have the same numbers, log and items, in examined mode too,
+    /// and the Rust's two answers are the same. The verdict number.
     pub fn blanked(&mut self, main: u32, alt: u32, bytes: &[u8], other: &[u8], lent: usize) -> Result<u32, Box<Difference>> {
+        self.lend(lent);
+        self.lend_items();
+        let one = self.marker.analyze_with(&self.examined, bytes, main, alt, &mut self.ours, &mut self.items);
+        let two = self.marker.analyze_with(&self.examined, other, main, alt, &mut self.theirs, &mut self.wanted);
+        self.same_of_both(BLANKED_EXAMINED, one, two)?;
         self.lend(lent);
         self.lend_items();
         let one = self.marker.analyze_items(bytes, main, alt, &mut self.ours, &mut self.items);
         let two = self.marker.analyze_items(other, main, alt, &mut self.theirs, &mut self.wanted);
-        if one != two {
-            return Err(differ(BLANKED, one, two));
-        }
-        if self.ours != self.theirs {
-            return Err(differ(BLANKED, &self.ours, &self.theirs));
-        }
-        if self.items != self.wanted {
-            return Err(differ(BLANKED, &self.items, &self.wanted));
-        }
+        self.same_of_both(BLANKED, one, two)?;
         let rust = ask(one, || (reference::fragment(bytes, main, alt), reference::fragment(other, main, alt)))?;
         if rust.0 != rust.1 {
             return Err(differ(RUST_BLANKED, rust.0, rust.1));
@@ -353,17 +354,31 @@ impl<'m, M: Marker> Checker<'m, M> {
         Ok(one[0] as u32)
     }
 
+    /// The numbers, the logs and the items of two answers of ours.
+    fn same_of_both<const N: usize>(&self, against: &'static str, one: [u64; N], two: [u64; N]) -> Result<(), Box<Difference>> {
+        if one != two {
+            return Err(differ(against, one, two));
+        }
+        if self.ours != self.theirs {
+            return Err(differ(against, &self.ours, &self.theirs));
+        }
+        if self.items != self.wanted {
+            return Err(differ(against, &self.items, &self.wanted));
+        }
+        Ok(())
+    }
+
     /// The same of two papers.
     pub fn blanked_papers(&mut self, bytes: &[u8], other: &[u8], lent: usize) -> Result<u32, Box<Difference>> {
+        self.lend_items();
+        self.lend(lent);
+        let one = self.marker.mark_paper_with(&self.examined, bytes, &mut self.ours);
+        let two = self.marker.mark_paper_with(&self.examined, other, &mut self.theirs);
+        self.same_of_both(BLANKED_EXAMINED, one, two)?;
         self.lend(lent);
         let one = self.marker.mark_paper(bytes, &mut self.ours);
         let two = self.marker.mark_paper(other, &mut self.theirs);
-        if one != two {
-            return Err(differ(BLANKED, one, two));
-        }
-        if self.ours != self.theirs {
-            return Err(differ(BLANKED, &self.ours, &self.theirs));
-        }
+        self.same_of_both(BLANKED, one, two)?;
         let rust = ask(one, || (reference::paper(bytes), reference::paper(other)))?;
         if rust.0 != rust.1 {
             return Err(differ(RUST_BLANKED, rust.0, rust.1));

@@ -166,6 +166,28 @@ fn long_data_told() {
     assert!(against.starts_with("ours"), "{against}");
 }
 
+/// The same in examined mode alone, and of papers: 7 or more in the second byte of the data, or in the last of the paper.
+#[test]
+fn long_data_told_in_examined_mode() {
+    let by: By = |by, bytes, main, alt, log, items| {
+        let mut out = proved(by, bytes, main, alt, log, items);
+        out[5] += u64::from(by.examined() && bytes.len() > 9 && bytes[0] == 9 && bytes[2] >= 7);
+        out
+    };
+    let (case, against) = reported(Changed { by, ..UNCHANGED }, "long data");
+    let Case::Fragments { bytes, other, .. } = &case else { panic!("{case}") };
+    assert_eq!((bytes.len(), other.len(), bytes[0], other[0]), (10, 10, 9, 9), "{case}");
+    assert_eq!(against, "ours in examined mode with other long data");
+    let paper_by: PaperBy = |by, paper, log| {
+        let mut out = Proved.mark_paper_with(by, paper, log);
+        out[5] += u64::from(by.examined() && paper.last().is_some_and(|last| *last >= 7));
+        out
+    };
+    let (case, against) = reported(Changed { paper_by, ..UNCHANGED }, "long data");
+    assert!(matches!(case, Case::Papers { .. }), "{case}");
+    assert_eq!(against, "ours in examined mode with other long data");
+}
+
 /// The bytes of an exact item, where there are two or more of them.
 #[test]
 fn an_items_bytes_lost() {
