@@ -580,7 +580,6 @@ pub fn analysis(bytes: &[u8], main: u32, alt: u32, log: &mut [u16]) -> Verdict {
 }
 
 /// The same by a lent map and limit, which are judged first, in plain or examined mode.
-#[allow(clippy::too_many_arguments)]
 pub fn analysis_with(map: &[u8], limit: u32, examined: bool, bytes: &[u8], main: u32, alt: u32, log: &mut [u16]) -> Verdict {
     match Rules::read(map, limit) {
         Ok(rules) => analysis_by(&rules.in_mode(examined), bytes, main, alt, log),
