@@ -36,7 +36,7 @@ extern "C" {
 #define LISTOCHUR_LISTING_PLACES 3
 
 /* How many verdict numbers are in use, from 0 on. */
-#define LISTOCHUR_NUMBERS 30
+#define LISTOCHUR_NUMBERS 31
 
 /* Room for the lines of any paper, and for the words of any verdict. */
 #define LISTOCHUR_LINES_BYTES 4096
@@ -159,8 +159,8 @@ uint32_t listochur_list(const uint8_t *fragment, size_t fragment_len, uint8_t *t
                         size_t out_len);
 
 /*
- * A lent opcode map and a lent stack limit (request L6). The functions above go by the built-in map at the limit of 244; those
- * below by the map and the limit that they are lent.
+ * A lent opcode map and a lent stack limit (request L6), and the mode (request L7). The functions above go by the built-in map at
+ * the limit of 244 in plain mode; those below by the map, the limit and the mode that they are lent.
  *
  * A map is a header of two 16-bit numbers, lowest byte first, the count of rows (256) and the offset of the first (4 or more),
  * then one byte a row, the class number of its code. Bytes before the rows and behind them are free. It is bad, 28, where the
@@ -171,12 +171,19 @@ uint32_t listochur_list(const uint8_t *fragment, size_t fragment_len, uint8_t *t
  * map first. At 28 and 29 `log` and `items` stay as they were, and `out` has the number and zeros; the lines are the one line
  * `refused 28 at 0 0 0 0`.
  *
- * `mode` is not read yet. Pass 0.
+ * `mode` is LISTOCHUR_PLAIN or LISTOCHUR_EXAMINED; any other than 0 is examined. In the examined mode a literal of more than
+ * LISTOCHUR_ELEMENT bytes that a run may push is refused, 30, with its length and LISTOCHUR_ELEMENT, ahead of the test for room at
+ * that push; where no run comes it passes.
  */
 
 /* How many bytes the built-in map has, and the built-in limit. */
 #define LISTOCHUR_MAP_BYTES 260
 #define LISTOCHUR_LIMIT 244
+
+/* The modes, and how many bytes a literal may have in the examined one. */
+#define LISTOCHUR_PLAIN 0
+#define LISTOCHUR_EXAMINED 1
+#define LISTOCHUR_ELEMENT 520
 
 /*
  * A map to lend: that of year 0 is the built-in one, 00 01 04 00 and the 256 class numbers. Answers LISTOCHUR_MAP_BYTES, or 0 for
@@ -185,23 +192,23 @@ uint32_t listochur_list(const uint8_t *fragment, size_t fragment_len, uint8_t *t
  */
 uint32_t listochur_map(uint32_t year, uint8_t *map, size_t map_len);
 
-/* As `listochur_analyze_items`, by a lent map and limit. */
+/* As `listochur_analyze_items`, by a lent map, limit and mode. */
 uint32_t listochur_analyze_with(const uint8_t *fragment, size_t fragment_len, uint32_t main_items, uint32_t alt_items,
                                 const uint8_t *map, size_t map_len, uint32_t limit, uint32_t mode, uint16_t *log, size_t log_len,
                                 uint64_t *items, size_t items_len, uint64_t *out, size_t out_len);
 
-/* As `listochur_mark_paper`, by a lent map and limit. */
+/* As `listochur_mark_paper`, by a lent map, limit and mode. */
 uint32_t listochur_mark_paper_with(const uint8_t *paper, size_t paper_len, const uint8_t *map, size_t map_len, uint32_t limit,
                                    uint32_t mode, uint16_t *log, size_t log_len, uint64_t *out, size_t out_len);
 
-/* As `listochur_mark_lines`, by a lent map and limit. */
+/* As `listochur_mark_lines`, by a lent map, limit and mode. */
 uint32_t listochur_mark_lines_with(const uint8_t *paper, size_t paper_len, const uint8_t *map, size_t map_len, uint32_t limit,
                                    uint32_t mode, uint16_t *log, size_t log_len, uint8_t *text, size_t text_len, uint64_t *out,
                                    size_t out_len);
 
 /*
- * As `listochur_log_lines`, by a lent map and limit. The words of the instructions are those of the built-in map; which of them
- * open and close a conditional goes by the lent one.
+ * As `listochur_log_lines`, by a lent map, limit and mode. The words of the instructions are those of the built-in map; which of
+ * them open and close a conditional goes by the lent one.
  */
 uint32_t listochur_log_lines_with(const uint8_t *paper, size_t paper_len, const uint8_t *map, size_t map_len, uint32_t limit,
                                   uint32_t mode, uint16_t *log, size_t log_len, uint8_t *text, size_t text_len, uint64_t *out,

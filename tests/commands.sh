@@ -176,6 +176,17 @@ try "$tree/mark" --limit 4 "$work/good"
 gives "a low limit" 1 "refused 20 at 0 0 5 4"
 try "$tree/mark" --limit 5 "$work/good"
 gives "the least limit" 0 "$good"
+try "$tree/mark" --examined "$work/good"
+gives "examined, with no long push" 0 "$good"
+{ printf '\1\0\0\0\16\0\0\0\0\0\16\0\14\2M\t\2' && head -c 521 /dev/zero; } >"$work/long"
+try "$tree/mark" "$work/long"
+gives "a push of 521 bytes" 0 "entry 0 peak 1 end 1 0
+accepted"
+try "$tree/mark" --examined "$work/long"
+gives "a push of 521 bytes, examined" 1 "refused 30 at 0 0 521 520"
+try "$tree/log" --examined "$work/long"
+is "a log, examined" "$status" -eq 1
+is "a log, examined: its end" "$(tail -n 1 "$work/out")" = "refused 30 at 0 0 521 520"
 try "$tree/log" --limit 4 "$work/good"
 is "a log at a low limit" "$status" -eq 1
 is "a log at a low limit: its end" "$(tail -n 1 "$work/out")" = "refused 20 at 0 0 5 4"

@@ -536,6 +536,77 @@ static void papers_with(void) {
     EXPECT(listochur_log_lines_with(paper, size, map, 260, 5, 0, log, 18, NULL, 0, NULL, 0) == 0);
 }
 
+/* `4d` and so many bytes, `head` bytes before them; the length of all */
+static size_t pushing(uint8_t *bytes, size_t head, size_t size) {
+    bytes[head] = 0x4d;
+    bytes[head + 1] = (uint8_t)size;
+    bytes[head + 2] = (uint8_t)(size >> 8);
+    memset(bytes + head + 3, 0xab, size);
+    return head + 3 + size;
+}
+
+/* 520 bytes pass in both modes, 521 in the plain one alone and where no run comes; ahead of the test for room. */
+static void examined(void) {
+    static const uint32_t modes[] = {LISTOCHUR_EXAMINED, 2, 256, 65536, UINT32_MAX};
+    uint8_t fragment[700], paper[700], text[1024];
+    uint64_t out[10], items[4];
+    uint16_t log[6];
+    const uint64_t accepted[] = {0, 0, 0, 0, 1, 1, 1, 1, 0}, refused[] = {30, 0, 521, 520, 1, 0, 0, 0, 0};
+    size_t size = pushing(fragment, 0, LISTOCHUR_ELEMENT);
+    for (uint32_t mode = LISTOCHUR_PLAIN; mode <= LISTOCHUR_EXAMINED; mode++) {
+        lend(out);
+        EXPECT(listochur_analyze_with(fragment, size, 0, 0, map, 260, 1, mode, log, 6, NULL, 0, out, 10) == 0);
+        EXPECT(holds(out, accepted, 9));
+    }
+    size = pushing(fragment, 0, LISTOCHUR_ELEMENT + 1);
+    lend(out);
+    EXPECT(listochur_analyze_with(fragment, size, 0, 0, map, 260, 1, LISTOCHUR_PLAIN, log, 6, NULL, 0, out, 10) == 0);
+    EXPECT(holds(out, accepted, 9));
+    /* any mode but 0 is the examined one */
+    for (size_t k = 0; k < sizeof modes / sizeof *modes; k++) {
+        for (int j = 0; j < 4; j++) items[j] = 7;
+        memset(log, 0xff, sizeof log);
+        lend(out);
+        EXPECT(listochur_analyze_with(fragment, size, 0, 0, map, 260, 1, modes[k], log, 6, items, 4, out, 10) == 30);
+        EXPECT(holds(out, refused, 9) && listed(items, NULL, 0, 4));
+        EXPECT(log[0] == 0 && log[1] == 0 && log[2] == 0 && log[3] == 65535);
+    }
+    /* no room for one more */
+    lend(out);
+    EXPECT(listochur_analyze_with(fragment, size, 1, 0, map, 260, 1, LISTOCHUR_EXAMINED, log, 6, NULL, 0, out, 10) == 30);
+    EXPECT(holds(out, refused, 9));
+    EXPECT(listochur_analyze_with(fragment, size, 1, 0, map, 260, 1, LISTOCHUR_PLAIN, log, 6, NULL, 0, out, 10) == 6);
+    EXPECT(listochur_analyze_with(fragment, size, 2, 0, map, 260, 1, LISTOCHUR_EXAMINED, log, 6, NULL, 0, out, 10) == 2);
+    EXPECT(listochur_analyze_with(fragment, size, 0, 0, map, 260, 0, LISTOCHUR_EXAMINED, log, 6, NULL, 0, out, 10) == 29);
+    EXPECT(listochur_analyze_with(fragment, size, 0, 0, map, 259, 1, LISTOCHUR_EXAMINED, log, 6, NULL, 0, out, 10) == 28);
+    /* behind a RETURN */
+    fragment[0] = 0x6a;
+    size = pushing(fragment, 1, LISTOCHUR_ELEMENT + 1);
+    lend(out);
+    EXPECT(listochur_analyze_with(fragment, size, 0, 0, map, 260, 1, LISTOCHUR_EXAMINED, log, 6, NULL, 0, out, 10) == 0);
+    EXPECT(holds(out, (const uint64_t[]){0, 0, 0, 0, 2, 0, 0, 0, 0}, 9));
+    /* a paper of one body, its lines and its log */
+    const uint8_t header[] = {1, 0, 0, 0, 14, 0, 0, 0, 0, 0, 14, 0, 0x0c, 0x02};
+    const char *last = "refused 30 at 0 0 521 520\n";
+    const size_t length = strlen(last);
+    memcpy(paper, header, sizeof header);
+    size = pushing(paper, sizeof header, LISTOCHUR_ELEMENT + 1);
+    lend(out);
+    EXPECT(listochur_mark_paper_with(paper, size, map, 260, 3, LISTOCHUR_EXAMINED, log, 6, out, 10) == 30);
+    EXPECT(holds(out, (const uint64_t[]){30, 0, 0, 521, 520, 1, 0}, 7));
+    EXPECT(listochur_mark_lines_with(paper, size, map, 260, 3, LISTOCHUR_EXAMINED, log, 6, text, sizeof text, out, 1) == 30);
+    EXPECT(out[0] == length && memcmp(text, last, length) == 0);
+    EXPECT(listochur_log_lines_with(paper, size, map, 260, 3, LISTOCHUR_EXAMINED, log, 6, text, sizeof text, out, 1) == 30);
+    EXPECT(out[0] > length && memcmp(text + out[0] - length, last, length) == 0);
+    EXPECT(listochur_mark_paper_with(paper, size, map, 260, 3, LISTOCHUR_PLAIN, log, 6, NULL, 0) == 0);
+    EXPECT(listochur_mark_lines_with(paper, size, map, 260, 3, LISTOCHUR_PLAIN, log, 6, NULL, 0, NULL, 0) == 0);
+    EXPECT(listochur_log_lines_with(paper, size, map, 260, 3, LISTOCHUR_PLAIN, log, 6, NULL, 0, NULL, 0) == 0);
+    /* the greatest number in use, in words */
+    const char *words = "long element: length 521, limit 520";
+    EXPECT(listochur_reason(30, 521, 520, text, sizeof text, out, 1) == 30);
+    EXPECT(out[0] == strlen(words) && memcmp(text, words, out[0]) == 0 && LISTOCHUR_NUMBERS == 31);
+}
+
 int main(void) {
     analyse();
     analyse_items();
@@ -553,5 +624,6 @@ int main(void) {
     other_maps();
     bad_maps_and_limits();
     papers_with();
+    examined();
     return failures != 0;
 }

@@ -143,7 +143,8 @@ impl Words<'_> {
         self.wrong(format!("{word} is named twice, and standard input can be read once"))
     }
 
-    /// The map and the limit that are named; where what follows is read from standard input, named by this word, the map is not.
+    /// The map, the limit and the mode that are named; where what follows is read from standard input, named by this word, the map
+    /// is not.
     fn rules(&self, input: Option<&str>) -> Result<Named, Stop> {
         let map = self.value("--map").map(Source::new);
         if map == Some(Source::Input)
@@ -152,7 +153,7 @@ impl Words<'_> {
             return Err(self.wrong(format!("--map - and {word} are both standard input, which can be read once")));
         }
         let limit = self.value("--limit").map(|word| self.number("the limit", word, listochur::LIMIT.into())).transpose()?;
-        Ok(Named { map, limit })
+        Ok(Named { map, limit, examined: self.has("--examined") })
     }
 
     /// A decimal number of this width, digits alone.
@@ -171,8 +172,8 @@ impl Words<'_> {
 
 fn sub_command(usage: &'static Usage, words: &[OsString]) -> Result<Command, Stop> {
     let known: &[Known] = match usage.name {
-        "mark" => &[("--csv", false), ("--json", false), ("--map", true), ("--limit", true)],
-        "log" | "fragment" => &[("--map", true), ("--limit", true)],
+        "mark" => &[("--csv", false), ("--json", false), ("--map", true), ("--limit", true), ("--examined", false)],
+        "log" | "fragment" => &[("--map", true), ("--limit", true), ("--examined", false)],
         "paper" => &[("--fields", true), ("--init", true)],
         "asm" => &[("--hex", false)],
         _ => &[],
@@ -331,13 +332,16 @@ mod tests {
     #[test]
     fn maps_and_limits() {
         let file = |name: &str| Some(Source::File(name.into()));
-        let mark = |map, limit| Command::Mark { form: Form::Lines, rules: Named { map, limit }, papers: words(&["a"]) };
+        let mark = |map, limit| {
+            let rules = Named { map, limit, examined: false };
+            Command::Mark { form: Form::Lines, rules, papers: words(&["a"]) }
+        };
         assert_eq!(parsed(&["mark", "--map", "m", "a"]), mark(file("m"), None));
         assert_eq!(parsed(&["mark", "a", "--limit", "5"]), mark(None, Some(5)));
         assert_eq!(parsed(&["mark", "--limit", "0", "--map", "-", "a"]), mark(Some(Source::Input), Some(0)));
         // what is outside 1 to 244 is judged later
         assert_eq!(parsed(&["mark", "--limit", "4294967295", "a"]), mark(None, Some(u32::MAX)));
-        let rules = || Named { map: file("m"), limit: Some(244) };
+        let rules = || Named { map: file("m"), limit: Some(244), examined: false };
         assert_eq!(
             parsed(&["mark", "--json", "--map", "m", "--limit", "244", "-"]),
             Command::Mark { form: Form::Json, rules: rules(), papers: words(&["-"]) }
@@ -358,6 +362,25 @@ mod tests {
         assert!(parse(&words(&["fragment", "--map", "-", "0", "0", "-"])).is_ok());
         assert!(wrong(&["mark", "--limit", "4294967296", "a"]).0.contains("the limit is at most 244, and 4294967296 is more"));
         assert!(wrong(&["mark", "--limit", "-5", "a"]).0.contains("the limit is a decimal number, and '-5' is none"));
+    }
+
+    #[test]
+    fn the_examined_mode() {
+        let examined = || Named { examined: true, ..Named::default() };
+        let mark = |form, rules| Command::Mark { form, rules, papers: words(&["a"]) };
+        assert_eq!(parsed(&["mark", "--examined", "a"]), mark(Form::Lines, examined()));
+        assert_eq!(parsed(&["mark", "--csv", "a", "--examined"]), mark(Form::Csv, examined()));
+        let limited = Named { limit: Some(5), ..examined() };
+        assert_eq!(parsed(&["mark", "--limit", "5", "--examined", "a"]), mark(Form::Lines, limited));
+        assert_eq!(parsed(&["log", "--examined", "-"]), Command::Log { rules: examined(), paper: "-".into() });
+        let bytes = Bytes::Given(vec![0x51]);
+        assert_eq!(
+            parsed(&["fragment", "1", "--examined", "0", "51"]),
+            Command::Fragment { rules: examined(), main: 1, alt: 0, bytes }
+        );
+        // behind -- it is a paper
+        let papers = words(&["--examined"]);
+        assert_eq!(parsed(&["mark", "--", "--examined"]), Command::Mark { form: Form::Lines, rules: Named::default(), papers });
     }
 
     #[test]
@@ -392,6 +415,11 @@ mod tests {
             &["log"],
             &["log", "a", "b"],
             &["log", "--csv", "a"],
+            &["mark", "--examined"],
+            &["mark", "--examined", "--examined", "a"],
+            &["mark", "--examine", "a"],
+            &["limits", "--examined", "51"],
+            &["compare", "--examined", "a"],
             &["mark", "--map"],
             &["mark", "--map", "m"],
             &["mark", "--map", "m", "--map", "m", "a"],

@@ -186,6 +186,12 @@ pub const MEANINGS: [Meaning; listochur::NUMBERS] = [
         "listochur fragment --limit 245 0 0 51 2>&1",
         "listochur: --limit 245: bad limit (29): a limit is 1 to 244",
     ),
+    meaning(
+        "examined mode: a run may come to a push of a literal above 520 bytes",
+        "its length, 520",
+        "{ printf 'M\\t\\2'; head -c 521 /dev/zero; } | listochur fragment --examined 0 0 @-",
+        "refused 30 at offset 0, long element: length 521, limit 520",
+    ),
 ];
 
 /// Said where no bytes get the number from this command.

@@ -17,8 +17,8 @@ const LOG: usize = 24_000;
 /// No log is lent for more bytes than this: a longer paper is refused for its length, whatever it is lent.
 const LOGGED: usize = 1 << 20;
 
-/// The proved functions with the map and the limit that they are lent, if any are, and the log and the text, which serve paper
-/// after paper.
+/// The proved functions with the map, the limit and the mode that they are lent, if any are, and the log and the text, which serve
+/// paper after paper.
 pub struct Marker {
     rules: Option<Rules>,
     log: Vec<u16>,
@@ -31,7 +31,7 @@ impl Default for Marker {
     }
 }
 
-/// A function that writes a text of a paper, and the same by a map and a limit.
+/// A function that writes a text of a paper, and the same by a map, a limit and a mode.
 type Write = fn(&[u8], &mut [u16], &mut [u8]) -> Lines;
 type WriteWith = fn(&[u8], &[u8], Options, &mut [u16], &mut [u8]) -> Lines;
 
@@ -203,7 +203,7 @@ mod tests {
 
     /// The built-in map and this limit, or none of both.
     fn rules(limit: Option<u32>) -> Option<Rules> {
-        Named { map: None, limit }.read().unwrap()
+        Named { limit, ..Named::default() }.read().unwrap()
     }
 
     #[test]
@@ -216,6 +216,21 @@ mod tests {
         assert!(rules(None).is_none());
         let mut marker = Marker::by(rules(Some(5)));
         assert_eq!((marker.verdict(&SAMPLE).number, marker.verdict(&SAMPLE).peak), (0, 2));
+    }
+
+    /// 521 bytes pushed, in both modes.
+    #[test]
+    fn examined() {
+        let long = [&[1, 0, 0, 0, 0x0e, 0, 0, 0, 0, 0, 0x0e, 0, 0x0c, 0x02, 0x4d, 0x09, 0x02][..], &[7; 521]].concat();
+        let rules = Named { examined: true, ..Named::default() }.read().unwrap();
+        let mut marker = Marker::by(rules);
+        assert_eq!(marker.lines(&long), (30, &b"refused 30 at 0 0 521 520\n"[..]));
+        let verdict = marker.verdict(&long);
+        assert_eq!((verdict.number, verdict.first, verdict.second), (30, 521, 520));
+        assert_eq!(marker.log(&long).0, 30);
+        assert_eq!(marker.lines(&SAMPLE), Marker::default().lines(&SAMPLE));
+        assert_eq!(Marker::default().lines(&long), (0, &b"entry 0 peak 1 end 1 0\naccepted\n"[..]));
+        assert_eq!(Marker::by(self::rules(Some(3))).verdict(&long).number, 0);
     }
 
     #[test]

@@ -1,7 +1,8 @@
-//! `--map` and `--limit`: the map and the limit that papers are marked by (request L6), and `map`, which writes the built-in one.
+//! `--map`, `--limit` and `--examined`: the map, the limit (request L6) and the mode (request L7) that papers are marked by; and
+//! `map`, which writes the built-in map.
 //!
-//! The map is read once. The proved function judges both, on an empty fragment, before anything is marked; what is wrong is looked
-//! for here only after it has said 28 or 29, and only to be said in words.
+//! The map is read once. The proved function judges map and limit, on an empty fragment, before anything is marked; what is wrong is
+//! looked for here only after it has said 28 or 29, and only to be said in words.
 use listochur::Options;
 
 use crate::marking::reason;
@@ -15,9 +16,10 @@ use crate::{Status, Stop};
 pub struct Named {
     pub map: Option<Source>,
     pub limit: Option<u32>,
+    pub examined: bool,
 }
 
-/// A map and a limit that the proved function has judged to be good.
+/// A map and a limit that the proved function has judged to be good, and a mode.
 #[derive(Debug)]
 pub struct Rules {
     pub map: Vec<u8>,
@@ -25,17 +27,18 @@ pub struct Rules {
 }
 
 impl Named {
-    /// Reads the map, and has both judged. `None` where neither is named: then the functions without them are called.
+    /// Reads the map, and has it and the limit judged. `None` where nothing is named: then the functions without them are called.
     pub fn read(self) -> Result<Option<Rules>, Stop> {
-        let Self { map: source, limit } = self;
-        if source.is_none() && limit.is_none() {
+        if self == Self::default() {
             return Ok(None);
         }
+        let Self { map: source, limit, examined } = self;
         let map = match &source {
             Some(source) => papers::read(source).map_err(|error| Stop::Failed(source.unread(&error)))?,
             None => listochur::built_in_map().into(),
         };
-        let options = limit.map_or_else(Options::built_in, Options::limited);
+        let plain = limit.map_or_else(Options::built_in, Options::limited);
+        let options = if examined { plain.examined() } else { plain };
         let number = listochur::analyze_with(&[], 0, 0, &map, options, &mut []).0.number;
         let (what, why) = match number {
             0 => return Ok(Some(Rules { map, options })),

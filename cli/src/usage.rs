@@ -12,18 +12,19 @@ pub struct Usage {
 
 pub static MARK: Usage = Usage {
     name: "mark",
-    line: "listochur mark [--csv | --json] [--map FILE] [--limit N] PAPER..",
+    line: "listochur mark [--csv | --json] [--map FILE] [--limit N] [--examined] PAPER..",
     about: "\
 Marks papers. Of one paper the lines are those of document 01: a line for each fragment that is accepted, then
 `accepted` or `refused N at K O A B`. Of several, or of a folder, each line begins with the paper's name and `: `,
 and a summary stands at the end.
 
-  PAPER     a file, - for standard input, or a folder: every file in it, in the order of their names
-  --csv     a record for each paper in its stead, comma-separated, under a line of column names
-  --json    the same as a JSON array, a paper to a line
-  --map     marks by the opcode map in FILE, or on standard input for -, in place of the built-in one (`help map`)
-  --limit   lets both stacks hold N items together, 1 to 244, in place of 244
-  --        what follows are papers, whatever they begin with
+  PAPER       a file, - for standard input, or a folder: every file in it, in the order of their names
+  --csv       a record for each paper in its stead, comma-separated, under a line of column names
+  --json      the same as a JSON array, a paper to a line
+  --map       marks by the opcode map in FILE, or on standard input for -, in place of the built-in one (`help map`)
+  --limit     lets both stacks hold N items together, 1 to 244, in place of 244
+  --examined  refuses a literal above 520 bytes, 30, where a run may push it, as the course's engine stops there
+  --          what follows are papers, whatever they begin with
 
 In a name a backslash is shown as \\\\, a newline as \\n, a byte that is no UTF-8 as \\xNN. With --csv and --json the
 summary goes to standard error. A paper that cannot be read is said there and gets no verdict and no record. Over 200
@@ -37,21 +38,23 @@ where the map or the limit is bad.
         "listochur mark room1 room2 late.paper",
         "listochur mark --csv room1 >register.csv",
         "listochur mark --map next.map --limit 100 room1",
+        "listochur mark --examined room1",
         "head -c 100 draft.paper | listochur mark -",
     ],
 };
 
 pub static LOG: Usage = Usage {
     name: "log",
-    line: "listochur log [--map FILE] [--limit N] PAPER",
+    line: "listochur log [--map FILE] [--limit N] [--examined] PAPER",
     about: "\
 Prints the log of one paper as a person reads it: a line for each instruction with the heights before it, its bytes,
 and the instruction as a listing writes it (`list`); and the verdict in words. The words of the instructions are those
 of the built-in map, also where another is lent.
 
-  PAPER     a file, or - for standard input
-  --map     marks by the opcode map in FILE, or on standard input for -, in place of the built-in one (`help map`)
-  --limit   lets both stacks hold N items together, 1 to 244, in place of 244
+  PAPER       a file, or - for standard input
+  --map       marks by the opcode map in FILE, or on standard input for -, in place of the built-in one (`help map`)
+  --limit     lets both stacks hold N items together, 1 to 244, in place of 244
+  --examined  refuses a literal above 520 bytes, 30, where a run may push it, as the course's engine stops there
 
 Status 0: accepted. 1: refused. 2: the paper could not be read, the map or the limit is bad, or a write failed.
 ",
@@ -60,15 +63,16 @@ Status 0: accepted. 1: refused. 2: the paper could not be read, the map or the l
 
 pub static FRAGMENT: Usage = Usage {
     name: "fragment",
-    line: "listochur fragment [--map FILE] [--limit N] MAIN ALT BYTES",
+    line: "listochur fragment [--map FILE] [--limit N] [--examined] MAIN ALT BYTES",
     about: "\
 Analyses a fragment from so many unknown items on main and alt: the verdict, the items that it ends with, from the
 bottom up, and a line of the log for each instruction met: its offset, the heights before it, its bytes, and the
 instruction as a listing writes it (`list`), also where another map than the built-in one is lent.
 
-  BYTES     hexadecimal digits, - for none, @FILE for the bytes of a file, @- for those of standard input
-  --map     analyses by the opcode map in FILE, or on standard input for -, in place of the built-in one (`help map`)
-  --limit   lets both stacks hold N items together, 1 to 244, in place of 244
+  BYTES       hexadecimal digits, - for none, @FILE for the bytes of a file, @- for those of standard input
+  --map       analyses by the opcode map in FILE, or on standard input for -, in place of the built-in one (`help map`)
+  --limit     lets both stacks hold N items together, 1 to 244, in place of 244
+  --examined  refuses a literal above 520 bytes, 30, where a run may push it, as the course's engine stops there
 
 Status 0: accepted. 1: refused. 2: bad words, a file that could not be read, a map or a limit that is bad, or a write
 that failed.
@@ -278,7 +282,7 @@ PAPER is a file, - for standard input, or, for mark and compare, a folder: every
 names. REGISTER is a file that mark --csv wrote, or - for standard input. BYTES are hexadecimal digits, - for none,
 @FILE for the bytes of a file, @- for those of standard input. LISTING is the words of a listing, @FILE for those of a
 file, - for standard input. --map and --limit have papers marked by another opcode map than the built-in one, and with
-fewer items on both stacks than 244.
+fewer items on both stacks than 244; --examined has them refused for a literal above 520 bytes.
 
 Exit status: 0 all accepted, assembled, listed or equal; 1 some refused, or different; 2 bad usage, a bad map or limit,
 something that cannot be read, a write that failed. 2 goes before 1, and the other papers are marked all the same.

@@ -1,4 +1,4 @@
-//! `--map` and `--limit` of `mark`, `log` and `fragment` (request L6), and `map`.
+//! `--map` and `--limit` of `mark`, `log` and `fragment` (request L6), `--examined` of the same (request L7), and `map`.
 mod common;
 
 use std::fs;
@@ -348,11 +348,112 @@ fn the_help_has_every_class() {
     assert!(help.contains("0 unmodelled"));
 }
 
+/// A push of so many bytes.
+fn pushed(size: u16) -> Vec<u8> {
+    [&[0x4d][..], &size.to_le_bytes(), &vec![0xab; size.into()]].concat()
+}
+
+/// 520 bytes pass and 521 do not, in live code alone, and only where `--examined` is given.
+#[test]
+fn papers_in_examined_mode() {
+    let folder = folder();
+    folder.file("fits", &paper(0, 0, &pushed(520)));
+    folder.file("long", &paper(0, 0, &pushed(521)));
+    folder.file("later", &paper(0, 1, &[&[0x75], &pushed(520)[..], &[0x75], &pushed(600)].concat()));
+    folder.file("dead", &paper(0, 0, &[&[0x51, 0x6a], &pushed(521)[..]].concat()));
+    let one = "entry 0 peak 1 end 1 0\naccepted\n";
+    for (name, plain, examined) in [
+        ("fits", one, one),
+        ("long", one, "refused 30 at 0 0 521 520\n"),
+        ("later", one, "refused 30 at 0 525 600 520\n"),
+        ("dead", "entry 0 peak 1 end none\naccepted\n", "entry 0 peak 1 end none\naccepted\n"),
+        ("good", SAMPLE_LINES, SAMPLE_LINES),
+    ] {
+        let status = i32::from(examined.starts_with("refused"));
+        folder.run(&["mark", name]).gives(0, plain);
+        folder.run(&["mark", "--limit", "244", "--map", "own", name]).gives(0, plain);
+        folder.run(&["mark", "--examined", name]).gives(status, examined);
+        folder.run(&["mark", name, "--map", "own", "--examined", "--limit", "244"]).gives(status, examined);
+    }
+    folder.shell("listochur mark --examined - <long").gives(1, "refused 30 at 0 0 521 520\n");
+    // 20 and 6 of an earlier instruction come first, 30 ahead of 6 at the push itself
+    folder.run(&["mark", "--examined", "--limit", "2", "long"]).gives(1, "refused 20 at 0 0 3 2\n");
+    folder.file("full", &paper(0, 0, &[&[0x51, 0x6f, 0x51], &pushed(521)[..]].concat()));
+    folder.run(&["mark", "--examined", "full"]).gives(1, "refused 7 at 0 1 3 1\n");
+    folder.file("full", &paper(0, 0, &[&[0x51; 3], &pushed(521)[..]].concat()));
+    folder.run(&["mark", "--limit", "3", "full"]).gives(1, "refused 6 at 0 3 4 3\n");
+    folder.run(&["mark", "--limit", "3", "--examined", "full"]).gives(1, "refused 30 at 0 3 521 520\n");
+    folder.file("full", &paper(0, 0, &[&[0x51; 4], &pushed(521)[..]].concat()));
+    folder.run(&["mark", "--limit", "3", "--examined", "full"]).gives(1, "refused 6 at 0 3 4 3\n");
+    // a bad map and a bad limit are said all the same
+    folder.run(&["mark", "--examined", "--limit", "0", "long"]).fails("", &["--limit 0: bad limit (29)"]);
+    folder.run(&["mark", "--examined", "--map", "long", "long"]).fails("", &["long: bad map (28)"]);
+    folder.run(&["mark", "--examined"]).fails("", &["no paper is named", "usage: listochur mark"]);
+    folder.run(&["compare", "--examined", "good"]).fails("", &["there is no option '--examined'", "usage: listochur compare"]);
+}
+
+#[test]
+fn registers_logs_and_fragments_in_examined_mode() {
+    let folder = folder();
+    folder.file("long", &paper(0, 0, &pushed(521)));
+    let ran = folder.run(&["mark", "--csv", "--examined", "good", "long"]);
+    assert_eq!(
+        (ran.status, ran.out(), ran.err.as_str()),
+        (
+            Some(1),
+            "name,number,word,entry,offset,first,second,rows,peak,fragments\n\
+             good,0,accepted,0,0,0,0,6,2,entry 0 peak 2 end 1 0\nlong,30,long element,0,0,521,520,1,0,\n",
+            "listochur: papers 2, accepted 1, refused 1 (1 with 30), rows 7, greatest peak 2\n"
+        )
+    );
+    folder
+        .run_on(&["sums", "-"], &ran.out)
+        .gives(0, "1 with 0, accepted\n1 with 30, long element\npeaks of the accepted: sum 2, count 1\n");
+    let ran = folder.run(&["log", "--examined", "long"]);
+    assert_eq!((ran.status, ran.err.as_str()), (Some(1), ""));
+    assert!(ran.out().contains("^ refused 30, long element: length 521, limit 520\n"), "{ran:?}");
+    assert!(ran.out().ends_with("\nrefused 30 at 0 0 521 520\n"), "{ran:?}");
+    assert_eq!(folder.run(&["log", "long"]).status, Some(0));
+    let plain = folder.run(&["log", "good"]);
+    folder.run(&["log", "--examined", "good"]).gives(0, plain.out());
+    folder.run_on(&["fragment", "--examined", "1", "0", "@-", "--limit", "1"], &pushed(521)).gives(
+        1,
+        "refused 30 at offset 0, long element: length 521, limit 520\n\
+         offset  main   alt  bytes                       instruction\n\
+         \x20    0     1     0  4d 09 02 ab ab ab ab ab ..  <abababababab..>\n",
+    );
+    let ran = folder.run_on(&["fragment", "1", "0", "@-", "--limit", "1"], &pushed(521));
+    assert!(ran.out().starts_with("refused 6 at offset 0, stacks full: total wanted 2, limit 1\n"), "{ran:?}");
+    let plain = folder.run_on(&["fragment", "0", "0", "@-"], &pushed(520));
+    assert_eq!(plain.status, Some(0));
+    folder.run_on(&["fragment", "--examined", "0", "0", "@-"], &pushed(520)).gives(0, plain.out());
+}
+
+/// The help says it where the option is taken.
+#[test]
+fn the_help_has_the_examined_mode() {
+    let folder = Folder::new();
+    for usage in command::usage::ALL {
+        let taken = ["mark", "log", "fragment"].contains(&usage.name);
+        assert_eq!(usage.line.contains("[--examined]"), taken, "{}", usage.name);
+        let help = folder.run(&["help", usage.name]);
+        assert_eq!(help.out().contains("--examined  refuses a literal above 520 bytes, 30"), taken, "{}", usage.name);
+    }
+    assert!(folder.run(&["help"]).out().contains("--examined has them refused for a literal above 520 bytes"));
+}
+
 /// What the README shows of it.
 #[test]
 fn the_readme_shows_it() {
     let readme = fs::read_to_string(format!("{}/README.md", common::ROOT)).unwrap();
-    for line in ["./listochur map >next.map", "./mark --map next.map room1", "./mark --limit 100 room1"] {
+    for line in [
+        "./listochur map >next.map",
+        "./mark --map next.map room1",
+        "./mark --limit 100 room1",
+        "./mark --examined room1",
+        "refused 30 at 0 0 521 520",
+        "30 is the greatest number in use.",
+    ] {
         assert!(readme.contains(line), "{line}");
     }
     for said in [

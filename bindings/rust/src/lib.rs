@@ -1,5 +1,6 @@
 //! A proved stack marker for Kaspa script: analyse a fragment, check limits, mark a paper, display, print, say why in words, keep
-//! a tally, sum up a sitting, assemble and list; and mark by an opcode map and a stack limit of the caller's own.
+//! a tally, sum up a sitting, assemble and list; and mark by an opcode map and a stack limit of the caller's own, in plain or in
+//! examined mode.
 //!
 //! The functions hand their slices and numbers to the proved ones of the crate `export` and read the numbers that come
 //! back. They test nothing. A fragment that is too long, heights over the limit, a short log, a bad header, a bad map or a mark
@@ -181,7 +182,7 @@ pub const LINES_BYTES: usize = 4_096;
 pub const REASON_BYTES: usize = 80;
 
 /// How many verdict numbers are in use, from 0 on.
-pub const NUMBERS: usize = 30;
+pub const NUMBERS: usize = 31;
 
 /// How many bytes the built-in map has.
 pub const MAP_BYTES: usize = 260;
@@ -620,28 +621,43 @@ pub fn list(fragment: &[u8], text: &mut [u8]) -> Converted {
     Converted { number, offset: offset as usize, size: size as usize }
 }
 
-/// What is lent beside a map. It is made by [`Options::built_in`] or [`Options::limited`]: a later request adds a field.
+/// What is lent beside a map. It is made by [`Options::built_in`] or [`Options::limited`], both of plain mode, and
+/// [`Options::examined`]: a later request may add a field.
+///
+/// ```
+/// use listochur::Options;
+///
+/// assert!(!Options::built_in().examined && Options::built_in().examined().examined);
+/// assert_eq!(Options::limited(5).examined().limit, 5);
+/// ```
 #[derive(Clone, Copy, Debug, PartialEq, Eq)]
 #[non_exhaustive]
 pub struct Options {
     /// The stack limit, 1 to 244; another one is refused, 29. It stands for 244 everywhere, in figures too.
     pub limit: u32,
+    /// The examined mode: a literal above 520 bytes that a run may push is refused, 30. The plain mode takes literals of any length.
+    pub examined: bool,
 }
 
 impl Options {
-    /// The built-in limit of 244.
+    /// The built-in limit of 244 in plain mode.
     pub const fn built_in() -> Self {
         Self::limited(LIMIT)
     }
 
-    /// This limit, and the rest as it is built in.
+    /// This limit in plain mode.
     pub const fn limited(limit: u32) -> Self {
-        Self { limit }
+        Self { limit, examined: false }
     }
 
-    /// The callee's `mode`, which it does not read yet.
+    /// The same in examined mode.
+    pub const fn examined(self) -> Self {
+        Self { examined: true, ..self }
+    }
+
+    /// The callee's `mode`: 0 is plain, any other examined.
     const fn mode(self) -> u32 {
-        0
+        self.examined as u32
     }
 }
 
@@ -676,7 +692,7 @@ pub fn built_in_map() -> [u8; MAP_BYTES] {
     bytes
 }
 
-/// The same as [`analyze_items`], by a lent map and limit.
+/// The same as [`analyze_items`], by a lent map, limit and mode.
 ///
 /// Tests nothing: a bad map (28) and then a bad limit (29) are the callee's to refuse, before all else.
 ///
@@ -692,6 +708,12 @@ pub fn built_in_map() -> [u8; MAP_BYTES] {
 /// assert_eq!((v.number, v.peak, end.main().len()), (0, 2, 1));
 /// assert_eq!(analyze_with(&fragment, 2, 0, &map, Options::limited(1), &mut [0; 15]).0.number, 2);
 /// assert_eq!(analyze_with(&fragment, 2, 0, &map[..259], Options::built_in(), &mut [0; 15]).0.number, 28);
+///
+/// // 521 bytes
+/// let long = [&[0x4d, 0x09, 0x02][..], &[7; 521]].concat();
+/// let v = analyze_with(&long, 0, 0, &built_in_map(), Options::built_in().examined(), &mut [0; 3]).0;
+/// assert_eq!((v.number, v.offset, v.first, v.second), (30, 0, 521, 520));
+/// assert_eq!(analyze_with(&long, 0, 0, &built_in_map(), Options::built_in(), &mut [0; 3]).0.number, 0);
 /// ```
 pub fn analyze_with(fragment: &[u8], main: u32, alt: u32, map: &[u8], options: Options, log: &mut [u16]) -> (Verdict, EndStacks) {
     let mut out = [0; 9];
@@ -719,7 +741,7 @@ pub fn analyze_with(fragment: &[u8], main: u32, alt: u32, map: &[u8], options: O
     ended(number, out, &numbers)
 }
 
-/// The same as [`mark_paper`], by a lent map and limit.
+/// The same as [`mark_paper`], by a lent map, limit and mode.
 ///
 /// Tests nothing: a bad map (28) and then a bad limit (29) are the callee's to refuse, before all else.
 pub fn mark_paper_with(paper: &[u8], map: &[u8], options: Options, log: &mut [u16]) -> PaperVerdict {
@@ -742,7 +764,7 @@ pub fn mark_paper_with(paper: &[u8], map: &[u8], options: Options, log: &mut [u1
     paper_verdict(number, out)
 }
 
-/// The same as [`mark_lines`], by a lent map and limit.
+/// The same as [`mark_lines`], by a lent map, limit and mode.
 ///
 /// Tests nothing: a bad map (28) and then a bad limit (29) are the callee's to refuse, before all else; the lines then say so.
 pub fn mark_lines_with(paper: &[u8], map: &[u8], options: Options, log: &mut [u16], text: &mut [u8]) -> Lines {
@@ -750,7 +772,7 @@ pub fn mark_lines_with(paper: &[u8], map: &[u8], options: Options, log: &mut [u1
     unsafe { lines_with(callee::listochur_mark_lines_with, paper, map, options, log, text) }
 }
 
-/// A function that puts a text of a paper into lent bytes, by a lent map and limit.
+/// A function that puts a text of a paper into lent bytes, by a lent map, limit and mode.
 type TextWith =
     unsafe extern "C" fn(*const u8, usize, *const u8, usize, u32, u32, *mut u16, usize, *mut u8, usize, *mut u64, usize) -> u32;
 
@@ -781,7 +803,7 @@ unsafe fn lines_with(call: TextWith, paper: &[u8], map: &[u8], options: Options,
     Lines { number, size: size as usize }
 }
 
-/// The same as [`log_lines`], by a lent map and limit. The words of the instructions are those of the built-in map; which of them
+/// The same as [`log_lines`], by a lent map, limit and mode. The words of the instructions are those of the built-in map; which of them
 /// open and close a conditional goes by the lent one.
 ///
 /// Tests nothing: a bad map (28) and then a bad limit (29) are the callee's to refuse, before all else; the lines then say so.

@@ -327,6 +327,7 @@ fn reasons() {
         "output short",
         "bad map",
         "bad limit",
+        "long element: length 18, limit 5",
     ];
     assert_eq!(words.len(), NUMBERS);
     for (number, expected) in (0..).zip(words) {
@@ -518,6 +519,8 @@ fn options() {
     assert_eq!(Options::default(), Options::built_in());
     assert_eq!(Options::limited(244), Options::built_in());
     assert_eq!(Options::limited(5).limit, 5);
+    assert!(!Options::built_in().examined && !Options::limited(5).examined);
+    assert_eq!((Options::limited(5).examined().limit, Options::limited(5).examined().examined), (5, true));
 }
 
 /// By the built-in map at 244 each function answers as the one without them, log and items included.
@@ -738,6 +741,125 @@ accepted
     let lines = log_lines_with(&paper, &map, Options::limited(5), &mut log, &mut text);
     assert_eq!((lines.number, String::from_utf8_lossy(&text[..lines.size])), (0, expected.into()));
     assert_eq!(log, [0, 2, 0, 1, 1, 0, 2, 0, 0, 3, 0, 0, 4, 1, 0]);
+}
+
+/// A push of so many bytes by this opcode.
+fn pushed(opcode: u8, size: usize) -> Vec<u8> {
+    let length = (size as u32).to_le_bytes();
+    let head: &[u8] = match opcode {
+        0x4c => &length[..1],
+        0x4d => &length[..2],
+        0x4e => &length,
+        _ => &[],
+    };
+    [&[opcode], head, &vec![0xab; size]].concat()
+}
+
+/// A fragment in both modes, by the built-in map at this limit: the two verdicts. Log and items are the same where they are.
+fn both_modes(fragment: &[u8], main: u32, limit: u32) -> [Verdict; 2] {
+    let map = built_in_map();
+    let mut logs = [[LENT; 30]; 2];
+    let plain = analyze_with(fragment, main, 0, &map, Options::limited(limit), &mut logs[0]);
+    let examined = analyze_with(fragment, main, 0, &map, Options::limited(limit).examined(), &mut logs[1]);
+    if plain.0 == examined.0 {
+        assert_eq!((plain.1, logs[0]), (examined.1, logs[1]));
+    }
+    // the rows that are written are the same as far as both have them
+    let rows = 3 * plain.0.rows.min(examined.0.rows);
+    assert_eq!(logs[0][..rows], logs[1][..rows]);
+    assert!(logs[1][3 * examined.0.rows..].iter().all(|&n| n == LENT));
+    [plain.0, examined.0]
+}
+
+/// Request L7: 520 bytes pass and 521 do not, in each form; data that is shorter is as it was.
+#[test]
+fn long_elements() {
+    for opcode in [0x4d, 0x4e] {
+        for size in [0, 8, 9, 75, 76, 255, 256, 519, 520] {
+            assert_eq!(both_modes(&pushed(opcode, size), 0, 244), [accepted(1, 1, 1, 0); 2], "{opcode:02x} {size}");
+        }
+        for size in [521, 522, 1_000, 8_192, 9_990] {
+            let refused = refused(30, 0, size as u64, 520, 1);
+            assert_eq!(both_modes(&pushed(opcode, size), 0, 244), [accepted(1, 1, 1, 0), refused], "{opcode:02x} {size}");
+        }
+    }
+    for (opcode, size) in [(0x4b, 75), (0x4c, 76), (0x4c, 255)] {
+        assert_eq!(both_modes(&pushed(opcode, size), 0, 244), [accepted(1, 1, 1, 0); 2], "{opcode:02x} {size}");
+    }
+    // results and start items of any length do not count: 521 zeros by NUM2BIN
+    assert_eq!(both_modes(&[0x00, 0x02, 0x09, 0x02, 0xd2], 3, 244), [accepted(3, 5, 4, 0); 2]);
+}
+
+/// In live code only, and the first that a run may come to.
+#[test]
+fn long_elements_where_no_run_comes() {
+    let long = pushed(0x4d, 521);
+    let dead_ones = [[&[0x6a], &long[..]].concat(), [&[0x51, 0x63, 0x6a], &long[..], &[0x68]].concat()];
+    assert_eq!(both_modes(&dead_ones[0], 0, 244), [dead(2, 0); 2]);
+    assert_eq!(both_modes(&dead_ones[1], 0, 244), [accepted(5, 1, 0, 0); 2]);
+    let armed = [&[0x51, 0x63, 0x51, 0x67], &long[..], &[0x68]].concat();
+    assert_eq!(both_modes(&armed, 0, 244), [accepted(6, 1, 1, 0), refused(30, 4, 521, 520, 5)]);
+    let second = [&pushed(0x4e, 520), &[0x75][..], &pushed(0x4e, 600), &long].concat();
+    assert_eq!(both_modes(&second, 0, 244), [accepted(4, 2, 2, 0), refused(30, 526, 600, 520, 3)]);
+}
+
+/// Ahead of the test for room at that push, and of nothing else.
+#[test]
+fn long_elements_and_room() {
+    let long = pushed(0x4d, 521);
+    assert_eq!(both_modes(&long, 1, 1), [refused(6, 0, 2, 1, 1), refused(30, 0, 521, 520, 1)]);
+    assert_eq!(both_modes(&long, 244, 244), [refused(6, 0, 245, 244, 1), refused(30, 0, 521, 520, 1)]);
+    assert_eq!(both_modes(&pushed(0x4d, 520), 1, 1), [refused(6, 0, 2, 1, 1); 2]);
+    assert_eq!(both_modes(&[&[0x51], &long[..]].concat(), 1, 1), [refused(6, 0, 2, 1, 1); 2]);
+    assert_eq!(both_modes(&[&[0x75], &long[..]].concat(), 0, 1), [refused(7, 0, 1, 0, 1); 2]);
+    assert_eq!(both_modes(&long, 2, 1), [refused(2, 0, 2, 1, 0); 2]);
+    assert_eq!(both_modes(&long[..523], 0, 1), [refused(3, 0, 0, 0, 0); 2]);
+    let map = built_in_map();
+    let options = Options::limited(1).examined();
+    assert_eq!(analyze_with(&long, 0, 0, &map, options, &mut [LENT; 2]).0, refused(4, 0, 3, 2, 0));
+    assert_eq!(analyze_with(&long, 0, 0, &map[..259], options, &mut [LENT; 3]).0, refused(28, 0, 0, 0, 0));
+    assert_eq!(analyze_with(&long, 0, 0, &map, Options::limited(245).examined(), &mut [LENT; 3]).0, refused(29, 0, 0, 0, 0));
+}
+
+/// Papers in both modes, with their lines and logs.
+#[test]
+fn long_elements_in_papers() {
+    let map = built_in_map();
+    let long = [&pushed(0x4d, 521)[..], &[0x75]].concat();
+    let examined = Options::built_in().examined();
+    for (body, init, entry) in [(&long[..], &[][..], 0), (&[0x75], &long[..], 1)] {
+        let paper = paper(0, 1, body, init);
+        let mut logs = [[LENT; 30]; 4];
+        assert_eq!(mark_paper_with(&paper, &map, Options::built_in(), &mut logs[0]).number, 0);
+        let verdict = mark_paper_with(&paper, &map, examined, &mut logs[1]);
+        let rows = entry + 1;
+        assert_eq!(verdict, PaperVerdict { number: 30, entry, offset: 0, first: 521, second: 520, rows, peak: 0 });
+        assert_eq!(logs[1][..3 * rows], logs[0][..3 * rows]);
+        assert!(logs[1][3 * rows..].iter().all(|&n| n == LENT));
+        let mut text = [b'#'; 4_000];
+        let wanted = format!("refused 30 at {entry} 0 521 520\n");
+        let lines = mark_lines_with(&paper, &map, examined, &mut logs[2], &mut text);
+        assert_eq!(lines.number, 30);
+        assert!(text[..lines.size].ends_with(wanted.as_bytes()));
+        assert_eq!(lines.size > wanted.len(), entry == 1);
+        let lines = log_lines_with(&paper, &map, examined, &mut logs[3], &mut text);
+        let told = String::from_utf8_lossy(&text[..lines.size]);
+        assert_eq!(lines.number, 30);
+        assert!(told.contains("^ refused 30, long element: length 521, limit 520\n") && told.ends_with(&wanted), "{told}");
+        assert_eq!((logs[2], logs[3]), (logs[1], logs[1]));
+        assert_eq!(mark_lines_with(&paper, &map, Options::built_in(), &mut logs[2], &mut text).number, 0);
+        assert_eq!(log_lines_with(&paper, &map, Options::built_in(), &mut logs[3], &mut text).number, 0);
+    }
+    // 520 bytes: everything as in plain mode
+    let fits = paper(1, 1, &pushed(0x4e, 520), &pushed(0x4d, 520));
+    let (mut one, mut other) = ([LENT; 30], [LENT; 30]);
+    let plain = mark_paper_with(&fits, &map, Options::limited(5), &mut one);
+    assert_eq!((plain.number, plain.peak), (0, 3));
+    assert_eq!(mark_paper_with(&fits, &map, Options::limited(5).examined(), &mut other), plain);
+    assert_eq!(one, other);
+    // 20 comes first
+    let wide = paper(0, 2, &long, &[]);
+    assert_eq!(mark_paper_with(&wide, &map, Options::limited(4).examined(), &mut one), refused_paper(20, 0, 5, 4, 0));
 }
 
 #[test]

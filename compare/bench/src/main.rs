@@ -176,8 +176,9 @@ fn fragments_row(name: &str, fragments: Vec<Vec<u8>>, main: u32, times: u32) -> 
     }
 }
 
-/// The corpus by a lent map: fragments with the items of their ends, in the built-in form and by the built-in map, and papers.
-fn map_rows(fragments: Vec<Vec<u8>>, times: u32) -> [Row; 3] {
+/// The corpus by a lent map: fragments with the items of their ends, in the built-in form and by the built-in map, and papers; and
+/// the fragments by that map in examined mode, which answers the same: the corpus has no literal above 520 bytes.
+fn map_rows(fragments: Vec<Vec<u8>>, times: u32) -> [Row; 4] {
     let bytes = fragments.iter().map(Vec::len).sum();
     let papers = papers(&fragments);
     let map = listochur::built_in_map();
@@ -186,6 +187,8 @@ fn map_rows(fragments: Vec<Vec<u8>>, times: u32) -> [Row; 3] {
         let (v, end) = listochur::analyze_with(f, 12, 0, &map, listochur::Options::built_in(), &mut log);
         let (w, other) = listochur::analyze_items(f, 12, 0, &mut log);
         assert_eq!((v, end), (w, other), "{f:02x?}");
+        let examined = listochur::Options::built_in().examined();
+        assert_eq!(listochur::analyze_with(f, 12, 0, &map, examined, &mut log), (w, other), "{f:02x?}");
     }
     for p in &papers {
         let v = listochur::mark_paper_with(p, &map, listochur::Options::built_in(), &mut log);
@@ -198,9 +201,9 @@ fn map_rows(fragments: Vec<Vec<u8>>, times: u32) -> [Row; 3] {
         ours,
         theirs: Box::new(|| ()),
     };
-    let (first, second) = (fragments.clone(), fragments);
+    let (first, second, third) = (fragments.clone(), fragments.clone(), fragments);
     let paper_bytes = papers.iter().map(Vec::len).sum();
-    let (mut a, mut b, mut c) = (log.clone(), log.clone(), log);
+    let (mut a, mut b, mut c, mut d) = (log.clone(), log.clone(), log.clone(), log);
     [
         row(
             "corpus with items",
@@ -226,6 +229,16 @@ fn map_rows(fragments: Vec<Vec<u8>>, times: u32) -> [Row; 3] {
             Box::new(move || {
                 for p in &papers {
                     black_box(listochur::mark_paper_with(black_box(p), &map, listochur::Options::built_in(), &mut c));
+                }
+            }),
+        ),
+        row(
+            "corpus with items, by that map, examined",
+            bytes,
+            Box::new(move || {
+                let examined = listochur::Options::built_in().examined();
+                for f in &third {
+                    black_box(listochur::analyze_with(black_box(f), 12, 0, &map, examined, &mut d));
                 }
             }),
         ),

@@ -6,12 +6,13 @@ use std::panic::{AssertUnwindSafe, catch_unwind};
 use reference::{Answer, PaperAnswer, as_message};
 use tools::definition::{self, BUILT_IN, Item, Rules, Stacks, Verdict, built_in_map};
 
-use crate::marker::{Lent, Marker, UNWRITTEN};
+use crate::marker::{Lent, Marker, PLAIN, UNWRITTEN};
 use crate::replays;
 
 /// A case. `lent` is the length of the lent log in numbers; `seed` gives the byte strings and the choices of the replays; `other`
-/// differs from `bytes` only within long data. `by` is the map and the limit that are lent, the built-in ones where it is none;
-/// `limit` is another than that.
+/// differs from `bytes` only within long data. `by` is the map, the limit and the mode that are lent, the built-in ones where it is
+/// none; `limit` is another than that; in `Examined` and `ExaminedPaper` the mode is the examined one, and the case is marked in
+/// plain mode too.
 #[derive(Clone, Debug, PartialEq, Eq)]
 pub enum Case {
     Fragment { main: u32, alt: u32, bytes: Vec<u8>, lent: usize },
@@ -25,6 +26,8 @@ pub enum Case {
     PaperBy { by: Lent, bytes: Vec<u8>, lent: usize },
     FragmentAt { by: Lent, limit: u32, main: u32, alt: u32, bytes: Vec<u8> },
     PaperAt { by: Lent, limit: u32, bytes: Vec<u8> },
+    Examined { by: Lent, main: u32, alt: u32, bytes: Vec<u8>, seed: u64 },
+    ExaminedPaper { by: Lent, bytes: Vec<u8>, seed: u64 },
 }
 
 /// In the form of the protocol, without the short form of a tail.
@@ -57,11 +60,18 @@ impl fmt::Display for Case {
                 write!(f, "fragment {main} {alt} {}   ({by}, and at {limit})", hex(bytes))
             }
             Self::PaperAt { by, limit, bytes } => write!(f, "paper {}   ({by}, and at {limit})", hex(bytes)),
+            Self::Examined { by, main, alt, bytes, seed } => {
+                write!(f, "fragment {main} {alt} {}   ({by}, and in plain mode; replays of seed {seed})", hex(bytes))
+            }
+            Self::ExaminedPaper { by, bytes, seed } => {
+                write!(f, "paper {}   ({by}, and in plain mode; replays of seed {seed})", hex(bytes))
+            }
         }
     }
 }
 
-/// The limit and the map: the rows in which it is not the built-in one, or all its bytes where it is not laid out as that is.
+/// The limit, the mode unless it is plain, and the map: the rows in which it is not the built-in one, or all its bytes where it is
+/// not laid out as that is.
 impl fmt::Display for Lent {
     fn fmt(&self, f: &mut fmt::Formatter<'_>) -> fmt::Result {
         let own = built_in_map();
@@ -73,7 +83,8 @@ impl fmt::Display for Lent {
             Some("") => write!(f, "the built-in map at {}", self.limit),
             Some(rows) => write!(f, "the built-in map with{rows}, at {}", self.limit),
             None => write!(f, "the map {} at {}", hex(&self.map), self.limit),
-        }
+        }?;
+        if self.examined() { write!(f, ", examined by mode {}", self.mode) } else { Ok(()) }
     }
 }
 
@@ -120,10 +131,24 @@ const LOG: &str = "document 01: the log";
 const ITEMS: &str = "document 01: the items of the end";
 const AGAIN: &str = "the same without the items";
 const BLANKED: &str = "ours with other long data";
+const BLANKED_EXAMINED: &str = "ours in examined mode with other long data";
 const RUST_BLANKED: &str = "the Rust's, both with other long data";
 const RAISED: &str = "the same at another limit: accepted from the peak on, else 2 or 6";
 const RAISED_PAPER: &str = "the same at a higher limit";
+const EXAMINED: &str = "the same in plain mode: 30 exactly where a plain replay reaches a long push, else no difference";
 const PART: &str = "document 01: start and length of the part";
+
+/// What came of a case that plain mode accepts: 30 in the examined one, and whether replays told which it has to be.
+#[derive(Clone, Copy, Debug, PartialEq, Eq)]
+pub struct Examining {
+    pub long: bool,
+    pub decided: bool,
+}
+
+/// The rules of a lent map, limit and mode, or the number that is given of them.
+fn rules_of(by: &Lent) -> Result<Rules, u32> {
+    Rules::read(&by.map, by.limit).map(|rules| rules.in_mode(by.examined()))
+}
 
 /// What a number of the log is until it is written. No height and no offset is this large, and dead rows have 65,535.
 const LENT: u16 = 0xfefe;
@@ -135,11 +160,14 @@ pub struct Checker<'m, M> {
     theirs: Vec<u16>,
     items: Vec<u64>,
     wanted: Vec<u64>,
+    /// The built-in map at 244 in examined mode.
+    examined: Lent,
 }
 
 impl<'m, M: Marker> Checker<'m, M> {
     pub fn new(marker: &'m M) -> Self {
-        Self { marker, ours: Vec::new(), theirs: Vec::new(), items: Vec::new(), wanted: Vec::new() }
+        let examined = Lent { map: built_in_map(), limit: 244, mode: 1 };
+        Self { marker, ours: Vec::new(), theirs: Vec::new(), items: Vec::new(), wanted: Vec::new(), examined }
     }
 
     /// Both logs, as lent.
@@ -250,7 +278,7 @@ impl<'m, M: Marker> Checker<'m, M> {
         seed: u64,
     ) -> Result<replays::Counts, Box<Difference>> {
         self.lend(3 * bytes.len());
-        let rules = by.map_or_else(|| Ok(BUILT_IN.clone()), |by| Rules::read(&by.map, by.limit));
+        let rules = by.map_or_else(|| Ok(BUILT_IN.clone()), rules_of);
         let ours = match by {
             None => self.marker.analyze(bytes, main, alt, &mut self.ours),
             Some(by) => self.marker.analyze_with(by, bytes, main, alt, &mut self.ours, &mut []),
@@ -306,22 +334,19 @@ impl<'m, M: Marker> Checker<'m, M> {
         Ok(number)
     }
 
-    /// Request L3: two fragments that differ only within long data. Ours have the same numbers, log and items, and the Rust's two
-    /// answers are the same. The verdict number.
+    /// Request L3: two fragments that differ only within long data. Ours have the same numbers, log and items, in examined mode too,
+    /// and the Rust's two answers are the same. The verdict number.
     pub fn blanked(&mut self, main: u32, alt: u32, bytes: &[u8], other: &[u8], lent: usize) -> Result<u32, Box<Difference>> {
+        self.lend(lent);
+        self.lend_items();
+        let one = self.marker.analyze_with(&self.examined, bytes, main, alt, &mut self.ours, &mut self.items);
+        let two = self.marker.analyze_with(&self.examined, other, main, alt, &mut self.theirs, &mut self.wanted);
+        self.same_of_both(BLANKED_EXAMINED, one, two)?;
         self.lend(lent);
         self.lend_items();
         let one = self.marker.analyze_items(bytes, main, alt, &mut self.ours, &mut self.items);
         let two = self.marker.analyze_items(other, main, alt, &mut self.theirs, &mut self.wanted);
-        if one != two {
-            return Err(differ(BLANKED, one, two));
-        }
-        if self.ours != self.theirs {
-            return Err(differ(BLANKED, &self.ours, &self.theirs));
-        }
-        if self.items != self.wanted {
-            return Err(differ(BLANKED, &self.items, &self.wanted));
-        }
+        self.same_of_both(BLANKED, one, two)?;
         let rust = ask(one, || (reference::fragment(bytes, main, alt), reference::fragment(other, main, alt)))?;
         if rust.0 != rust.1 {
             return Err(differ(RUST_BLANKED, rust.0, rust.1));
@@ -329,17 +354,31 @@ impl<'m, M: Marker> Checker<'m, M> {
         Ok(one[0] as u32)
     }
 
+    /// The numbers, the logs and the items of two answers of ours.
+    fn same_of_both<const N: usize>(&self, against: &'static str, one: [u64; N], two: [u64; N]) -> Result<(), Box<Difference>> {
+        if one != two {
+            return Err(differ(against, one, two));
+        }
+        if self.ours != self.theirs {
+            return Err(differ(against, &self.ours, &self.theirs));
+        }
+        if self.items != self.wanted {
+            return Err(differ(against, &self.items, &self.wanted));
+        }
+        Ok(())
+    }
+
     /// The same of two papers.
     pub fn blanked_papers(&mut self, bytes: &[u8], other: &[u8], lent: usize) -> Result<u32, Box<Difference>> {
+        self.lend_items();
+        self.lend(lent);
+        let one = self.marker.mark_paper_with(&self.examined, bytes, &mut self.ours);
+        let two = self.marker.mark_paper_with(&self.examined, other, &mut self.theirs);
+        self.same_of_both(BLANKED_EXAMINED, one, two)?;
         self.lend(lent);
         let one = self.marker.mark_paper(bytes, &mut self.ours);
         let two = self.marker.mark_paper(other, &mut self.theirs);
-        if one != two {
-            return Err(differ(BLANKED, one, two));
-        }
-        if self.ours != self.theirs {
-            return Err(differ(BLANKED, &self.ours, &self.theirs));
-        }
+        self.same_of_both(BLANKED, one, two)?;
         let rust = ask(one, || (reference::paper(bytes), reference::paper(other)))?;
         if rust.0 != rust.1 {
             return Err(differ(RUST_BLANKED, rust.0, rust.1));
@@ -359,12 +398,13 @@ impl<'m, M: Marker> Checker<'m, M> {
         Ok(())
     }
 
-    /// Request L6: a fragment by a lent map and limit, which may be bad, against the plain reading. The verdict number.
+    /// Requests L6 and L7: a fragment by a lent map and limit, which may be bad, in a mode, against the plain reading. The verdict
+    /// number.
     pub fn fragment_by(&mut self, by: &Lent, main: u32, alt: u32, bytes: &[u8], lent: usize) -> Result<u32, Box<Difference>> {
         self.lend(lent);
         self.lend_items();
         let ours = self.marker.analyze_with(by, bytes, main, alt, &mut self.ours, &mut self.items);
-        let verdict = definition::analysis_with(&by.map, by.limit, bytes, main, alt, &mut self.theirs);
+        let verdict = definition::analysis_with(&by.map, by.limit, by.examined(), bytes, main, alt, &mut self.theirs);
         let theirs = numbers(&verdict);
         if ours != theirs {
             return Err(differ(NUMBERS, ours, theirs));
@@ -378,7 +418,7 @@ impl<'m, M: Marker> Checker<'m, M> {
     pub fn paper_by(&mut self, by: &Lent, bytes: &[u8], lent: usize) -> Result<u32, Box<Difference>> {
         self.lend(lent);
         let ours = self.marker.mark_paper_with(by, bytes, &mut self.ours);
-        let verdict = definition::mark_with(&by.map, by.limit, bytes, &mut self.theirs);
+        let verdict = definition::mark_with(&by.map, by.limit, by.examined(), bytes, &mut self.theirs);
         let PaperAnswer { number, entry, offset, a, b } = verdict.answer;
         let theirs = [u64::from(number), entry, offset, a, b, verdict.rows as u64, verdict.peak as u64];
         if ours != theirs {
@@ -398,7 +438,7 @@ impl<'m, M: Marker> Checker<'m, M> {
         if one[0] != 0 || !(1..=244).contains(&limit) {
             return Ok(());
         }
-        let at = Lent { map: by.map.clone(), limit };
+        let at = Lent { limit, ..by.clone() };
         let two = self.marker.analyze_with(&at, bytes, main, alt, &mut self.theirs, &mut self.wanted);
         if u64::from(limit) < one[5] {
             return if matches!(two[0], 2 | 6) { Ok(()) } else { Err(differ(RAISED, one, two)) };
@@ -419,12 +459,71 @@ impl<'m, M: Marker> Checker<'m, M> {
         if one[0] != 0 || !(by.limit..=244).contains(&limit) {
             return Ok(());
         }
-        let at = Lent { map: by.map.clone(), limit };
+        let at = Lent { limit, ..by.clone() };
         let two = self.marker.mark_paper_with(&at, bytes, &mut self.theirs);
         if (one, &self.ours) != (two, &self.theirs) {
             return Err(differ(RAISED_PAPER, (one, &self.ours), (two, &self.theirs)));
         }
         Ok(())
+    }
+
+    /// Request L7: "What plain mode accepts gets 30 in the examined one exactly when a plain replay reaches such a push, else the
+    /// same verdict and log", and the same items. Ours in both modes, and plain replays. `None` where plain mode does not accept.
+    pub fn examined(
+        &mut self,
+        by: &Lent,
+        main: u32,
+        alt: u32,
+        bytes: &[u8],
+        seed: u64,
+    ) -> Result<Option<Examining>, Box<Difference>> {
+        self.lend(3 * bytes.len());
+        self.lend_items();
+        let plain = self.marker.analyze_with(&by.in_mode(PLAIN), bytes, main, alt, &mut self.ours, &mut self.items);
+        if plain[0] != 0 || !by.examined() {
+            return Ok(None);
+        }
+        let examined = self.marker.analyze_with(by, bytes, main, alt, &mut self.theirs, &mut self.wanted);
+        let rules = rules_of(&by.in_mode(PLAIN)).map_err(|number| differ(EXAMINED, plain, number))?;
+        let reaches = replays::reaches_long(&rules, bytes, main, alt, seed);
+        let long = examined[0] == 30;
+        if reaches.is_some_and(|reaches| reaches != long) {
+            return Err(differ(EXAMINED, examined, format!("{plain:?}, and a long push reached: {reaches:?}")));
+        }
+        if !long && (plain, &self.ours, &self.items) != (examined, &self.theirs, &self.wanted) {
+            let with = |numbers, log: &[u16], items: &[u64]| format!("{numbers:?} {log:?} {items:?}");
+            let (ours, theirs) = (with(examined, &self.theirs, &self.wanted), with(plain, &self.ours, &self.items));
+            return Err(Box::new(Difference { against: EXAMINED, ours, theirs }));
+        }
+        Ok(Some(Examining { long, decided: reaches.is_some() }))
+    }
+
+    /// The same of a paper: a plain replay of one of its fragments.
+    pub fn examined_paper(&mut self, by: &Lent, bytes: &[u8], seed: u64) -> Result<Option<Examining>, Box<Difference>> {
+        self.lend(3 * bytes.len());
+        let plain = self.marker.mark_paper_with(&by.in_mode(PLAIN), bytes, &mut self.ours);
+        if plain[0] != 0 || !by.examined() {
+            return Ok(None);
+        }
+        let examined = self.marker.mark_paper_with(by, bytes, &mut self.theirs);
+        let rules = rules_of(&by.in_mode(PLAIN)).map_err(|number| differ(EXAMINED, plain, number))?;
+        let own = definition::mark_with(&by.map, by.limit, false, bytes, &mut vec![0; 3 * bytes.len()]).answer;
+        if own.number != 0 {
+            return Err(differ(EXAMINED, plain, own));
+        }
+        let each: Vec<Option<bool>> = definition::fragments(bytes)
+            .into_iter()
+            .map(|(fragment, main, alt)| replays::reaches_long(&rules, fragment, main, alt, seed))
+            .collect();
+        let reaches = if each.contains(&Some(true)) { Some(true) } else { (!each.contains(&None)).then_some(false) };
+        let long = examined[0] == 30;
+        if reaches.is_some_and(|reaches| reaches != long) {
+            return Err(differ(EXAMINED, examined, format!("{plain:?}, and a long push reached: {each:?}")));
+        }
+        if !long && (plain, &self.ours) != (examined, &self.theirs) {
+            return Err(differ(EXAMINED, (examined, &self.theirs), (plain, &self.ours)));
+        }
+        Ok(Some(Examining { long, decided: reaches.is_some() }))
     }
 
     /// A case of any kind.
@@ -441,6 +540,8 @@ impl<'m, M: Marker> Checker<'m, M> {
             Case::PaperBy { by, bytes, lent } => self.paper_by(by, bytes, *lent).map(drop),
             Case::FragmentAt { by, limit, main, alt, bytes } => self.fragment_at(by, *limit, *main, *alt, bytes),
             Case::PaperAt { by, limit, bytes } => self.paper_at(by, *limit, bytes),
+            Case::Examined { by, main, alt, bytes, seed } => self.examined(by, *main, *alt, bytes, *seed).map(drop),
+            Case::ExaminedPaper { by, bytes, seed } => self.examined_paper(by, bytes, *seed).map(drop),
         }
     }
 }

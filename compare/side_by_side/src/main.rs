@@ -105,6 +105,10 @@ fn report(outcome: &Outcome) {
         + by_maps;
     println!("\nanswered by the Rust: {}; not by it (1, 4, 5, 19, 21, display, maps): {alone}", sum.cases() - alone);
     println!("by lent maps and limits: {by_maps}; accepted ones asked again at another limit: {}", sum.raised);
+    println!(
+        "accepted in plain mode and asked in the examined one: {}; 30 there: {}; told by replays: {}",
+        sum.examined, sum.long, sum.decided
+    );
     let r = sum.replays;
     println!(
         "replays: {} of {} accepted fragments, all choices tried for {}; {} instructions reached, {} ran off the end",

@@ -1,10 +1,29 @@
 //! Our side: what is asked of it, and the proved functions of the crate `export`.
 
-/// A map and a limit as they are lent (request L6), good or bad.
+/// A map and a limit as they are lent (request L6), good or bad, and the mode (request L7).
 #[derive(Clone, Debug, PartialEq, Eq)]
 pub struct Lent {
     pub map: Vec<u8>,
     pub limit: u32,
+    pub mode: u32,
+}
+
+/// The plain mode; any other is examined.
+pub const PLAIN: u32 = 0;
+
+impl Lent {
+    pub fn plain(map: Vec<u8>, limit: u32) -> Self {
+        Self { map, limit, mode: PLAIN }
+    }
+
+    /// The same in this mode.
+    pub fn in_mode(&self, mode: u32) -> Self {
+        Self { mode, ..self.clone() }
+    }
+
+    pub fn examined(&self) -> bool {
+        self.mode != PLAIN
+    }
 }
 
 /// Answers are numbers in the order of the functions of the crate `export`.
@@ -24,10 +43,10 @@ pub trait Marker: Sync {
     /// Where the part starts in its fragment, and its length.
     fn display(&self, body: &[u8], initialiser: &[u8], offset: usize, mark: u32) -> [u64; 2];
 
-    /// As `analyze_items`, by a lent map and limit.
+    /// As `analyze_items`, by a lent map and limit, in a mode.
     fn analyze_with(&self, by: &Lent, fragment: &[u8], main: u32, alt: u32, log: &mut [u16], items: &mut [u64]) -> [u64; 9];
 
-    /// As `mark_paper`, by a lent map and limit.
+    /// As `mark_paper`, by a lent map and limit, in a mode.
     fn mark_paper_with(&self, by: &Lent, paper: &[u8], log: &mut [u16]) -> [u64; 7];
 }
 
@@ -116,9 +135,6 @@ mod proved {
     }
 }
 
-/// The `mode` that is passed. It is not read yet.
-const PLAIN: u32 = 0;
-
 /// The proved functions. They ask nothing of their caller: each slice is passed whole, with its own length.
 pub struct Proved;
 
@@ -178,7 +194,7 @@ impl Marker for Proved {
                 by.map.as_ptr(),
                 by.map.len(),
                 by.limit,
-                PLAIN,
+                by.mode,
                 log.as_mut_ptr(),
                 log.len(),
                 items.as_mut_ptr(),
@@ -202,7 +218,7 @@ impl Marker for Proved {
                 map,
                 map_len,
                 by.limit,
-                PLAIN,
+                by.mode,
                 log,
                 numbers,
                 out.as_mut_ptr(),

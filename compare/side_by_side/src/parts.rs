@@ -1,16 +1,17 @@
-//! What is compared: every small fragment, then generated cases; then the same by lent maps and limits.
+//! What is compared: every small fragment, then generated cases; then the same by lent maps and limits, and in both modes.
 
 use tools::blank::{changed, free_in_paper, long_data, with_long_data};
 use tools::case;
 use tools::case::Case;
 use tools::definition::{self, Rules, built_in_map};
+use tools::elements::{SIZES, forms, with_elements};
 use tools::generate::{Draft, Kind, body, case, mutate, planned, start};
 use tools::maps::{self, Codes, damaged_map, good_map};
 use tools::model::{FAULTS, Fault, Writer};
 use tools::rng::Rng;
 
-use crate::marker::{Lent, Marker};
-use crate::run::{Found, Part, Worker};
+use crate::marker::{Lent, Marker, PLAIN};
+use crate::run::{Chunk, Found, Part, Worker};
 
 /// How much of each part. Fields are numbers of cases unless they say otherwise.
 pub struct Sizes {
@@ -32,6 +33,9 @@ pub struct Sizes {
     pub mapped_papers: u64,
     /// By damaged maps, and limits of every kind.
     pub bad_maps: u64,
+    /// In both modes: twice as many answers.
+    pub examined: u64,
+    pub examined_papers: u64,
 }
 
 impl Sizes {
@@ -48,6 +52,8 @@ impl Sizes {
         mapped: 700_000,
         mapped_papers: 60_000,
         bad_maps: 100_000,
+        examined: 50_000,
+        examined_papers: 10_000,
     };
 
     pub const FULL: Self = Self {
@@ -63,6 +69,8 @@ impl Sizes {
         mapped: 10_000_000,
         mapped_papers: 1_000_000,
         bad_maps: 1_000_000,
+        examined: 2_000_000,
+        examined_papers: 300_000,
     };
 }
 
@@ -134,6 +142,10 @@ pub fn parts<M: Marker>(sizes: &Sizes) -> Vec<Part<M>> {
     part("maps", sizes.mapped / 1_000, Box::new(|worker, _| mapped(worker, 1_000)));
     part("papers by maps", sizes.mapped_papers / 100, Box::new(|worker, _| mapped_papers(worker, 100)));
     part("bad maps", 257 + sizes.bad_maps / 1_000, Box::new(|worker, chunk| bad_maps(worker, chunk, 1_000)));
+    let sizes_tried = SIZES.len() as u64;
+    let run: Box<Chunk<M>> = Box::new(|worker, chunk| examined(worker, chunk as usize, 500));
+    part("examined", sizes_tried + sizes.examined / 500, run);
+    part("papers, examined", sizes.examined_papers / 100, Box::new(|worker, _| examined_papers(worker, 100)));
     parts
 }
 
@@ -608,7 +620,7 @@ fn displays<M: Marker>(worker: &mut Worker<M>, chunk: u64, cases: usize) -> Done
 
 /// Every fragment of up to 3 instructions that begins with this one of the alphabet, by the built-in map at the limits 1 to 6.
 fn small_limits<M: Marker>(worker: &mut Worker<M>, first: usize) -> Done {
-    let bys: Vec<Lent> = (1..=6).map(|limit| Lent { map: built_in_map(), limit }).collect();
+    let bys: Vec<Lent> = (1..=6).map(|limit| Lent::plain(built_in_map(), limit)).collect();
     let numbers = 0..ALPHABET.len();
     let longer = numbers.clone().flat_map(|second| numbers.clone().map(move |third| vec![first, second, third]));
     let all = [vec![first]].into_iter().chain(numbers.clone().map(|second| vec![first, second])).chain(longer);
@@ -629,7 +641,8 @@ fn by_rules<M: Marker>(worker: &mut Worker<M>, by: &Lent, main: u32, alt: u32, b
     let number = worker.fragment_by(by, main, alt, bytes, lent)?;
     if number == 0 && worker.rng.below(one_in) == 0 {
         worker.replays(Some(by), main, alt, bytes)?;
-        let peak = definition::analysis_with(&by.map, by.limit, bytes, main, alt, &mut vec![0; 3 * bytes.len()]).peak as u32;
+        let log = &mut vec![0; 3 * bytes.len()];
+        let peak = definition::analysis_with(&by.map, by.limit, by.examined(), bytes, main, alt, log).peak as u32;
         for limit in [peak.saturating_sub(1), peak, by.limit + 1, 244] {
             worker.fragment_at(by, limit, main, alt, bytes)?;
         }
@@ -644,7 +657,7 @@ fn mapped<M: Marker>(worker: &mut Worker<M>, cases: usize) -> Done {
         let map = good_map(&mut worker.rng);
         let rules = Rules::read(&map, 244).expect("a good map");
         let codes = Codes::of(&rules);
-        let mut by = Lent { map, limit: 244 };
+        let mut by = Lent::plain(map, 244);
         for _ in 0..10 {
             let (main, alt, mut bytes) = if worker.rng.percent(50) { small(&mut worker.rng) } else { generated(&mut worker.rng) };
             if worker.rng.percent(85) {
@@ -697,13 +710,13 @@ fn mapped_papers<M: Marker>(worker: &mut Worker<M>, cases: usize) -> Done {
         let map = good_map(&mut worker.rng);
         let rules = Rules::read(&map, 244).expect("a good map");
         let codes = Codes::of(&rules);
-        let mut by = Lent { map, limit: 244 };
+        let mut by = Lent::plain(map, 244);
         for _ in 0..5 {
             let mut whole = bytes_of(case(&mut worker.rng, Kind::Paper));
             if worker.rng.percent(85) {
                 codes.rewrite_paper(&mut worker.rng, &mut whole);
             }
-            let peak = definition::mark_with(&by.map, 244, &whole, &mut vec![0; 3 * whole.len()]).peak;
+            let peak = definition::mark_with(&by.map, 244, false, &whole, &mut vec![0; 3 * whole.len()]).peak;
             let height = match worker.rng.below(10) {
                 0 => peak,
                 1 => dispatched(&whole),
@@ -739,10 +752,10 @@ fn dispatched(paper: &[u8]) -> usize {
 fn bad_maps<M: Marker>(worker: &mut Worker<M>, chunk: u64, cases: usize) -> Done {
     if chunk == 256 {
         for limit in (0..=300).chain([511, 512, 65_535, 65_536, 65_541, 1 << 31, u32::MAX - 1, u32::MAX]) {
-            each_kind(worker, &Lent { map: built_in_map(), limit })?;
+            each_kind(worker, &Lent::plain(built_in_map(), limit))?;
         }
         for length in 0..260 {
-            each_kind(worker, &Lent { map: built_in_map()[..length].to_vec(), limit: 244 })?;
+            each_kind(worker, &Lent::plain(built_in_map()[..length].to_vec(), 244))?;
         }
         return Ok(());
     }
@@ -750,7 +763,7 @@ fn bad_maps<M: Marker>(worker: &mut Worker<M>, chunk: u64, cases: usize) -> Done
         let chunk = chunk as usize;
         for place in [chunk, 256 + chunk].into_iter().filter(|place| *place < 260) {
             for byte in 0..=255 {
-                let mut by = Lent { map: built_in_map(), limit: 244 };
+                let mut by = Lent::plain(built_in_map(), 244);
                 by.map[place] = byte;
                 worker.fragment_by(&by, 1, 0, &[0x61, 0xff], 9)?;
             }
@@ -764,7 +777,7 @@ fn bad_maps<M: Marker>(worker: &mut Worker<M>, chunk: u64, cases: usize) -> Done
             2 => worker.rng.number() as u32,
             _ => worker.rng.within(1, 244) as u32,
         };
-        let by = Lent { map: damaged_map(&mut worker.rng), limit };
+        let by = Lent::plain(damaged_map(&mut worker.rng), limit);
         let (main, alt, bytes) = generated(&mut worker.rng);
         worker.fragment_by(&by, main, alt, &bytes, enough(&bytes))?;
         let bytes = if worker.rng.percent(20) { bytes } else { bytes_of(case(&mut worker.rng, Kind::Paper)) };
@@ -786,4 +799,141 @@ fn each_kind<M: Marker>(worker: &mut Worker<M>, by: &Lent) -> Done {
         worker.paper_by(by, bytes, 20)?;
     }
     Ok(())
+}
+
+// Request L7: the examined mode. The Rust has none; the plain mode by the built-in map at 244 is held against it as well.
+
+/// Modes other than plain; each is examined.
+const MODES: [u32; 5] = [1, 2, 256, 65_536, u32::MAX];
+
+/// Each size in each form that can say it, alive and dead, at small limits, a size to a chunk; then generated fragments with such
+/// pushes set in, in the codes of good maps, some by damaged ones, one in five damaged.
+fn examined<M: Marker>(worker: &mut Worker<M>, chunk: usize, cases: usize) -> Done {
+    if let Some(size) = SIZES.get(chunk) {
+        return directed_elements(worker, *size);
+    }
+    for _ in 0..cases / 10 {
+        let map = if worker.rng.percent(50) { built_in_map() } else { good_map(&mut worker.rng) };
+        let rules = Rules::read(&map, 244).expect("a good map");
+        let codes = Codes::of(&rules);
+        let damaged = worker.rng.percent(4).then(|| damaged_map(&mut worker.rng));
+        let mut by = Lent::plain(damaged.unwrap_or(map), 244);
+        for _ in 0..10 {
+            let (main, alt, plain) = if worker.rng.percent(70) { small(&mut worker.rng) } else { generated(&mut worker.rng) };
+            let mut bytes = with_elements(&mut worker.rng, &plain);
+            codes.rewrite(&mut worker.rng, &mut bytes);
+            if worker.rng.percent(20) {
+                mutate(&mut worker.rng, &mut bytes);
+            }
+            let height = height(&rules, main, alt, &bytes);
+            by.limit = if worker.rng.percent(40) { 244 } else { maps::limit(&mut worker.rng, height) };
+            by.mode = worker.rng.pick(&MODES);
+            both_modes(worker, &by, main, alt, &bytes, 4)?;
+        }
+    }
+    Ok(())
+}
+
+/// In plain and in examined mode; then what plain mode accepts in both beside one another, and some of what either accepts by
+/// replays and at other limits.
+fn both_modes<M: Marker>(worker: &mut Worker<M>, by: &Lent, main: u32, alt: u32, bytes: &[u8], one_in: usize) -> Done {
+    let plain = by.in_mode(PLAIN);
+    by_rules(worker, &plain, main, alt, bytes, one_in)?;
+    by_rules(worker, by, main, alt, bytes, one_in)?;
+    if by.limit == 244 && by.map == built_in_map() {
+        worker.fragment(main, alt, bytes, enough(bytes))?;
+    }
+    worker.examined(by, main, alt, bytes)
+}
+
+/// A push of this size in each form, where a run comes and where none does, beside other pushes, and where there is no room.
+fn directed_elements<M: Marker>(worker: &mut Worker<M>, size: usize) -> Done {
+    let around: [(&[u8], &[u8]); 16] = [
+        (&[], &[]),
+        (&[], &[0x75]),
+        (&[0x51], &[]),
+        (&[0x51, 0x75], &[0x82, 0x79]),
+        (&[0x6a], &[]),
+        (&[0x63], &[0x68]),
+        (&[0x63], &[0x75, 0x68]),
+        (&[0x63, 0x6a], &[0x68]),
+        (&[0x63, 0x51, 0x67], &[0x68, 0x75]),
+        (&[0x63, 0x67, 0x6a], &[0x68]),
+        (&[0x64, 0x6a, 0x67], &[0x75, 0x68]),
+        (&[0x51, 0x63, 0x6a, 0x67, 0x6a, 0x68], &[]),
+        (&[0x51, 0x63, 0x51, 0x63, 0x6a], &[0x67, 0x68, 0x68]),
+        (&[0x76], &[0x6b, 0x6c]),
+        (&[0xff], &[]),
+        (&[0x67], &[]),
+    ];
+    for form in forms(&vec![0x63; size]) {
+        for (before, after) in around {
+            let bytes = [before, &form, after].concat();
+            for (main, alt) in [(0, 0), (1, 0), (2, 1), (4, 0)] {
+                for limit in [1, 2, 3, 5, 244] {
+                    let mode = worker.rng.pick(&MODES);
+                    both_modes(worker, &Lent { map: built_in_map(), limit, mode }, main, alt, &bytes, 20)?;
+                }
+            }
+        }
+        // Two of them, the data of the first cut short, and one that is broken off.
+        let twice = [&form[..], &[0x75], &form].concat();
+        let by = Lent { map: built_in_map(), limit: 3, mode: 1 };
+        for bytes in [&twice[..], &twice[1..], &twice[..twice.len() - 1], &form[..form.len() - 1]] {
+            both_modes(worker, &by, 0, 0, bytes, 1)?;
+        }
+    }
+    Ok(())
+}
+
+/// Papers with such pushes in most parts, in the codes of good maps, one in ten damaged.
+fn examined_papers<M: Marker>(worker: &mut Worker<M>, cases: usize) -> Done {
+    for _ in 0..cases / 5 {
+        let map = if worker.rng.percent(50) { built_in_map() } else { good_map(&mut worker.rng) };
+        let codes = Codes::of(&Rules::read(&map, 244).expect("a good map"));
+        let mut by = Lent::plain(map, 244);
+        for _ in 0..5 {
+            let mut bytes = element_paper(&mut worker.rng);
+            codes.rewrite_paper(&mut worker.rng, &mut bytes);
+            if worker.rng.percent(10) {
+                mutate(&mut worker.rng, &mut bytes);
+            }
+            let peak = definition::mark_with(&by.map, 244, false, &bytes, &mut vec![0; 3 * bytes.len()]).peak;
+            by.limit = if worker.rng.percent(50) { 244 } else { maps::limit(&mut worker.rng, peak.max(dispatched(&bytes))) };
+            by.mode = worker.rng.pick(&MODES);
+            let lent = if worker.rng.percent(5) { worker.rng.below(bytes.len() + 1) } else { enough(&bytes) };
+            worker.paper_by(&by.in_mode(PLAIN), &bytes, lent)?;
+            let number = worker.paper_by(&by, &bytes, lent)?;
+            if number == 0 && worker.rng.percent(30) {
+                let limit = worker.rng.within(by.limit as usize, 244) as u32;
+                worker.paper_at(&by, limit, &bytes)?;
+            }
+            if by.limit == 244 && by.map == built_in_map() {
+                worker.paper(&bytes, lent)?;
+            }
+            worker.examined_paper(&by, &bytes)?;
+        }
+    }
+    Ok(())
+}
+
+/// A paper of one to three entries with a push of about 520 bytes in some parts.
+fn element_paper(rng: &mut Rng) -> Vec<u8> {
+    let state_fields = rng.below(3);
+    let mut draft = Draft { state_fields, entries: Vec::new(), initialiser: Vec::new() };
+    let part = |rng: &mut Rng, main, alt| {
+        let steps = rng.within(0, 12);
+        let fault = rng.percent(10).then(|| Fault { after: rng.below(steps + 1), number: rng.pick(&FAULTS) });
+        let plain = planned(rng, main, alt, steps, fault);
+        if rng.percent(50) { with_elements(rng, &plain) } else { plain }
+    };
+    for _ in 0..rng.within(1, 3) {
+        let params = rng.below(5);
+        draft.entries.push((params, part(rng, params + state_fields, 0)));
+    }
+    if rng.percent(50) {
+        let most = draft.entries.iter().map(|entry| entry.0).max().unwrap_or(0);
+        draft.initialiser = part(rng, most, 1);
+    }
+    draft.pack()
 }

@@ -1,6 +1,6 @@
-//! Demand 3 on one accepted fragment: what was answered, held against replays.
+//! Demand 3 on one accepted fragment: what was answered, held against replays; and whether a replay reaches a long push.
 
-use tools::definition::{Item, Rules, Stacks, decode, written};
+use tools::definition::{Instruction, Item, Rules, Stacks, decode, written};
 use tools::replay::{Ending, Trace, replay};
 use tools::rng::Rng;
 
@@ -63,11 +63,41 @@ pub fn demand_3(
     end: Option<&Stacks>,
 ) -> Result<Counts, Against> {
     let instructions = decode(bytes).map_err(|offset| ("accepted".into(), format!("malformed at {offset}")))?;
-    let mut rng = Rng::new(seed);
     let mut counts = Counts { fragments: 1, ..Counts::default() };
     let mut reached = vec![false; instructions.len()];
     let mut peak = 0;
     let mut ran_off = false;
+    let all = each_replay(rules, &instructions, main, alt, seed, |trace, choices| {
+        one_replay(rules, trace, ours, log, end).map_err(|(ours, theirs)| (ours, format!("{theirs} (choices {choices:?})")))?;
+        for (place, _, _) in &trace.reached {
+            reached[*place] = true;
+        }
+        peak = peak.max(trace.peak);
+        counts.replays += 1;
+        counts.reached += trace.reached.len() as u64;
+        if matches!(trace.ending, Ending::RanOff { .. }) {
+            counts.ran_off += 1;
+            ran_off = true;
+        }
+        Ok(())
+    })?;
+    if all {
+        counts.exhaustive = 1;
+        every_replay(&reached, peak, ran_off, ours, log)?;
+    }
+    Ok(counts)
+}
+
+/// Replays with lists of choices in order, and with others at random where those are too many: whether all were tried.
+fn each_replay(
+    rules: &Rules,
+    instructions: &[Instruction],
+    main: u32,
+    alt: u32,
+    seed: u64,
+    mut seen: impl FnMut(&Trace, &[bool]) -> Result<(), Against>,
+) -> Result<bool, Against> {
+    let mut rng = Rng::new(seed);
     // The lists of choices in order: those that were not asked for are left off.
     let mut choices: Vec<bool> = Vec::new();
     let mut lists = 0;
@@ -88,18 +118,8 @@ pub fn demand_3(
             used += 1;
             choices[used - 1]
         };
-        let trace = replay(rules, &instructions, start_main, start_alt, &mut choose, &mut || byte_string(&mut strings));
-        one_replay(rules, &trace, ours, log, end).map_err(|(ours, theirs)| (ours, format!("{theirs} (choices {choices:?})")))?;
-        for (place, _, _) in &trace.reached {
-            reached[*place] = true;
-        }
-        peak = peak.max(trace.peak);
-        counts.replays += 1;
-        counts.reached += trace.reached.len() as u64;
-        if matches!(trace.ending, Ending::RanOff { .. }) {
-            counts.ran_off += 1;
-            ran_off = true;
-        }
+        let trace = replay(rules, instructions, start_main, start_alt, &mut choose, &mut || byte_string(&mut strings));
+        seen(&trace, &choices)?;
         lists += 1;
         if !at_random {
             while choices.last() == Some(&false) {
@@ -111,11 +131,24 @@ pub fn demand_3(
             }
         }
     }
-    if all {
-        counts.exhaustive = 1;
-        every_replay(&reached, peak, ran_off, ours, log)?;
+    Ok(all)
+}
+
+/// Whether a replay by these rules reaches a push of a literal above 520 bytes: `None` where none was seen to and not all lists of
+/// choices were tried.
+pub fn reaches_long(rules: &Rules, bytes: &[u8], main: u32, alt: u32, seed: u64) -> Option<bool> {
+    let instructions = decode(bytes).ok()?;
+    let long: Vec<bool> = instructions.iter().map(|instruction| rules.pushes_long(instruction)).collect();
+    if !long.contains(&true) {
+        return Some(false);
     }
-    Ok(counts)
+    let mut reached = false;
+    let all = each_replay(rules, &instructions, main, alt, seed, |trace, _| {
+        reached |= trace.reached.iter().any(|(place, _, _)| long[*place]);
+        // No more are needed.
+        if reached { Err(Against::default()) } else { Ok(()) }
+    });
+    if reached { Some(true) } else { all.ok().filter(|all| *all).map(|_| false) }
 }
 
 /// No fault, never over the limit nor over the peak, the logged heights at each instruction reached, the end stacks at the end.

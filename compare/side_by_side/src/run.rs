@@ -9,7 +9,7 @@ use std::time::{Duration, Instant};
 
 use tools::rng::Rng;
 
-use crate::check::{Case, Checker, Difference};
+use crate::check::{Case, Checker, Difference, Examining};
 use crate::marker::{Lent, Marker};
 use crate::replays;
 use crate::shrink::shrink;
@@ -22,7 +22,7 @@ pub type Found = Box<(Case, Box<Difference>)>;
 pub struct Counts {
     pub cases: u64,
     pub bytes: u64,
-    pub numbers: [u64; 30],
+    pub numbers: [u64; 31],
 }
 
 impl Counts {
@@ -50,11 +50,16 @@ pub struct Tally {
     pub displays: Counts,
     /// Pairs that differ only within long data.
     pub pairs: Counts,
-    /// By a lent map and limit.
+    /// By a lent map and limit, in both modes.
     pub fragments_by: Counts,
     pub papers_by: Counts,
     /// Accepted ones that were asked again at another limit; they are among those.
     pub raised: u64,
+    /// Those that plain mode accepts and that were asked in the examined one, those of them that got 30 there, and those of them of
+    /// which replays told whether they have to; they are among those.
+    pub examined: u64,
+    pub long: u64,
+    pub decided: u64,
     pub replays: replays::Counts,
 }
 
@@ -68,6 +73,9 @@ impl Tally {
         self.fragments_by.add(&other.fragments_by);
         self.papers_by.add(&other.papers_by);
         self.raised += other.raised;
+        self.examined += other.examined;
+        self.long += other.long;
+        self.decided += other.decided;
         self.replays.add(&other.replays);
     }
 
@@ -214,6 +222,37 @@ impl<M: Marker> Worker<'_, M> {
         }
     }
 
+    /// What plain mode accepts, in the examined one.
+    pub fn examined(&mut self, by: &Lent, main: u32, alt: u32, bytes: &[u8]) -> Result<(), Found> {
+        let seed = self.rng.number();
+        match self.checker.examined(by, main, alt, bytes, seed) {
+            Ok(came) => {
+                self.came(came);
+                Ok(())
+            }
+            Err(difference) => self.found(Case::Examined { by: by.clone(), main, alt, bytes: bytes.to_vec(), seed }, difference),
+        }
+    }
+
+    pub fn examined_paper(&mut self, by: &Lent, bytes: &[u8]) -> Result<(), Found> {
+        let seed = self.rng.number();
+        match self.checker.examined_paper(by, bytes, seed) {
+            Ok(came) => {
+                self.came(came);
+                Ok(())
+            }
+            Err(difference) => self.found(Case::ExaminedPaper { by: by.clone(), bytes: bytes.to_vec(), seed }, difference),
+        }
+    }
+
+    fn came(&mut self, came: Option<Examining>) {
+        if let Some(Examining { long, decided }) = came {
+            self.tally.examined += 1;
+            self.tally.long += u64::from(long);
+            self.tally.decided += u64::from(decided);
+        }
+    }
+
     pub fn display(&mut self, body: &[u8], initialiser: &[u8], offset: usize, mark: u32) -> Result<(), Found> {
         match self.checker.display(body, initialiser, offset, mark) {
             Ok(()) => {
@@ -233,7 +272,8 @@ impl<M: Marker> Worker<'_, M> {
     }
 }
 
-type Chunk<M> = dyn Fn(&mut Worker<M>, u64) -> Result<(), Found> + Sync;
+/// What a chunk of a part does.
+pub type Chunk<M> = dyn Fn(&mut Worker<M>, u64) -> Result<(), Found> + Sync;
 
 /// A part of the comparison: its name, and what each of its chunks does.
 pub struct Part<M> {

@@ -8,7 +8,7 @@ use tools::definition::{built_in_map, decode};
 use tools::generate::Draft;
 
 use crate::check::{Case, Checker, Difference};
-use crate::marker::{Lent, Marker};
+use crate::marker::{Lent, Marker, PLAIN};
 
 /// No longer than this: a long fragment that needs all its bytes takes many attempts.
 const MOST_TIME: Duration = Duration::from_secs(10);
@@ -152,6 +152,16 @@ fn smaller(case: &Case) -> Box<dyn Iterator<Item = Case>> {
             let simpler = simpler_rules(by).into_iter().map(move |by| Case::PaperAt { by, limit, bytes: again.clone() });
             Box::new(shorter.chain(simpler))
         }
+        Case::Examined { by, main, alt, bytes, seed } => smaller_by(by, main, alt, bytes, move |by, main, alt, bytes| {
+            Case::Examined { by: by.clone(), main, alt, bytes: bytes.to_vec(), seed }
+        }),
+        Case::ExaminedPaper { by, bytes, seed } => {
+            let (same, again) = (by.clone(), bytes.clone());
+            let drafts = smaller_papers(&bytes).into_iter().chain(fewer(bytes));
+            let shorter = drafts.map(move |bytes| Case::ExaminedPaper { by: same.clone(), bytes, seed });
+            let simpler = simpler_rules(by).into_iter().map(move |by| Case::ExaminedPaper { by, bytes: again.clone(), seed });
+            Box::new(shorter.chain(simpler))
+        }
     }
 }
 
@@ -171,8 +181,8 @@ fn smaller_by(
     Box::new(shorter.chain(lower).chain(simpler))
 }
 
-/// Nearer to the built-in map: that itself, its layout, runs of its rows; and lower limits. A map that has no rows where its header
-/// says becomes a shorter one.
+/// Nearer to the built-in map: that itself, its layout, runs of its rows; and lower limits, and the plain mode. A map that has no
+/// rows where its header says becomes a shorter one.
 fn simpler_rules(by: Lent) -> Vec<Lent> {
     let own = built_in_map();
     let mut maps = vec![own.clone()];
@@ -201,8 +211,10 @@ fn simpler_rules(by: Lent) -> Vec<Lent> {
         (map.len() > own.len(), other, map.len())
     };
     maps.retain(|map| if map == &own { by.map != own } else { far(map) < far(&by.map) });
-    let lower = lower_limits(by.limit).map(|limit| Lent { map: by.map.clone(), limit });
-    maps.into_iter().map(|map| Lent { map, limit: by.limit }).chain(lower).collect()
+    let lower = lower_limits(by.limit).map(|limit| Lent { limit, ..by.clone() });
+    // The plain mode, or the least other.
+    let modes = [PLAIN, 1].into_iter().filter(|mode| *mode < by.mode).map(|mode| by.in_mode(mode));
+    maps.into_iter().map(|map| Lent { map, limit: by.limit, mode: by.mode }).chain(lower).chain(modes).collect()
 }
 
 /// The bytes without a piece or two of them.

@@ -1,11 +1,11 @@
 //! A marker that is wrong in one thing is reported, and with the smallest case.
 
 use side_by_side::check::Case;
-use side_by_side::marker::{Lent, Marker, Proved};
+use side_by_side::marker::{Lent, Marker, PLAIN, Proved};
 use side_by_side::parts::{Sizes, parts};
-use side_by_side::replays::demand_3;
+use side_by_side::replays::{demand_3, reaches_long};
 use side_by_side::run::{Outcome, run};
-use tools::definition::{self, BUILT_IN, Item, Rules, Stacks, built_in_map};
+use tools::definition::{self, BUILT_IN, Item, Rules, Stacks, built_in_map, decode};
 
 const SMALL: Sizes = Sizes {
     three_bytes: Some(2_000),
@@ -20,6 +20,8 @@ const SMALL: Sizes = Sizes {
     mapped: 20_000,
     mapped_papers: 3_000,
     bad_maps: 2_000,
+    examined: 3_000,
+    examined_papers: 1_000,
 };
 
 type OnFragment = fn(&[u8], u32, u32, &mut [u16], [u64; 9]) -> [u64; 9];
@@ -105,7 +107,7 @@ fn reported(marker: Changed, name: &str) -> (Case, String) {
 }
 
 /// Parts that take little time.
-const SHORT: [&str; 10] = [
+const SHORT: [&str; 12] = [
     "bytes, 3, a sample",
     "fragments",
     "nesting",
@@ -116,6 +118,8 @@ const SHORT: [&str; 10] = [
     "maps",
     "papers by maps",
     "bad maps",
+    "examined",
+    "papers, examined",
 ];
 
 fn fragment(main: u32, alt: u32, bytes: &[u8], lent: usize) -> Case {
@@ -160,6 +164,28 @@ fn long_data_told() {
     let Case::Fragments { bytes, other, .. } = &case else { panic!("{case}") };
     assert_eq!((bytes.len(), other.len(), bytes[0], other[0]), (10, 10, 9, 9), "{case}");
     assert!(against.starts_with("ours"), "{against}");
+}
+
+/// The same in examined mode alone, and of papers: 7 or more in the second byte of the data, or in the last of the paper.
+#[test]
+fn long_data_told_in_examined_mode() {
+    let by: By = |by, bytes, main, alt, log, items| {
+        let mut out = proved(by, bytes, main, alt, log, items);
+        out[5] += u64::from(by.examined() && bytes.len() > 9 && bytes[0] == 9 && bytes[2] >= 7);
+        out
+    };
+    let (case, against) = reported(Changed { by, ..UNCHANGED }, "long data");
+    let Case::Fragments { bytes, other, .. } = &case else { panic!("{case}") };
+    assert_eq!((bytes.len(), other.len(), bytes[0], other[0]), (10, 10, 9, 9), "{case}");
+    assert_eq!(against, "ours in examined mode with other long data");
+    let paper_by: PaperBy = |by, paper, log| {
+        let mut out = Proved.mark_paper_with(by, paper, log);
+        out[5] += u64::from(by.examined() && paper.last().is_some_and(|last| *last >= 7));
+        out
+    };
+    let (case, against) = reported(Changed { paper_by, ..UNCHANGED }, "long data");
+    assert!(matches!(case, Case::Papers { .. }), "{case}");
+    assert_eq!(against, "ours in examined mode with other long data");
 }
 
 /// The bytes of an exact item, where there are two or more of them.
@@ -455,19 +481,19 @@ fn maps_and_limits() {
                 return out;
             }
             log.fill(0xfefe);
-            proved(&Lent { map: built_in_map(), limit: by.limit }, bytes, main, alt, log, items)
+            proved(&Lent { map: built_in_map(), ..by.clone() }, bytes, main, alt, log, items)
         }),
         ("maps", |by, bytes, main, alt, log, items| {
             let mut map = by.map.clone();
             if map.len() >= 260 {
                 map[2..4].copy_from_slice(&[4, 0]);
             }
-            proved(&Lent { map, limit: by.limit }, bytes, main, alt, log, items)
+            proved(&Lent { map, ..by.clone() }, bytes, main, alt, log, items)
         }),
         // 244 in place of the limit, in all and in figures alone; a limit that is one off.
         ("small limits", |by, bytes, main, alt, log, items| {
             let limit = if (1..=244).contains(&by.limit) { 244 } else { by.limit };
-            proved(&Lent { map: by.map.clone(), limit }, bytes, main, alt, log, items)
+            proved(&Lent { limit, ..by.clone() }, bytes, main, alt, log, items)
         }),
         ("maps", |by, bytes, main, alt, log, items| {
             let mut out = proved(by, bytes, main, alt, log, items);
@@ -478,7 +504,7 @@ fn maps_and_limits() {
         }),
         ("maps", |by, bytes, main, alt, log, items| {
             let limit = if (1..=243).contains(&by.limit) { by.limit + 1 } else { by.limit };
-            proved(&Lent { map: by.map.clone(), limit }, bytes, main, alt, log, items)
+            proved(&Lent { limit, ..by.clone() }, bytes, main, alt, log, items)
         }),
         // Bad maps let through: push at a later code, a class above 31, a row up to 60 of another class, one row too few.
         ("bad maps", |by, bytes, main, alt, log, items| {
@@ -486,32 +512,32 @@ fn maps_and_limits() {
             if map.len() == 260 {
                 map[4 + 0x61..].iter_mut().filter(|class| **class == 1).for_each(|class| *class = 0);
             }
-            proved(&Lent { map, limit: by.limit }, bytes, main, alt, log, items)
+            proved(&Lent { map, ..by.clone() }, bytes, main, alt, log, items)
         }),
         ("bad maps", |by, bytes, main, alt, log, items| {
             let mut map = by.map.clone();
             if map.len() == 260 {
                 map[4 + 0x61..].iter_mut().filter(|class| **class == 32).for_each(|class| *class = 31);
             }
-            proved(&Lent { map, limit: by.limit }, bytes, main, alt, log, items)
+            proved(&Lent { map, ..by.clone() }, bytes, main, alt, log, items)
         }),
         ("bad maps", |by, bytes, main, alt, log, items| {
             let mut map = by.map.clone();
             if map.len() == 260 && map[4 + 0x50] == 1 {
                 map[4 + 0x50] = 0;
             }
-            proved(&Lent { map, limit: by.limit }, bytes, main, alt, log, items)
+            proved(&Lent { map, ..by.clone() }, bytes, main, alt, log, items)
         }),
         ("bad maps", |by, bytes, main, alt, log, items| {
             let mut map = by.map.clone();
             if map.len() == 259 {
                 map.push(0);
             }
-            proved(&Lent { map, limit: by.limit }, bytes, main, alt, log, items)
+            proved(&Lent { map, ..by.clone() }, bytes, main, alt, log, items)
         }),
         // 0 taken for a limit; the limit judged first; a row written at 28.
         ("bad maps", |by, bytes, main, alt, log, items| {
-            proved(&Lent { map: by.map.clone(), limit: by.limit.max(1) }, bytes, main, alt, log, items)
+            proved(&Lent { limit: by.limit.max(1), ..by.clone() }, bytes, main, alt, log, items)
         }),
         ("bad maps", |by, bytes, main, alt, log, items| {
             let mut out = proved(by, bytes, main, alt, log, items);
@@ -594,11 +620,11 @@ fn raised_limits() {
 fn papers_by_maps() {
     let wrong: [PaperBy; 5] = [
         // By the built-in map; at 244; the dispatch check at 244; its figure; the entry of 6.
-        |by, paper, log| Proved.mark_paper_with(&Lent { map: built_in_map(), limit: by.limit }, paper, log),
-        |by, paper, log| Proved.mark_paper_with(&Lent { map: by.map.clone(), limit: 244 }, paper, log),
+        |by, paper, log| Proved.mark_paper_with(&Lent { map: built_in_map(), ..by.clone() }, paper, log),
+        |by, paper, log| Proved.mark_paper_with(&Lent { limit: 244, ..by.clone() }, paper, log),
         |by, paper, log| {
             let out = Proved.mark_paper_with(by, paper, log);
-            if out[0] == 20 { Proved.mark_paper_with(&Lent { map: by.map.clone(), limit: 244 }, paper, log) } else { out }
+            if out[0] == 20 { Proved.mark_paper_with(&Lent { limit: 244, ..by.clone() }, paper, log) } else { out }
         },
         |by, paper, log| {
             let mut out = Proved.mark_paper_with(by, paper, log);
@@ -635,13 +661,243 @@ fn papers_by_maps() {
     assert!(against.starts_with("the same at a higher limit"), "{against}");
 }
 
+/// As in plain mode, with the log and the items as lent before.
+fn plainly(by: &Lent, bytes: &[u8], main: u32, alt: u32, log: &mut [u16], items: &mut [u64]) -> [u64; 9] {
+    log.fill(0xfefe);
+    proved(&by.in_mode(PLAIN), bytes, main, alt, log, items)
+}
+
+/// Where pushes of more than so many bytes stand, and their lengths.
+fn longer(bytes: &[u8], than: usize) -> Vec<(u64, u64)> {
+    let instructions = decode(bytes).unwrap_or_default();
+    let long = instructions.iter().filter(|instruction| instruction.data.len() > than);
+    long.map(|instruction| (instruction.offset as u64, instruction.data.len() as u64)).collect()
+}
+
+/// Request L7: what is easily got wrong in the examined mode.
+#[test]
+fn examined() {
+    let wrong: [By; 14] = [
+        // The mode is not read, in part, or the other way round; plain mode is examined too.
+        |by, bytes, main, alt, log, items| proved(&by.in_mode(PLAIN), bytes, main, alt, log, items),
+        |by, bytes, main, alt, log, items| proved(&by.in_mode(by.mode & 0xff), bytes, main, alt, log, items),
+        |by, bytes, main, alt, log, items| proved(&by.in_mode(u32::from(by.mode == 1)), bytes, main, alt, log, items),
+        |by, bytes, main, alt, log, items| proved(&by.in_mode(1), bytes, main, alt, log, items),
+        // 521 bytes pass; 520 do not; the length bytes count.
+        |by, bytes, main, alt, log, items| {
+            let out = proved(by, bytes, main, alt, log, items);
+            if out[0] == 30 && out[2] == 521 { plainly(by, bytes, main, alt, log, items) } else { out }
+        },
+        |by, bytes, main, alt, log, items| {
+            let out = proved(by, bytes, main, alt, log, items);
+            let first = longer(bytes, 519).first().copied();
+            let refused = by.examined() && out[0] == 0 && first == Some((0, 520));
+            if refused { [30, 0, 520, 520, 1, 0, 0, 0, 0] } else { out }
+        },
+        |by, bytes, main, alt, log, items| {
+            let mut out = proved(by, bytes, main, alt, log, items);
+            if out[0] == 30 {
+                out[2] += if bytes[out[1] as usize] == 0x4d { 3 } else { 5 };
+            }
+            out
+        },
+        // The figures exchanged; not by 4e; the length in 9 bits.
+        |by, bytes, main, alt, log, items| {
+            let mut out = proved(by, bytes, main, alt, log, items);
+            if out[0] == 30 {
+                out.swap(2, 3);
+            }
+            out
+        },
+        |by, bytes, main, alt, log, items| {
+            let out = proved(by, bytes, main, alt, log, items);
+            let four = out[0] == 30 && bytes[out[1] as usize] == 0x4e;
+            if four { plainly(by, bytes, main, alt, log, items) } else { out }
+        },
+        |by, bytes, main, alt, log, items| {
+            let mut out = proved(by, bytes, main, alt, log, items);
+            if out[0] == 30 {
+                out[2] &= 0x1ff;
+            }
+            out
+        },
+        // In dead code too.
+        |by, bytes, main, alt, log, items| {
+            let mut out = proved(by, bytes, main, alt, log, items);
+            if let Some((offset, length)) = longer(bytes, 520).first().filter(|_| by.examined() && out[0] == 0) {
+                out = [30, *offset, *length, 520, out[4], 0, 0, 0, 0];
+            }
+            out
+        },
+        // Behind the test for room.
+        |by, bytes, main, alt, log, items| {
+            let out = proved(by, bytes, main, alt, log, items);
+            if out[0] != 30 {
+                return out;
+            }
+            let plain = plainly(by, bytes, main, alt, log, items);
+            if (plain[0], plain[1]) == (6, out[1]) {
+                return plain;
+            }
+            log.fill(0xfefe);
+            items.fill(side_by_side::marker::UNWRITTEN);
+            proved(by, bytes, main, alt, log, items)
+        },
+        // The row of the push is not written; an item of the end is lost.
+        |by, bytes, main, alt, log, items| {
+            let mut out = proved(by, bytes, main, alt, log, items);
+            if out[0] == 30 {
+                out[4] -= 1;
+                log[3 * out[4] as usize..][..3].fill(0xfefe);
+            }
+            out
+        },
+        |by, bytes, main, alt, log, items| {
+            let out = proved(by, bytes, main, alt, log, items);
+            if let Some(first) = items.first_mut().filter(|_| by.examined() && out[0] == 0 && out[7] > 0) {
+                *first = 255 - *first;
+            }
+            out
+        },
+    ];
+    for (number, by) in wrong.into_iter().enumerate() {
+        let (case, against) = reported(Changed { by, ..UNCHANGED }, "examined");
+        // By the plain reading, where it is asked first; no more than the push and an instruction or two.
+        let Case::FragmentBy { by, bytes, .. } = &case else { panic!("{number}: {case}") };
+        assert!(against.starts_with("document 01"), "{number}: {against}");
+        assert!(bytes.len() <= 540, "{number}: {case}");
+        assert_eq!(by.map, built_in_map(), "{number}: {case}");
+    }
+}
+
+/// The two modes beside one another, and plain replays: with the log just long enough, as it is lent there alone.
+#[test]
+fn both_modes() {
+    let wrong: [By; 4] = [
+        // 30 where no replay comes; 0 where one comes; another row; another item.
+        |by, bytes, main, alt, log, items| {
+            let out = proved(by, bytes, main, alt, log, items);
+            let there = by.examined() && log.len() == 3 * bytes.len() && out[0] == 0 && !longer(bytes, 520).is_empty();
+            if there { [30, 0, 521, 520, 1, 0, 0, 0, 0] } else { out }
+        },
+        |by, bytes, main, alt, log, items| {
+            let there = by.examined() && log.len() == 3 * bytes.len();
+            proved(&by.in_mode(if there { PLAIN } else { by.mode }), bytes, main, alt, log, items)
+        },
+        |by, bytes, main, alt, log, items| {
+            let out = proved(by, bytes, main, alt, log, items);
+            if by.mode > 1 && log.len() == 3 * bytes.len() && out[0] == 0 && items.len() > 3 && out[4] > 1 {
+                log[4] ^= 1;
+            }
+            out
+        },
+        |by, bytes, main, alt, log, items| {
+            let out = proved(by, bytes, main, alt, log, items);
+            if by.mode > 1 && log.len() == 3 * bytes.len() && out[0] == 0 && items.len() > 3 && out[7] > 0 {
+                items[0] ^= 1;
+            }
+            out
+        },
+    ];
+    for (number, by) in wrong.into_iter().enumerate() {
+        let (case, against) = reported(Changed { by, ..UNCHANGED }, "examined");
+        assert!(matches!(case, Case::Examined { .. }), "{number}: {case}");
+        assert!(against.starts_with("the same in plain mode"), "{number}: {against}");
+    }
+}
+
+/// The same of papers.
+#[test]
+fn papers_examined() {
+    let wrong: [PaperBy; 4] = [
+        // The mode is not read; the entry; the offset in the paper; a row of the accepted fragments before.
+        |by, paper, log| Proved.mark_paper_with(&by.in_mode(PLAIN), paper, log),
+        |by, paper, log| {
+            let mut out = Proved.mark_paper_with(by, paper, log);
+            out[1] += u64::from(out[0] == 30);
+            out
+        },
+        |by, paper, log| {
+            let mut out = Proved.mark_paper_with(by, paper, log);
+            if out[0] == 30 {
+                out[2] += 14;
+            }
+            out
+        },
+        |by, paper, log| {
+            let mut out = Proved.mark_paper_with(by, paper, log);
+            if out[0] == 30 {
+                out[5] = 1;
+            }
+            out
+        },
+    ];
+    for (number, paper_by) in wrong.into_iter().enumerate() {
+        let (case, against) = reported(Changed { paper_by, ..UNCHANGED }, "papers, examined");
+        let Case::PaperBy { bytes, .. } = &case else { panic!("{number}: {case}") };
+        // One entry or two, and a push.
+        assert!(bytes.len() <= 24 + 540, "{number}: {case}");
+        assert!(against.starts_with("document 01"), "{number}: {against}");
+    }
+    // Accepted, or refused, in examined mode alone where both modes stand beside one another.
+    let wrong: [PaperBy; 2] = [
+        |by, paper, log| {
+            let there = by.examined() && log.len() == 3 * paper.len();
+            Proved.mark_paper_with(&by.in_mode(if there { PLAIN } else { by.mode }), paper, log)
+        },
+        |by, paper, log| {
+            let out = Proved.mark_paper_with(by, paper, log);
+            let there = by.mode > 1 && log.len() == 3 * paper.len() && out[0] == 0 && by.limit == 244;
+            if there { [30, 0, 0, 521, 520, 1, 0] } else { out }
+        },
+    ];
+    for (number, paper_by) in wrong.into_iter().enumerate() {
+        let (case, against) = reported(Changed { paper_by, ..UNCHANGED }, "papers, examined");
+        let (wanted, again) = match &case {
+            Case::ExaminedPaper { .. } => ("the same in plain mode", false),
+            Case::PaperAt { .. } => ("the same at a higher limit", true),
+            _ => panic!("{number}: {case}"),
+        };
+        assert!(against.starts_with(wanted) && (number == 1 || !again), "{number}: {case} {against}");
+    }
+}
+
+/// Whether a replay reaches a long push: with all choices tried, and where there are too many of them.
+#[test]
+fn long_pushes_reached() {
+    let long = [&[0x4d, 0x09, 0x02][..], &[7; 521]].concat();
+    let reaches = |bytes: &[u8], main| reaches_long(&BUILT_IN, bytes, main, 0, 9);
+    assert_eq!(reaches(&long, 0), Some(true));
+    assert_eq!(reaches(&[&[0x4d, 0x08, 0x02][..], &[7; 520]].concat(), 0), Some(false));
+    assert_eq!(reaches(&[&[0x6a], &long[..]].concat(), 0), Some(false));
+    assert_eq!(reaches(&[&[0x63, 0x6a, 0x67, 0x6a, 0x68], &long[..]].concat(), 1), Some(false));
+    assert_eq!(reaches(&[&[0x63, 0x61, 0x67], &long[..], &[0x75, 0x68]].concat(), 1), Some(true));
+    // Eight conditionals are 256 lists of choices.
+    let many = [0x51, 0x63, 0x68].repeat(8);
+    assert_eq!(reaches(&[&many[..], &[0x6a], &long].concat(), 0), None);
+    assert_eq!(reaches(&[&many[..], &long].concat(), 0), Some(true));
+    assert_eq!(reaches(&many, 0), Some(false));
+}
+
+/// Demand 3 in examined mode: a fault where plain replays have none.
+#[test]
+fn replays_in_examined_mode() {
+    let bytes = [&[0x51, 0x4d, 0x09, 0x02][..], &[7; 521], &[0x75]].concat();
+    let mut log = vec![0; 9];
+    let ours = Proved.analyze(&bytes, 0, 0, &mut log);
+    let end = definition::analysis(&bytes, 0, 0, &mut [0; 9]).end;
+    assert!(demand_3(&BUILT_IN, &bytes, 0, 0, 9, &ours, &log, end.as_ref()).is_ok());
+    let (_, theirs) = demand_3(&BUILT_IN.clone().in_mode(true), &bytes, 0, 0, 9, &ours, &log, end.as_ref()).unwrap_err();
+    assert!(theirs.contains("a fault at instruction 1: a long element"), "{theirs}");
+}
+
 /// Demand 3 by a map and a limit, with the answer for a fragment changed in one thing.
 #[test]
 fn replays_by_a_map() {
     let mut map = built_in_map();
     map[4 + 0xff] = 3;
     map[4 + 0xfe] = 6;
-    let by = Lent { map, limit: 3 };
+    let by = Lent::plain(map, 3);
     let rules = Rules::read(&by.map, by.limit).expect("good rules");
     // ff 51 fe 61: an IF, a push, an ENDIF; from two items, so that the arms differ; with 75 they do not.
     let bytes = [0xff, 0x51, 0x75, 0xfe, 0x51];

@@ -1,5 +1,5 @@
 //! Document 01 once more, written from its text alone: sections 1 to 4, 6 and 7, with
-//! requests L2 and L6 of document 02. Section 5 is in `replay.rs`.
+//! requests L2, L6 and L7 of document 02. Section 5 is in `replay.rs`.
 
 use reference::{Answer, PaperAnswer};
 
@@ -104,7 +104,7 @@ pub fn index(bytes: &[u8]) -> Result<u64, NoIndex> {
     Ok(number)
 }
 
-// Section 2, and the map and the limit of request L6.
+// Section 2, the map and the limit of request L6, and the mode of request L7.
 
 #[derive(Clone, Copy, Debug, PartialEq, Eq)]
 pub enum Class {
@@ -207,15 +207,19 @@ pub const fn class_of(opcode: u8) -> Class {
     }
 }
 
-/// The class of each opcode, and how many items both stacks hold at most.
+/// The class of each opcode, how many items both stacks hold at most, and whether the mode is the examined one.
 #[derive(Clone, Debug, PartialEq, Eq)]
 pub struct Rules {
     classes: [Class; 256],
     pub limit: usize,
+    pub examined: bool,
 }
 
 /// Document 01's own.
-pub static BUILT_IN: Rules = Rules { classes: built_in_classes(), limit: 244 };
+pub static BUILT_IN: Rules = Rules { classes: built_in_classes(), limit: 244, examined: false };
+
+/// "its element limit is 520 bytes"
+pub const ELEMENT: usize = 520;
 
 const fn built_in_classes() -> [Class; 256] {
     let mut classes = [Class::Unmodelled; 256];
@@ -228,13 +232,23 @@ const fn built_in_classes() -> [Class; 256] {
 }
 
 impl Rules {
-    /// Those of a lent map and limit, or the number that is given of them: 28 goes before 29.
+    /// Those of a lent map and limit in plain mode, or the number that is given of them: 28 goes before 29.
     pub fn read(map: &[u8], limit: u32) -> Result<Self, u32> {
         let classes = classes_of_map(map).ok_or(28u32)?;
         if limit < 1 || limit > 244 {
             return Err(29);
         }
-        Ok(Self { classes, limit: limit as usize })
+        Ok(Self { classes, limit: limit as usize, examined: false })
+    }
+
+    /// The same in this mode.
+    pub fn in_mode(self, examined: bool) -> Self {
+        Self { examined, ..self }
+    }
+
+    /// Whether this instruction is a push of "a literal above 520 bytes".
+    pub fn pushes_long(&self, instruction: &Instruction) -> bool {
+        self.class(instruction.opcode) == Class::Push && instruction.data.len() > ELEMENT
     }
 
     pub fn class(&self, opcode: u8) -> Class {
@@ -368,6 +382,10 @@ impl Stacks {
 fn step(rules: &Rules, stacks: Stacks, instruction: &Instruction) -> Result<Stacks, Refusal> {
     let limit = rules.limit;
     match rules.class(instruction.opcode) {
+        // "figures length and 520, ahead of the test for room at that push"
+        Class::Push if rules.examined && rules.pushes_long(instruction) => {
+            Err((30, instruction.data.len() as u64, ELEMENT as u64))
+        }
         Class::Push => stacks.push(instruction.literal(), limit),
         Class::Nothing => Ok(stacks),
         Class::ToAlt => {
@@ -561,10 +579,10 @@ pub fn analysis(bytes: &[u8], main: u32, alt: u32, log: &mut [u16]) -> Verdict {
     analysis_by(&BUILT_IN, bytes, main, alt, log)
 }
 
-/// The same by a lent map and limit, which are judged first.
-pub fn analysis_with(map: &[u8], limit: u32, bytes: &[u8], main: u32, alt: u32, log: &mut [u16]) -> Verdict {
+/// The same by a lent map and limit, which are judged first, in plain or examined mode.
+pub fn analysis_with(map: &[u8], limit: u32, examined: bool, bytes: &[u8], main: u32, alt: u32, log: &mut [u16]) -> Verdict {
     match Rules::read(map, limit) {
-        Ok(rules) => analysis_by(&rules, bytes, main, alt, log),
+        Ok(rules) => analysis_by(&rules.in_mode(examined), bytes, main, alt, log),
         Err(number) => Verdict::refused(refuse(number, 0), 0),
     }
 }
@@ -632,10 +650,10 @@ pub fn mark(bytes: &[u8], log: &mut [u16]) -> PaperVerdict {
     mark_by(&BUILT_IN, bytes, log)
 }
 
-/// The same by a lent map and limit, which are judged first.
-pub fn mark_with(map: &[u8], limit: u32, bytes: &[u8], log: &mut [u16]) -> PaperVerdict {
+/// The same by a lent map and limit, which are judged first, in plain or examined mode.
+pub fn mark_with(map: &[u8], limit: u32, examined: bool, bytes: &[u8], log: &mut [u16]) -> PaperVerdict {
     match Rules::read(map, limit) {
-        Ok(rules) => mark_by(&rules, bytes, log),
+        Ok(rules) => mark_by(&rules.in_mode(examined), bytes, log),
         Err(number) => PaperVerdict::refused(number, 0, 0, 0),
     }
 }
@@ -689,6 +707,16 @@ fn mark_by(rules: &Rules, bytes: &[u8], log: &mut [u16]) -> PaperVerdict {
         }
     }
     PaperVerdict { answer: PaperAnswer::ACCEPTED, rows, peak }
+}
+
+/// The fragments of a paper whose header is good, with the heights that each is analysed from; an empty initialiser is none.
+pub fn fragments(bytes: &[u8]) -> Vec<(&[u8], u32, u32)> {
+    let field = |at: usize| u32::from(bytes[at]) + 256 * u32::from(bytes[at + 1]);
+    let part = |at: usize| &bytes[field(at) as usize..][..field(at + 2) as usize];
+    let entries: Vec<usize> = (0..field(0) as usize).map(|k| 8 + 6 * k).collect();
+    let most = entries.iter().map(|at| field(*at)).max().unwrap_or(0);
+    let bodies = entries.iter().map(|at| (part(at + 2), field(*at) + field(2), 0));
+    bodies.chain([(part(4), most, 1)].into_iter().filter(|(initialiser, _, _)| !initialiser.is_empty())).collect()
 }
 
 /// The part of the body (mark 0) or of the initialiser (mark 1) that stands at an offset.

@@ -4,6 +4,7 @@
 pub mod blank;
 pub mod case;
 pub mod definition;
+pub mod elements;
 pub mod generate;
 pub mod maps;
 pub mod model;

@@ -1,4 +1,4 @@
-//! Document 01, section 5: replays with real bytes, written from its text alone, by any classes and limit.
+//! Document 01, section 5: replays with real bytes, written from its text alone, by any classes and limit and in both modes.
 
 use crate::definition::{Class, Instruction, Rules, index, written};
 
@@ -89,6 +89,8 @@ impl Replay<'_> {
     /// One instruction that is no conditional and no RETURN.
     fn step(&mut self, instruction: &Instruction) -> Step {
         match self.rules.class(instruction.opcode) {
+            // Request L7: "the replay faults on pushing a literal above 520 bytes".
+            Class::Push if self.rules.examined && self.rules.pushes_long(instruction) => Err("a long element"),
             Class::Push => self.push(instruction.data.to_vec()),
             Class::Nothing => Ok(()),
             Class::ToAlt => {

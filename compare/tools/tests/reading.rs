@@ -3,7 +3,8 @@
 
 use reference::{Answer, PaperAnswer};
 use tools::definition::{
-    BUILT_IN, CLASSES, Class, Rules, Stacks, Verdict, analysis, analysis_with, built_in_map, decode, display, mark, mark_with,
+    BUILT_IN, CLASSES, Class, Rules, Stacks, Verdict, analysis, analysis_with, built_in_map, decode, display, fragments, mark,
+    mark_with,
 };
 use tools::replay::{Ending, Trace, replay};
 
@@ -199,7 +200,7 @@ fn bad_maps_and_limits() {
 
 #[test]
 fn by_a_lent_map() {
-    let by = |rows: &[(u8, u8)], bytes: &[u8], main| analysis_with(&map(rows), 244, bytes, main, 0, &mut [LENT; 30]);
+    let by = |rows: &[(u8, u8)], bytes: &[u8], main| analysis_with(&map(rows), 244, false, bytes, main, 0, &mut [LENT; 30]);
     // Two IFs and no ELSE.
     let rows = [(0xff, 3), (0x67, 0)];
     let verdict = by(&rows, b"\x63\xff\x68\x51\x68", 2);
@@ -215,9 +216,9 @@ fn by_a_lent_map() {
     // 28 and 29 before 1 and 21, with nothing written.
     let mut log = [LENT; 3];
     for (map, limit, number) in [(&map(&[])[..259], 0, 28), (&map(&[])[..], 0, 29), (&map(&[])[..], 245, 29)] {
-        let verdict = analysis_with(map, limit, &[0x61; 10_001], 300, 0, &mut log);
+        let verdict = analysis_with(map, limit, false, &[0x61; 10_001], 300, 0, &mut log);
         assert_eq!(verdict, Verdict { answer: Answer { number, offset: 0, a: 0, b: 0 }, rows: 0, peak: 0, end: None });
-        let verdict = mark_with(map, limit, &[0; 8_001], &mut log);
+        let verdict = mark_with(map, limit, false, &[0; 8_001], &mut log);
         assert_eq!(verdict.answer, PaperAnswer { number, entry: 0, offset: 0, a: 0, b: 0 });
     }
     assert_eq!(log, [LENT; 3]);
@@ -226,7 +227,7 @@ fn by_a_lent_map() {
 #[test]
 fn by_a_lent_limit() {
     let map = built_in_map();
-    let by = |limit, bytes: &[u8], main| analysis_with(&map, limit, bytes, main, 0, &mut [LENT; 30]).answer;
+    let by = |limit, bytes: &[u8], main| analysis_with(&map, limit, false, bytes, main, 0, &mut [LENT; 30]).answer;
     assert_eq!(by(1, b"\x51", 0), Answer::ACCEPTED);
     assert_eq!(by(1, b"\x51\x76", 0), Answer { number: 6, offset: 1, a: 2, b: 1 });
     assert_eq!(by(1, b"", 2), Answer { number: 2, offset: 0, a: 2, b: 1 });
@@ -235,12 +236,69 @@ fn by_a_lent_limit() {
     let sample = b"\x01\x00\x01\x00\x0e\x00\x00\x00\x01\x00\x0e\x00\x06\x00\x63\x51\x67\x52\x68\x75";
     for limit in 1..=4 {
         let answer = PaperAnswer { number: 20, entry: 0, offset: 0, a: 5, b: limit };
-        assert_eq!(mark_with(&map, limit as u32, sample, &mut [LENT; 18]).answer, answer);
+        assert_eq!(mark_with(&map, limit as u32, false, sample, &mut [LENT; 18]).answer, answer);
     }
     for limit in [5, 244] {
-        let verdict = mark_with(&map, limit, sample, &mut [LENT; 18]);
+        let verdict = mark_with(&map, limit, false, sample, &mut [LENT; 18]);
         assert_eq!((verdict.answer, verdict.rows, verdict.peak), (PaperAnswer::ACCEPTED, 6, 2));
     }
+}
+
+/// A push of so many bytes.
+fn pushed(size: u16) -> Vec<u8> {
+    [&[0x4d][..], &size.to_le_bytes(), &vec![0xab; size.into()]].concat()
+}
+
+/// Request L7.
+#[test]
+fn in_examined_mode() {
+    let map = built_in_map();
+    let by = |examined, limit, bytes: &[u8], main| {
+        let mut log = [LENT; 30];
+        let verdict = analysis_with(&map, limit, examined, bytes, main, 0, &mut log);
+        (verdict.answer, verdict.rows, heights(&verdict.end), log)
+    };
+    let long = Answer { number: 30, offset: 0, a: 521, b: 520 };
+    assert_eq!(by(true, 1, &pushed(520), 0), by(false, 1, &pushed(520), 0));
+    assert_eq!(by(false, 1, &pushed(521), 0).0, Answer::ACCEPTED);
+    assert_eq!(by(true, 1, &pushed(521), 0).0, long);
+    // Ahead of the test for room at that push, and of nothing before it.
+    assert_eq!(by(false, 1, &pushed(521), 1).0, Answer { number: 6, offset: 0, a: 2, b: 1 });
+    assert_eq!((by(true, 1, &pushed(521), 1).0, by(true, 1, &pushed(521), 1).1), (long, 1));
+    assert_eq!(by(true, 1, &[&[0x51], &pushed(521)[..]].concat(), 1).0, Answer { number: 6, offset: 0, a: 2, b: 1 });
+    assert_eq!(by(true, 1, &pushed(521), 2).0, Answer { number: 2, offset: 0, a: 2, b: 1 });
+    // In live code alone.
+    let dead = [&[0x6a], &pushed(521)[..]].concat();
+    assert_eq!(by(true, 1, &dead, 0), by(false, 1, &dead, 0));
+    // SIZE's result and what a result may be are not measured.
+    assert_eq!(by(true, 5, b"\x82\x00\xd2", 2).0, Answer::ACCEPTED);
+    // A paper: the second of two parts.
+    let body = [&[0x75], &pushed(521)[..]].concat();
+    let numbers: [u16; 10] = [2, 0, 20, 0, 0, 20, 0, 1, 20, body.len() as u16];
+    let paper = [&numbers.map(u16::to_le_bytes).concat(), &body[..]].concat();
+    let verdict = mark_with(&map, 4, true, &paper, &mut [LENT; 30]);
+    assert_eq!((verdict.answer, verdict.rows), (PaperAnswer { number: 30, entry: 1, offset: 1, a: 521, b: 520 }, 2));
+    assert_eq!(mark_with(&map, 4, false, &paper, &mut [LENT; 30]).answer, PaperAnswer::ACCEPTED);
+    assert_eq!(fragments(&paper), [(&[][..], 0, 0), (&body, 1, 0)]);
+    assert_eq!(fragments(b"\x01\x00\x02\x00\x0e\x00\x01\x00\x03\x00\x0f\x00\x00\x00\x61"), [(&[][..], 5, 0), (b"\x61", 3, 1)]);
+}
+
+/// Request L7: the replay faults on pushing such a literal, and on nothing else that is long.
+#[test]
+fn replays_in_examined_mode() {
+    let by = |examined, bytes: &[u8], choice| {
+        let rules = BUILT_IN.clone().in_mode(examined);
+        let main = vec![vec![1; 600], vec![2; 600]];
+        replay(&rules, &decode(bytes).unwrap_or_default(), main, Vec::new(), &mut || choice, &mut || vec![0xaa; 600]).ending
+    };
+    let ran = |ending: Ending| matches!(ending, Ending::RanOff { .. });
+    assert!(ran(by(true, &pushed(520), true)) && ran(by(false, &pushed(521), true)));
+    assert_eq!(by(true, &pushed(521), true), Ending::Fault { place: 0, why: "a long element" });
+    let armed = [&[0x63], &pushed(521)[..], &[0x68]].concat();
+    assert_eq!(by(true, &armed, true), Ending::Fault { place: 1, why: "a long element" });
+    assert!(ran(by(true, &armed, false)));
+    assert!(ran(by(true, b"\x76\x93\x93\x82", true)));
+    assert_eq!(by(true, &[&[0x6a], &pushed(521)[..]].concat(), true), Ending::Returned);
 }
 
 #[test]

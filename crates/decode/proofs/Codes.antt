@@ -8,12 +8,13 @@ use native.Mathlib.Omega.{arith}
 use borrow.Author.Tests.{leb-true}
 use lib.Dec.{leb, eqb}
 use lib.ListN.{length, take, drop, getD, length-drop}
-use lib.Seq.{drop-drop}
+use lib.Seq.{drop-drop, getD-drop}
 use Rattle.definition.specs.Basics.{Bytes, pick}
+use Rattle.definition.specs.Blank.{lengthBytes}
 use Rattle.definition.specs.Decoding.{number, Front, whole, short, alone, pushes, sized, front, Code, ends, malformed, then, onFront, decodeFrom, decode, instructions, malformedAt}
 use Rattle.definition.specs.Walk.{known}
 use Rattle.definition.specs.Replay.{AreBytes}
-use Rattle.decode.specs.View.{itemOf, valueOf, Held, decodedFront, decodedRest, decodedAt, codeAt, instruction, yieldOf, yielded, rest, countedOf, countBy, countIn}
+use Rattle.decode.specs.View.{itemOf, valueOf, Held, decodedFront, decodedRest, decodedAt, codeAt, dataStart, instruction, yieldOf, yielded, rest, countedOf, countBy, countIn}
 use Rattle.decode.specs.declared.Instruction.{Instruction}
 use Rattle.decode.specs.declared.Decoded.{Decoded}
 use Rattle.decode.specs.declared.Decoded.the-variants.{At, End, Malformed}
@@ -21,6 +22,7 @@ use Rattle.decode.specs.declared.Counted.the-variants as C
 use Rattle.decode.proofs.Bytes.{bytes-take, bytes-drop}
 use Rattle.decode.proofs.Values.{held-known, item-of-known}
 use Rattle.decode.proofs.Fronts.{at-end, at-alone}
+use Rattle.decode.proofs.Behind.{Behind, behind-front}
 
 -- bytes that belong to the instruction before are passed over
 passing : (k p : ℕ) (l : Bytes) → decodeFrom k p l ≡ decodeFrom 0 (p + k) (drop k l)
@@ -77,6 +79,8 @@ pub record InstructionAt (s : Bytes) (p : ℕ) (i : Instruction) : Type 0 where
   pub value : valueOf (known literal) ≡ i .literal
   pub item : itemOf (i .literal) ≡ known literal
   pub held : Held (i .literal)
+  -- data of more than 8 bytes ends where the next instruction stands
+  pub long : 8 < length literal → dataStart s p + length literal ≡ i .next
   pub offset : i .offset ≡ p
   pub opcodeByte : i .opcode < 256
   pub onward : p < i .next
@@ -101,6 +105,11 @@ module _ (s : Bytes) (p : ℕ) where
   unfolding codeAt
   code-next b rest after e = passing after (p + 1) rest ∙ ap (decodeFrom 0 (p + 1 + after)) (drop-next b rest after e)
 
+  first-byte : (b : ℕ) (rest : Bytes) → drop p s ≡ b ∷ rest → getD s p 0 ≡ b
+  first-byte b rest e =
+      let z : p + 0 ≡ p = omega arith in
+      ap (λ n. getD s n 0) (sym z) ∙ sym (getD-drop p s 0 0) ∙ ap (λ l. getD l 0 0) e
+
   instruction-front : (b : ℕ) (rest : Bytes) (f : Front) → drop p s ≡ b ∷ rest → b < 256 → front b rest ≡ f → Within rest f
       → (i : Instruction) → decodedFront f b p ≡ At i → InstructionAt s p i
   instruction-front b rest f e lt q (is-whole {after = after} {literal = l} w k) i h =
@@ -111,6 +120,7 @@ module _ (s : Bytes) (p : ℕ) where
         value = refl;
         item = item-of-known l k;
         held = held-known l k;
+        long = λ h. let n = subst (Behind (lengthBytes b)) q (behind-front b rest) h in rw (first-byte b rest e) (omega (arith, n));
         offset = refl;
         opcodeByte = lt;
         onward = omega arith;

@@ -2,4 +2,5 @@
 pub mod Bytes
 pub mod Values
 pub mod Fronts
+pub mod Behind
 pub mod Codes

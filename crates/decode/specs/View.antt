@@ -2,8 +2,9 @@
 use mathlib.Core.List.{List, [], _∷_}
 use mathlib.Core.Option.{Option, none, some}
 use Prim.Native.Nat.{ℕ, zero, suc, _+_, _*_, _/_, _%_, _^_, _≤_, _<_}
-use lib.ListN.{length, drop}
+use lib.ListN.{length, drop, getD}
 use Rattle.definition.specs.Basics.{Bytes}
+use Rattle.definition.specs.Blank.{lengthBytes}
 use Rattle.definition.specs.Decoding.{number, Front, whole, short, front, Code, ends, malformed, then, decodeFrom, instructions, malformedAt}
 use Rattle.definition.specs.Decoding as D
 use Rattle.definition.specs.Refusals.{malformedFragment, Answer, accepted, refusedAt}
@@ -52,6 +53,10 @@ decodedAt fragment offset = decodedRest (drop offset fragment) offset
 -- the code that a reading head at offset p of a fragment yields from there on
 unfoldable pub codeAt : Bytes → ℕ → Code
 codeAt s p = decodeFrom 0 p (drop p s)
+
+-- where the data of the instruction at an offset begins: behind its opcode and the bytes of its length
+abbrev pub dataStart : Bytes → ℕ → ℕ
+dataStart fragment offset = offset + 1 + lengthBytes (getD fragment offset 0)
 
 -- "yields its instructions in order, then the end or 3": one thing yielded
 pub data Yield : Type 0 where

@@ -1,12 +1,16 @@
 // Decoding: document 01, section 1.
+ghost use mathlib.Core.Bool.{_&&_};
 ghost use mathlib.Core.Path.{_≡_};
 ghost use Prim.Native.Nat.{_+_, _-_, _≤_, _<_};
+ghost use lib.Dec.{ltb};
 ghost use lib.ListN.{length, take, drop, getD};
 // `Decoding.f` is the f of document 01, section 1, in crates/definition/specs/Decoding.antt.
 ghost use Rattle.definition.specs.Decoding as Decoding;
 ghost use Rattle.definition.specs.Decoding.{decode};
+ghost use Rattle.definition.specs.Blank.{lengthBytes};
+ghost use Rattle.definition.specs.Refusals.{maxElement};
 ghost use Rattle.definition.specs.Walk.{known};
-ghost use Rattle.decode.specs.View.{valueOf, decodedFront, decodedAt, codeAt, yieldOf, yielded, countedOf, countIn};
+ghost use Rattle.decode.specs.View.{valueOf, decodedFront, decodedAt, codeAt, dataStart, yieldOf, yielded, countedOf, countIn};
 
 // What is known of an item: nothing, or its length and its bytes as one number, the first byte the lowest.
 pub enum Value {
@@ -165,6 +169,43 @@ pub fn decode_at(fragment: &[u8], offset: usize) -> Decoded
         });
     }
     pushing(fragment, opcode, offset)
+}
+
+// How many bytes of length follow an opcode.
+fn length_bytes(opcode: u8) -> usize
+    ensures { λ r. ⌜ r ≡ lengthBytes opcode ⌝ }
+{
+    if opcode == 0x4c {
+        return 1;
+    }
+    if opcode == 0x4d {
+        return 2;
+    }
+    if opcode == 0x4e {
+        return 4;
+    }
+    0
+}
+
+// How many bytes of data an instruction has, by where it stands and where the next one does. Request L7: "an instruction keeps its
+// length for this".
+pub fn data_size(fragment: &[u8], offset: usize, next: usize) -> usize
+    requires { ⌜ (offset < length (now fragment)) × (dataStart (now fragment) offset ≤ next) ⌝ }
+    ensures { λ r. ⌜ r ≡ next - dataStart (now (fragment .entry)) offset ⌝ }
+{
+    let n = length_bytes(fragment[offset]);
+    next - (offset + 1 + n)
+}
+
+// Whether that is more than the examined mode takes of a literal.
+pub fn too_long(fragment: &[u8], offset: usize, next: usize, examined: bool) -> bool
+    requires { ⌜ (offset < length (now fragment)) × (dataStart (now fragment) offset ≤ next) ⌝ }
+    ensures { λ r. ⌜ r ≡ (examined && ltb maxElement (next - dataStart (now (fragment .entry)) offset)) ⌝ }
+{
+    if examined {
+        return data_size(fragment, offset, next) > 520;
+    }
+    false
 }
 
 // How many instructions there are, or where the fragment is malformed.

@@ -1,9 +1,9 @@
--- One law over rules, for requests L6 and L8: what some rules accept, rules that allow as much (`Allows`) answer with the same
+-- One law over rules, for requests L6, L7 and L8: what some rules accept, rules that allow as much (`Allows`) answer with the same
 -- verdict and the same log, fragments and papers: `allowedFollows`.
 --
 -- It is proved in a stronger form, for rules S with any limit: S answers the same, or it is short of room at its own limit. One
 -- law to a layer: step, walk, analysis, paper.
-use mathlib.Core.Bool.{Bool, true, false}
+use mathlib.Core.Bool.{Bool, true, false, _&&_}
 use mathlib.Core.List.{List, [], _∷_}
 use mathlib.Core.Logic.{_⊎_, inl, inr, ⊎-elim}
 use mathlib.Core.Option.{Option, none, some}
@@ -16,8 +16,8 @@ use lib.ListN.{length, length-append, length-take, length-drop, length-replicate
 use Rattle.definition.specs.Basics.{Bytes, pick}
 use Rattle.definition.specs.Decoding.{Instruction, Code, decode, instructions, malformedAt, Index, notKnown, noNumber, negative, index, indexOf}
 use Rattle.definition.specs.Classes.{Class, IF, NOTIF, ELSE, ENDIF, RETURN, ordinary, plain, Ordinary, unmodelled, push, nothing, TOALT, FROMALT, DEPTH, SIZE, NIP, TUCK, PICK, ROLL, ZK, copies, rotates}
-use Rattle.definition.specs.Refusals.{Refusal, maxFragment, longFragment, startTooLarge, shortLog, stacksFull, mainDry}
-use Rattle.definition.specs.Stacks.{Rules, Stacks, Outcome, done, refused, ItemOps, Tag, noTag, groth16, r0Succinct, tagOf, total, withMain, needs, room, onDone, pushItem, popFrom, dropItems, copyItems, tuckTop, readable, popIndex, zkDrop, zkBy, step, pushResults, plainStep}
+use Rattle.definition.specs.Refusals.{Refusal, maxFragment, maxElement, longElement, longFragment, startTooLarge, shortLog, stacksFull, mainDry}
+use Rattle.definition.specs.Stacks.{Rules, Stacks, Outcome, done, refused, ItemOps, Tag, noTag, groth16, r0Succinct, tagOf, total, withMain, needs, room, onDone, pushItem, popFrom, dropItems, copyItems, tuckTop, readable, popIndex, zkDrop, zkBy, pushLiteral, step, pushResults, plainStep}
 use Rattle.definition.specs.Walk.{Item, marking, Arm, dead, live, Frame, Move, moves, refuses, onOutcome, effect, State, met, totalOf, onward, WalkEnd, passed, stopped, follow, walk, Marked, refusedEarly, answered, begin, tested, analysisOf, unknowns, analysis}
 use Rattle.definition.specs.Allows.{Models, keeps, gainsOrdinary, gainsPlain}
 use Rattle.definition.proofs.Arms.{goes-on, peak-grows}
@@ -127,25 +127,48 @@ module _ {A : Type 0} {l m : ℕ} {P : Type 0} where
         results zero t = alike _
         results (suc n) t = pushItem-fits _ t
 
-pub step-fits : {A : Type 0} (I : ItemOps A) (R S : Rules) (i : Instruction) (o : Ordinary) (s : Stacks A)
+-- S examines no more than R
+abbrev pub Examines : Rules → Rules → Type 0
+Examines R S = S .examined ≡ true → R .examined ≡ true
+
+pushLiteral-fits : {A : Type 0} {P : Type 0} (I : ItemOps A) (R S : Rules) → Examines R S → (l : Bytes) (s : Stacks A)
+    → Fits (R .limit) (S .limit) P (pushLiteral I R l s) (pushLiteral I S l s)
+pushLiteral-fits {P = P} I R S m l s = by (R .examined) (S .examined) (ltb maxElement (length l)) m
+  where
+    by : (a b c : Bool) → (b ≡ true → a ≡ true)
+        → Fits (R .limit) (S .limit) P
+        (pick (a && c) (refused (longElement (length l))) (pushItem (R .limit) (I .fromBytes l) s))
+        (pick (b && c) (refused (longElement (length l))) (pushItem (S .limit) (I .fromBytes l) s))
+    by true b true h = never _ _
+    by true true false h = pushItem-fits _ s
+    by true false false h = pushItem-fits _ s
+    by false true c h = let y : false ≡ true = h refl in let z : _≡_ {A = ℕ} 0 1 = cc in absurd (omega arith)
+    by false false c h = pushItem-fits _ s
+
+pub step-fits : {A : Type 0} (I : ItemOps A) (R S : Rules) → Examines R S → (i : Instruction) (o : Ordinary) (s : Stacks A)
     → Fits (R .limit) (S .limit) (ModestCopy o) (step I R i o s) (step I S i o s)
 unfolding step
-step-fits I R S i unmodelled s = alike _
-step-fits I R S i push s = pushItem-fits _ s
-step-fits I R S i nothing s = alike _
-step-fits I R S i TOALT s = alike _
-step-fits I R S i FROMALT s = alike _
-step-fits I R S i DEPTH s = pushItem-fits _ s
-step-fits I R S i SIZE s = popFrom-fits (s .main) (s .alt) _ _ (λ x t. pushItem-fits _ s)
-step-fits I R S i NIP s = alike _
-step-fits I R S i TUCK s = tuckTop-fits s
-step-fits I R S i PICK s = popIndex-fits I s _ _ (λ n t. copyItems-fits (n + 1) 1 (λ p. omega arith) t)
-step-fits I R S i ROLL s = alike _
-step-fits I R S i ZK s = popFrom-fits (s .main) (s .alt) _ _ (λ x t. zkBy-fits I (tagOf (I .toBytes x)) t)
-step-fits I R S i (copies depth count) s = copyItems-fits depth count (λ p. p) s
-step-fits I R S i (rotates count shift) s = alike _
+step-fits I R S m i unmodelled s = alike _
+step-fits I R S m i push s = pushLiteral-fits I R S m (i .literal) s
+step-fits I R S m i nothing s = alike _
+step-fits I R S m i TOALT s = alike _
+step-fits I R S m i FROMALT s = alike _
+step-fits I R S m i DEPTH s = pushItem-fits _ s
+step-fits I R S m i SIZE s = popFrom-fits (s .main) (s .alt) _ _ (λ x t. pushItem-fits _ s)
+step-fits I R S m i NIP s = alike _
+step-fits I R S m i TUCK s = tuckTop-fits s
+step-fits I R S m i PICK s = popIndex-fits I s _ _ (λ n t. copyItems-fits (n + 1) 1 (λ p. omega arith) t)
+step-fits I R S m i ROLL s = alike _
+step-fits I R S m i ZK s = popFrom-fits (s .main) (s .alt) _ _ (λ x t. zkBy-fits I (tagOf (I .toBytes x)) t)
+step-fits I R S m i (copies depth count) s = copyItems-fits depth count (λ p. p) s
+step-fits I R S m i (rotates count shift) s = alike _
 
 -- A move
+
+-- the classes of R and S, and their modes
+pub record Covers (R S : Rules) : Type 0 where
+  pub classFor : (code : ℕ) → Models (R .classFor code) (S .classFor code)
+  pub examined : Examines R S
 
 data FitsMove (l m : ℕ) (P : Type 0) : Move → Move → Type 0 where
   alikeMove : (mv : Move) → FitsMove l m P mv mv
@@ -157,7 +180,7 @@ outcome-fits fs (alike o) = alikeMove _
 outcome-fits fs (full t n g h f) = fullMove (live t) fs n g h f
 outcome-fits fs (never r p) = neverMove r _
 
-module _ (R S : Rules) (i : Instruction) where
+module _ (R S : Rules) (m : Examines R S) (i : Instruction) where
   class-fits : (k : Class) (c : Arm) (fs : List Frame) → FitsMove (R .limit) (S .limit) (Modest k) (effect R i k c fs) (effect S i k c fs)
   class-fits IF c fs = alikeMove _
   class-fits NOTIF c fs = alikeMove _
@@ -167,7 +190,7 @@ module _ (R S : Rules) (i : Instruction) where
   class-fits ENDIF c (f ∷ fs) = alikeMove _
   class-fits RETURN c fs = alikeMove _
   class-fits (ordinary o) dead fs = alikeMove _
-  class-fits (ordinary o) (live s) fs = outcome-fits fs (step-fits marking R S i o s)
+  class-fits (ordinary o) (live s) fs = outcome-fits fs (step-fits marking R S m i o s)
   class-fits (plain pops pushes) dead fs = alikeMove _
   class-fits (plain pops pushes) (live s) fs = outcome-fits fs (plainStep-fits marking pops pushes s)
 
@@ -197,7 +220,7 @@ AllModest R = (code : ℕ) → Modest (R .classFor code)
 moved : (d : Arm) (gs : List Frame) (c : Arm) (fs : List Frame) → moves d gs ≡ moves c fs → totalOf d ≡ totalOf c
 moved d gs c fs e = let z : d ≡ c = cc in ap totalOf z
 
-module _ (R S : Rules) (classes : (code : ℕ) → Models (R .classFor code) (S .classFor code)) (t : State) where
+module _ (R S : Rules) (covers : Covers R S) (t : State) where
   abbrev WalkFits : WalkEnd → Type 0
   WalkFits w = (w ≡ passed t) ⊎ (Full (R .limit) (S .limit) (AllModest R) (t .peak) w)
 
@@ -206,7 +229,7 @@ module _ (R S : Rules) (classes : (code : ℕ) → Models (R .classFor code) (S 
   walk-fits [] s h = inl h
   walk-fits (i ∷ is) s h = goes-on R t i is s h (λ c fs e g.
       by c fs (walk-fits is (onward c fs (met i s)) g) (peak-grows R t is (onward c fs (met i s)) g)
-      (effect-fits R S i (classes (i .opcode)) (s .arm) (s .frames)) e)
+      (effect-fits R S (covers .examined) i (covers .classFor (i .opcode)) (s .arm) (s .frames)) e)
     where
       by : (c : Arm) (fs : List Frame) → WalkFits (walk S is (onward c fs (met i s))) → max (s .peak) (totalOf c) ≤ t .peak
           → {mv nv : Move} → FitsMove (R .limit) (S .limit) (Modest (R .classFor (i .opcode))) mv nv → mv ≡ moves c fs
@@ -231,7 +254,7 @@ pub record Short (l m : ℕ) (P : Type 0) (start peak : ℕ) (n : Marked) : Type
   pub lower : m < l
   pub overPeak : P → m < peak
 
-module _ (R S : Rules) (classes : (code : ℕ) → Models (R .classFor code) (S .classFor code)) where
+module _ (R S : Rules) (covers : Covers R S) where
   abbrev pub AnalysisFits : ℕ → Marked → Marked → Type 0
   AnalysisFits start m n =
       m .verdict .answer .number ≡ 0 → (n ≡ m) ⊎ (Short (R .limit) (S .limit) (AllModest R) start (m .verdict .peak) n)
@@ -248,7 +271,7 @@ module _ (R S : Rules) (classes : (code : ℕ) → Models (R .classFor code) (S 
             lower = omega (arith, f .over, f .within);
             overPeak = λ p. omega (arith, f .over, f .inPeak p);
           }))
-          (walk-fits R S classes t is (begin s log) e)
+          (walk-fits R S covers t is (begin s log) e)
       by (stopped r t) e h = absurd (refused-number (t .offset) r h)
 
   -- of decoded code, from any stacks within the limit

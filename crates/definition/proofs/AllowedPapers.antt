@@ -1,4 +1,4 @@
--- The law over rules of papers, and with it whole: `allowedFollows`, for requests L6 and L8. What some rules accept, rules that
+-- The law over rules of papers, and with it whole: `allowedFollows`, for requests L6, L7 and L8. What some rules accept, rules that
 -- allow as much answer with the same verdict and the same log.
 use mathlib.Core.Bool.{Bool, true, false}
 use mathlib.Core.List.{List, [], _∷_, _++_}
@@ -14,9 +14,9 @@ use Rattle.definition.specs.Refusals.{maxPaper, longPaper, badHeader, di
 use Rattle.definition.specs.Stacks.{Rules}
 use Rattle.definition.specs.Walk.{dead, Verdict, Marked, analysis}
 use Rattle.definition.specs.Papers.{Entry, entriesAt, entryCount, stateFields, initialiser, entries, goodHeader, Fragment, bytesOf, bodyFragments, mostParameters, stateFragments, fragments, PaperMarked, refusedPaper, after, markFrom, dispatch, markPaper}
-use Rattle.definition.specs.Allows.{Models, Allows, Follows}
+use Rattle.definition.specs.Allows.{Allows, Follows}
 use Rattle.definition.proofs.Sound.{and-true}
-use Rattle.definition.proofs.Allowed.{AllModest, Short, AnalysisFits, analysis-fits}
+use Rattle.definition.proofs.Allowed.{Covers, AllModest, Short, AnalysisFits, analysis-fits}
 
 -- The fragments one after another
 
@@ -55,38 +55,39 @@ module _ (R : Rules) where
       by out onward true e h = let g = onward (rows + v .rows) (max peak (v .peak)) out h in omega (arith, g)
       by out onward false e h = absurd (eqb-false (v .answer .number) 0 e h)
 
-module _ (R S : Rules) (classes : (code : ℕ) → Models (R .classFor code) (S .classFor code)) where
+-- on from the answer for fragment k by these rules, as `markFrom` goes
+module _ (k rows peak : ℕ) (fs : List Fragment) (log : List ℕ) where
+  unfoldable pub next : Rules → Marked → Bool → PaperMarked
+  next T a b =
+      pick b (after (a .verdict) (markFrom T (k + 1) (rows + a .verdict .rows) (max peak (a .verdict .peak)) fs (take (3 * rows) log ++ a .log)))
+      (record {
+        paper = record { entry = k; verdict = record { answer = a .verdict .answer; rows = rows + a .verdict .rows; peak = 0; end = dead } };
+        verdicts = [];
+        log = take (3 * rows) log ++ a .log;
+      })
+
+module _ (R S : Rules) (covers : Covers R S) where
   abbrev FromFits : Type 0 → PaperMarked → PaperMarked → Type 0
   FromFits Starts m n =
       m .paper .verdict .answer .number ≡ 0
       → (n ≡ m) ⊎ (ShortFrom (R .limit) (S .limit) (AllModest R) Starts (m .paper .verdict .peak) n)
 
-  -- on from the answer for a fragment
   module _ (k rows peak : ℕ) (fs : List Fragment) (log : List ℕ) where
-    next : Rules → Marked → Bool → PaperMarked
-    next T a b =
-        pick b (after (a .verdict) (markFrom T (k + 1) (rows + a .verdict .rows) (max peak (a .verdict .peak)) fs (take (3 * rows) log ++ a .log)))
-        (record {
-          paper = record { entry = k; verdict = record { answer = a .verdict .answer; rows = rows + a .verdict .rows; peak = 0; end = dead } };
-          verdicts = [];
-          log = take (3 * rows) log ++ a .log;
-        })
-
-    module _ (start : ℕ) (Starts : Type 0) (m n : Marked) (fits : AnalysisFits R S classes start m n)
+    module _ (start : ℕ) (Starts : Type 0) (m n : Marked) (fits : AnalysisFits R S covers start m n)
         (onward : (rows p : ℕ) (log : List ℕ) → FromFits Starts (markFrom R (k + 1) rows p fs log) (markFrom S (k + 1) rows p fs log)) where
       abbrev NextFits : PaperMarked → Type 0
-      NextFits q = (q ≡ next R m true) ⊎ (ShortFrom (R .limit) (S .limit) (AllModest R) ((start ≤ S .limit) × Starts) (next R m true .paper .verdict .peak) q)
+      NextFits q = (q ≡ next k rows peak fs log R m true) ⊎ (ShortFrom (R .limit) (S .limit) (AllModest R) ((start ≤ S .limit) × Starts) (next k rows peak fs log R m true .paper .verdict .peak) q)
 
       -- the same answer
-      same-next : next R m true .paper .verdict .answer .number ≡ 0 → NextFits (next S m true)
+      same-next : next k rows peak fs log R m true .paper .verdict .answer .number ≡ 0 → NextFits (next k rows peak fs log S m true)
       unfolding next
       same-next h =
           ⊎-elim (λ g. inl (ap (after (m .verdict)) g)) (λ s. inr (record { number = λ q. s .number (q .1); lower = s .lower; overPeak = s .overPeak }))
           (onward (rows + m .verdict .rows) (max peak (m .verdict .peak)) (take (3 * rows) log ++ m .log) h)
 
       -- a fragment that is short of room
-      short-next : next R m true .paper .verdict .answer .number ≡ 0 → Short (R .limit) (S .limit) (AllModest R) start (m .verdict .peak) n
-          → (c : Bool) → eqb (n .verdict .answer .number) 0 ≡ c → NextFits (next S n c)
+      short-next : next k rows peak fs log R m true .paper .verdict .answer .number ≡ 0 → Short (R .limit) (S .limit) (AllModest R) start (m .verdict .peak) n
+          → (c : Bool) → eqb (n .verdict .answer .number) 0 ≡ c → NextFits (next k rows peak fs log S n c)
       unfolding next
       short-next h s true e =
           let z = eqb-true (n .verdict .answer .number) 0 e in
@@ -99,14 +100,14 @@ module _ (R S : Rules) (classes : (code : ℕ) → Models (R .classFor code) (S 
             overPeak = λ p. omega (arith, g, s .overPeak p);
           })
 
-      refused-next : eqb (m .verdict .answer .number) 0 ≡ false → next R m false .paper .verdict .answer .number ≡ 0 → ⊥
+      refused-next : eqb (m .verdict .answer .number) 0 ≡ false → next k rows peak fs log R m false .paper .verdict .answer .number ≡ 0 → ⊥
       unfolding next
       refused-next e h = eqb-false (m .verdict .answer .number) 0 e h
 
       next-fits : (b : Bool) → eqb (m .verdict .answer .number) 0 ≡ b
-          → FromFits ((start ≤ S .limit) × Starts) (next R m b) (next S n (eqb (n .verdict .answer .number) 0))
+          → FromFits ((start ≤ S .limit) × Starts) (next k rows peak fs log R m b) (next k rows peak fs log S n (eqb (n .verdict .answer .number) 0))
       next-fits true e h =
-          ⊎-elim (λ g. subst (λ a. NextFits (next S a (eqb (a .verdict .answer .number) 0))) (sym g) (subst (λ b. NextFits (next S m b)) (sym e) (same-next h)))
+          ⊎-elim (λ g. subst (λ a. NextFits (next k rows peak fs log S a (eqb (a .verdict .answer .number) 0))) (sym g) (subst (λ b. NextFits (next k rows peak fs log S m b)) (sym e) (same-next h)))
           (λ s. short-next h s (eqb (n .verdict .answer .number) 0) refl) (fits (eqb-true (m .verdict .answer .number) 0 e))
       next-fits false e h = absurd (refused-next e h)
 
@@ -117,7 +118,7 @@ module _ (R S : Rules) (classes : (code : ℕ) → Models (R .classFor code) (S 
   from-fits k rows peak (f ∷ fs) log h =
       next-fits k rows peak fs log (f .main + f .alt) (StartsWithin (S .limit) fs)
       (analysis R (f .bytes) (f .main) (f .alt) (drop (3 * rows) log)) (analysis S (f .bytes) (f .main) (f .alt) (drop (3 * rows) log))
-      (analysis-fits R S classes (f .bytes) (f .main) (f .alt) (drop (3 * rows) log))
+      (analysis-fits R S covers (f .bytes) (f .main) (f .alt) (drop (3 * rows) log))
       (λ rows p log. from-fits (k + 1) rows p fs log)
       (eqb (analysis R (f .bytes) (f .main) (f .alt) (drop (3 * rows) log) .verdict .answer .number) 0) refl h
 
@@ -134,7 +135,7 @@ pub record ShortDispatch (l m : ℕ) (P Starts : Type 0) (paper : Bytes) (es : L
   pub lower : m < l
   pub overPeak : P → SumsWithin m paper es → m < peak
 
-module _ (R S : Rules) (classes : (code : ℕ) → Models (R .classFor code) (S .classFor code)) (paper : Bytes) (log : List ℕ) where
+module _ (R S : Rules) (covers : Covers R S) (paper : Bytes) (log : List ℕ) where
   abbrev DispatchFits : List Entry → PaperMarked → PaperMarked → Type 0
   DispatchFits es m n =
       m .paper .verdict .answer .number ≡ 0
@@ -144,7 +145,7 @@ module _ (R S : Rules) (classes : (code : ℕ) → Models (R .classFor code) (S 
   unfolding dispatch
   dispatch-fits k [] h =
       ⊎-elim inl (λ s. inr (record { number = inr (tt, s .number); lower = s .lower; overPeak = λ p q. s .overPeak p }))
-      (from-fits R S classes 0 0 0 (fragments paper) log h)
+      (from-fits R S covers 0 0 0 (fragments paper) log h)
   dispatch-fits k (e ∷ es) h = by (dispatch-fits (k + 1) es) (ltb (R .limit) sum) (ltb (S .limit) sum) refl refl h
     where
       sum : ℕ
@@ -210,7 +211,7 @@ pub record ShortPaper (l m : ℕ) (P : Type 0) (paper : Bytes) (peak : ℕ) (n :
   pub lower : m < l
   pub overPeak : P → SumsWithin m paper (entries paper) → m < peak
 
-module _ (R S : Rules) (classes : (code : ℕ) → Models (R .classFor code) (S .classFor code)) (paper : Bytes) (log : List ℕ) where
+module _ (R S : Rules) (covers : Covers R S) (paper : Bytes) (log : List ℕ) where
   abbrev pub PaperFits : PaperMarked → PaperMarked → Type 0
   PaperFits m n =
       m .paper .verdict .answer .number ≡ 0 → (n ≡ m) ⊎ (ShortPaper (R .limit) (S .limit) (AllModest R) paper (m .paper .verdict .peak) n)
@@ -228,7 +229,7 @@ module _ (R S : Rules) (classes : (code : ℕ) → Models (R .classFor code) (S 
             lower = s .lower;
             overPeak = s .overPeak;
           }))
-          (dispatch-fits R S classes paper log 0 (entries paper) h)
+          (dispatch-fits R S covers paper log 0 (entries paper) h)
       header false e h = absurd (omega (arith, h))
 
       long : (b : Bool) → PaperFits
@@ -241,6 +242,6 @@ module _ (R S : Rules) (classes : (code : ℕ) → Models (R .classFor code) (S 
 pub allowedFollows : (R S : Rules) → Allows R S → Follows R S
 allowedFollows R S a = record {
   fragments = λ fragment main alt log h.
-      ⊎-elim (λ e. e) (λ s. absurd (omega (arith, s .lower, a .limit))) (analysis-fits R S (a .classFor) fragment main alt log h);
-  papers = λ paper log h. ⊎-elim (λ e. e) (λ s. absurd (omega (arith, s .lower, a .limit))) (paper-fits R S (a .classFor) paper log h);
+      ⊎-elim (λ e. e) (λ s. absurd (omega (arith, s .lower, a .limit))) (analysis-fits R S (record { classFor = a .classFor; examined = a .examined }) fragment main alt log h);
+  papers = λ paper log h. ⊎-elim (λ e. e) (λ s. absurd (omega (arith, s .lower, a .limit))) (paper-fits R S (record { classFor = a .classFor; examined = a .examined }) paper log h);
 }

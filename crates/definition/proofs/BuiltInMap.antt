@@ -76,4 +76,4 @@ row-is code = ap (λ l. getD l code 0) rows-are ∙ by (ltb code 256) refl
 -- the rules by this map and 244 are those of document 01: "the built-in map at 244"
 pub builtInMapRules : rulesOf builtInMap builtInOptions ≡ builtIn
 unfolding classOf
-builtInMapRules = λ i. record { classFor = λ code. classAt (row-is code i); limit = 244 }
+builtInMapRules = λ i. record { classFor = λ code. classAt (row-is code i); limit = 244; examined = false }

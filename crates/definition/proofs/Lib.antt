@@ -3,6 +3,7 @@ pub mod MarkedPapers
 pub mod SpoiltIndices
 pub mod LongDataWitnesses
 pub mod MapWitnesses
+pub mod ExaminedWitnesses
 pub mod Replays
 pub mod Related
 pub mod Arms
@@ -25,4 +26,5 @@ pub mod BuiltInMap
 pub mod UnderEveryMap
 pub mod Allowed
 pub mod AllowedPapers
+pub mod ExaminedMode
 pub mod Raising

@@ -1,6 +1,6 @@
 -- Request L3 of the wider relation: alike fragments have the same verdict and the same log, and so have papers of alike parts.
 -- One law to a layer: step, walk, analysis, paper.
-use mathlib.Core.Bool.{Bool, true, false}
+use mathlib.Core.Bool.{Bool, true, false, _&&_}
 use mathlib.Core.List.{List, [], _∷_, _++_}
 use mathlib.Core.Logic.{_⊎_, inl, inr}
 use mathlib.Core.Option.{Option, none, some}
@@ -8,11 +8,12 @@ use mathlib.Core.Path.{_≡_, refl, sym, ap, subst, _∙_}
 use Prim.Native.Nat.{ℕ, zero, suc, _+_, _*_, _≤_, _<_}
 use native.Mathlib.Omega.{arith}
 use borrow.Author.Tests.{leb-true, lt-leb}
+use lib.Dec.{ltb}
 use lib.ListN.{length, take, drop}
 use Rattle.definition.specs.Basics.{Bytes, pick}
 use Rattle.definition.specs.Decoding.{Instruction, number, Code, decode, instructions, malformedAt}
 use Rattle.definition.specs.Classes.{Class, IF, NOTIF, ELSE, ENDIF, RETURN, ordinary, plain, Ordinary, unmodelled, push, nothing, TOALT, FROMALT, DEPTH, SIZE, NIP, TUCK, PICK, ROLL, ZK, copies, rotates}
-use Rattle.definition.specs.Refusals.{unmodelledOpcode}
+use Rattle.definition.specs.Refusals.{unmodelledOpcode, longElement, maxElement}
 use Rattle.definition.specs.Stacks.{Rules, Stacks, refused, pushItem, step}
 use Rattle.definition.specs.Walk.{Item, unknown, known, marking, Arm, dead, live, Frame, Move, moves, refuses, onOutcome, effect, State, met, WalkEnd, follow, walk, begin, tested, analysisOf, unknowns, analysis}
 use Rattle.definition.specs.Papers.{field, Entry, entriesAt, entryCount, stateFields, initialiser, entries, headerSize, bodies, goodHeader, Fragment, bodyFragments, stateFragments, fragments, markFrom, dispatch, markPaper}
@@ -38,7 +39,9 @@ known-alike i j a = either (a .literal)
 pub step-alike : (R : Rules) (i j : Instruction) → AlikeInstructions i j → (o : Ordinary) (s : Stacks Item) → step marking R i o s ≡ step marking R j o s
 unfolding step
 step-alike R i j a unmodelled s = ap (λ n. refused (unmodelledOpcode n)) (a .opcode)
-step-alike R i j a push s = ap (λ x. pushItem (R .limit) x s) (known-alike i j a)
+step-alike R i j a push s =
+    ap (λ n. pick (R .examined && ltb maxElement n) (refused (longElement n)) (pushItem (R .limit) (known (i .literal)) s)) (a .size)
+    ∙ ap (λ x. pick (R .examined && ltb maxElement (length (j .literal))) (refused (longElement (length (j .literal)))) (pushItem (R .limit) x s)) (known-alike i j a)
 step-alike R i j a nothing s = refl
 step-alike R i j a TOALT s = refl
 step-alike R i j a FROMALT s = refl

@@ -21,7 +21,7 @@ withRow code class m = set m (4 + code) class
 
 -- this limit
 abbrev at : ℕ → Options
-at limit = record { limit = limit }
+at limit = record { limit = limit; examined = false }
 
 -- an accepted verdict that ends with so many unknown items on main and none on alt
 abbrev accepts : ℕ → ℕ → ℕ → Verdict

@@ -16,23 +16,24 @@ use Rattle.definition.specs.Refusals.{maxPaper, longPaper, badHeader, di
 use Rattle.definition.specs.Stacks.{Rules}
 use Rattle.definition.specs.Walk.{dead, Verdict, Marked, analysis}
 use Rattle.definition.specs.Papers.{Entry, stateFields, entries, goodHeader, Fragment, fragments, PaperMarked, refusedPaper, after, markFrom, dispatch, markPaper}
-use Rattle.definition.specs.Allows.{Models, keeps, Follows}
+use Rattle.definition.specs.Allows.{keeps, Follows}
 use Rattle.definition.specs.Maps.{Options, goodLimit, rowsOf, rulesOf, analysisWith, markPaperWith, Raises}
 use Rattle.definition.proofs.TrueOfEveryReplay.{trueOfAnalysis}
 use Rattle.definition.proofs.UnderEveryMap.{limit-within, acceptedIsGood, analysis-good, acceptedPaperIsGood, paper-good}
-use Rattle.definition.proofs.Allowed.{Modest, AllModest, Short, analysis-fits}
+use Rattle.definition.proofs.Allowed.{Modest, Examines, Covers, AllModest, Short, analysis-fits}
 use Rattle.definition.proofs.AllowedPapers.{SumsWithin, ShortPaper, paper-fits, allowedFollows}
 
 limit-good : (limit : ℕ) → 1 ≤ limit → limit ≤ 244 → goodLimit limit ≡ true
 limit-good limit l m = rw (le-leb 1 limit l, le-leb limit 244 m)
 
--- the classes of a map do not go by the limit
-same-classes : (map : Bytes) (from to : Options) (code : ℕ) → Models (rulesOf map from .classFor code) (rulesOf map to .classFor code)
-same-classes map from to code = keeps _
+-- the classes of a map do not go by the limit, nor by the mode
+same-map : (map : Bytes) (from to : Options) → Examines (rulesOf map from) (rulesOf map to) → Covers (rulesOf map from) (rulesOf map to)
+same-map map from to m = record { classFor = λ code. keeps _; examined = m }
 
--- "Raising the limit under one map never turns acceptance into refusal, and peak, log and end stay equal"
-pub raisingTheLimit : (map : Bytes) (from to : Options) → from .limit ≤ to .limit → to .limit ≤ 244 → Raises map from to
-raisingTheLimit map from to up most = record {
+-- "Raising the limit under one map never turns acceptance into refusal, and peak, log and end stay equal": in one mode, or from the
+-- examined one to plain
+pub raisingTheLimit : (map : Bytes) (from to : Options) → from .limit ≤ to .limit → to .limit ≤ 244 → (to .examined ≡ true → from .examined ≡ true) → Raises map from to
+raisingTheLimit map from to up most mode = record {
   fragments = λ fragment main alt log h.
       let b = acceptedIsGood map from fragment main alt log h in
       let here = analysis-good map from fragment main alt log (b .0) (b .1) in
@@ -46,7 +47,7 @@ raisingTheLimit map from to up most = record {
 }
   where
     law : Follows (rulesOf map from) (rulesOf map to)
-    law = allowedFollows (rulesOf map from) (rulesOf map to) (record { classFor = same-classes map from to; limit = up })
+    law = allowedFollows (rulesOf map from) (rulesOf map to) (record { classFor = λ code. keeps _; limit = up; examined = mode })
 
 -- The stronger form
 
@@ -140,7 +141,7 @@ pub record PaperExactlyAt (limit peak : ℕ) (paper : Bytes) (m : PaperMarked) :
   pub otherwise : ((peak ≤ limit) × (SumsWithin limit paper (entries paper)) → ⊥)
       → (m .paper .verdict .answer .number ≡ 20) ⊎ (m .paper .verdict .answer .number ≡ 6)
 
-module _ (map : Bytes) (from to : Options) (least : 1 ≤ to .limit) (most : to .limit ≤ 244) where
+module _ (map : Bytes) (from to : Options) (least : 1 ≤ to .limit) (most : to .limit ≤ 244) (mode : to .examined ≡ true → from .examined ≡ true) where
   abbrev R : Rules
   R = rulesOf map from
 
@@ -158,7 +159,7 @@ module _ (map : Bytes) (from to : Options) (least : 1 ≤ to .limit) (most : to 
       rw (here, there) (both (rw here at h))
     where
       both : analysis R fragment main alt log .verdict .answer .number ≡ 0 → ExactlyAt (to .limit) (analysis R fragment main alt log .verdict .peak) (analysis S fragment main alt log)
-      both h = ⊎-elim same short (analysis-fits R S (same-classes map from to) fragment main alt log h)
+      both h = ⊎-elim same short (analysis-fits R S (same-map map from to mode) fragment main alt log h)
         where
           same : analysis S fragment main alt log ≡ analysis R fragment main alt log → ExactlyAt (to .limit) (analysis R fragment main alt log .verdict .peak) (analysis S fragment main alt log)
           same e =
@@ -187,7 +188,7 @@ module _ (map : Bytes) (from to : Options) (least : 1 ≤ to .limit) (most : to 
       rw (here, there) (both (rw here at h))
     where
       both : markPaper R paper log .paper .verdict .answer .number ≡ 0 → PaperExactlyAt (to .limit) (markPaper R paper log .paper .verdict .peak) paper (markPaper S paper log)
-      both h = ⊎-elim same short (paper-fits R S (same-classes map from to) paper log h)
+      both h = ⊎-elim same short (paper-fits R S (same-map map from to mode) paper log h)
         where
           same : markPaper S paper log ≡ markPaper R paper log → PaperExactlyAt (to .limit) (markPaper R paper log .paper .verdict .peak) paper (markPaper S paper log)
           same e =

@@ -1,19 +1,19 @@
 -- The stack operations and `step` keep what the marker shows of a replay's stacks: where the marker's outcome is done, so is
 -- the replay's, and the stacks still agree. Beside it, for items of any type, `step` keeps the stacks within the limit.
-use mathlib.Core.Bool.{Bool, true, false}
+use mathlib.Core.Bool.{Bool, true, false, _&&_}
 use mathlib.Core.List.{List, [], _∷_, _++_}
 use mathlib.Core.Option.{some}
 use mathlib.Core.Path.{_≡_, refl, ap}
 use Prim.Native.Nat.{ℕ, zero, suc, _+_, _-_, _≤_}
 use native.Mathlib.Omega.{arith}
 use borrow.Author.Tests.{leb-true}
-use lib.Dec.{leb}
+use lib.Dec.{leb, ltb}
 use lib.ListN.{length, take, drop, length-append, length-take, length-drop}
 use Rattle.definition.specs.Basics.{Bytes, pick}
 use Rattle.definition.specs.Decoding.{Instruction, Index, notKnown, noNumber, negative, index, indexOf, serialize, plus}
 use Rattle.definition.specs.Classes.{Ordinary, unmodelled, push, nothing, TOALT, FROMALT, DEPTH, SIZE, NIP, TUCK, PICK, ROLL, ZK, copies, rotates}
-use Rattle.definition.specs.Refusals.{Refusal, mainDry, stacksFull, altDry}
-use Rattle.definition.specs.Stacks.{Rules, Stacks, Outcome, done, refused, ItemOps, Tag, noTag, groth16, r0Succinct, tagOf, total, needs, room, onDone, pushItem, popFrom, dropItems, copyItems, rotateItems, tuckTop, nipSecond, moveToAlt, moveFromAlt, sizeItem, readable, popIndex, zkDrop, zkBy, step, pushResults, plainStep}
+use Rattle.definition.specs.Refusals.{Refusal, mainDry, stacksFull, altDry, longElement, maxElement}
+use Rattle.definition.specs.Stacks.{Rules, Stacks, Outcome, done, refused, ItemOps, Tag, noTag, groth16, r0Succinct, tagOf, total, needs, room, onDone, pushItem, popFrom, dropItems, copyItems, rotateItems, tuckTop, nipSecond, moveToAlt, moveFromAlt, sizeItem, readable, popIndex, zkDrop, zkBy, pushLiteral, step, pushResults, plainStep}
 use Rattle.definition.specs.Walk.{Item, unknown, exact, known, bytesKnown, marking}
 use Rattle.definition.specs.Replay.{replaying, Shows, ShowsAll, ShowsStacks}
 
@@ -193,7 +193,7 @@ pub step-agrees : (v : List Bytes) (R : Rules) (i : Instruction) (o : Ordinary) 
     → Agree (step marking R i o s) (step (replaying v) R i o t)
 unfolding step
 step-agrees v R i unmodelled h = stops
-step-agrees v R i push h = pushItem-agrees h (R .limit) _ _ (shows-known (i .literal))
+step-agrees v R i push h = picks (R .examined && ltb maxElement (length (i .literal))) stops (pushItem-agrees h (R .limit) _ _ (shows-known (i .literal)))
 step-agrees v R i nothing h = agree h
 step-agrees v R i TOALT h = moveToAlt-agrees h
 step-agrees v R i FROMALT h = moveFromAlt-agrees h
@@ -308,12 +308,20 @@ module _ {A : Type 0} (limit : ℕ) where
         popIndex-within u _ l (λ n v m. zkDrop-within n v m)))
     zkBy-within r0Succinct s h = zkDrop-within 8 s h
 
+-- a literal is pushed within the limit, or refused
+literal-within : {A : Type 0} (I : ItemOps A) (R : Rules) (l : Bytes) (s : Stacks A) → Within (R .limit) (pushLiteral I R l s)
+literal-within I R l s = test (R .examined && ltb maxElement (length l))
+  where
+    test : (b : Bool) → Within (R .limit) (pick b (refused (longElement (length l))) (pushItem (R .limit) (I .fromBytes l) s))
+    test true = tt
+    test false = pushItem-within (R .limit) _ s
+
 -- no ordinary instruction leads over the limit
 pub step-within : {A : Type 0} (I : ItemOps A) (R : Rules) (i : Instruction) (o : Ordinary) (s : Stacks A) → total s ≤ R .limit
     → Within (R .limit) (step I R i o s)
 unfolding step
 step-within I R i unmodelled s h = tt
-step-within I R i push s h = pushItem-within (R .limit) _ s
+step-within I R i push s h = literal-within I R (i .literal) s
 step-within I R i nothing s h = h
 step-within I R i TOALT s h = moveToAlt-within (R .limit) s h
 step-within I R i FROMALT s h = moveFromAlt-within (R .limit) s h

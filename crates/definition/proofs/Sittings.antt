@@ -10,7 +10,7 @@ use borrow.Author.Tests.{leb-true, eqb-true, eqb-false, ne-eqb}
 use lib.Dec.{leb, eqb}
 use lib.ListN.{length, getD, replicate}
 use Rattle.definition.specs.Basics.{pick}
-use Rattle.definition.specs.Refusals.{Refusal, malformedFragment, nesting, altDry, badIndex, badTag, armsDiffer, strayElse, secondElse, strayEndif, openIf, badHeader, tallyFull, badSitting, crookedNumber, negativeIndex, strangeWord, outputShort, badMap, badLimit, longFragment, unmodelledOpcode, opcodeCount, scriptSize, longPaper, startTooLarge, shortLog, stacksFull, mainDry, dispatchTooLarge, refusedAt, greatestNumber}
+use Rattle.definition.specs.Refusals.{Refusal, malformedFragment, nesting, altDry, badIndex, badTag, armsDiffer, strayElse, secondElse, strayEndif, openIf, badHeader, tallyFull, badSitting, crookedNumber, negativeIndex, strangeWord, outputShort, badMap, badLimit, longFragment, unmodelledOpcode, opcodeCount, scriptSize, longPaper, longElement, startTooLarge, shortLog, stacksFull, mainDry, dispatchTooLarge, refusedAt, greatestNumber}
 use Rattle.definition.specs.Sums.{Pair, pairs, occurrences, occurrencesFrom, acceptedPeaks, sumOf, inUse, maxSitting, goodSitting, SittingSums, goodSums, badSums, sums}
 use Rattle.definition.proofs.Sound.{and-true}
 
@@ -138,11 +138,12 @@ atMostGreatest at (unmodelledOpcode n) = omega arith
 atMostGreatest at (opcodeCount n) = omega arith
 atMostGreatest at (scriptSize n) = omega arith
 atMostGreatest at (longPaper n) = omega arith
+atMostGreatest at (longElement n) = omega arith
 atMostGreatest at (startTooLarge n m) = omega arith
 atMostGreatest at (shortLog n m) = omega arith
 atMostGreatest at (stacksFull n m) = omega arith
 atMostGreatest at (mainDry n m) = omega arith
 atMostGreatest at (dispatchTooLarge n m) = omega arith
 
-pub greatestGiven : refusedAt 0 badLimit .number ≡ greatestNumber
+pub greatestGiven : refusedAt 0 (longElement 521) .number ≡ greatestNumber
 greatestGiven = refl

@@ -12,7 +12,7 @@ use lib.Dec.{ltb, leb}
 use lib.ListN.{length, getD, take, drop, replicate, length-drop, length-replicate}
 use Rattle.definition.specs.Basics.{Bytes, pick}
 use Rattle.definition.specs.Decoding.{Instruction, Code, decode, instructions, malformedAt}
-use Rattle.definition.specs.Refusals.{Refusal, malformedFragment, nesting, altDry, badIndex, badTag, armsDiffer, strayElse, secondElse, strayEndif, openIf, badHeader, tallyFull, badSitting, crookedNumber, negativeIndex, strangeWord, outputShort, badMap, badLimit, longFragment, unmodelledOpcode, opcodeCount, scriptSize, longPaper, startTooLarge, shortLog, stacksFull, mainDry, dispatchTooLarge, maxFragment, refusedAt}
+use Rattle.definition.specs.Refusals.{Refusal, malformedFragment, nesting, altDry, badIndex, badTag, armsDiffer, strayElse, secondElse, strayEndif, openIf, badHeader, tallyFull, badSitting, crookedNumber, negativeIndex, strangeWord, outputShort, badMap, badLimit, longFragment, unmodelledOpcode, opcodeCount, scriptSize, longPaper, longElement, startTooLarge, shortLog, stacksFull, mainDry, dispatchTooLarge, maxFragment, refusedAt}
 use Rattle.definition.specs.Stacks.{Rules, builtIn, Stacks, total, stackHeights}
 use Rattle.definition.specs.Walk.{Item, unknown, Arm, dead, live, heightsOf, State, totalOf, WalkEnd, passed, stopped, walk, Marked, refusedEarly, answered, begin, tested, analysisOf, unknowns, analysis}
 use Rattle.definition.specs.Replay.{Replay, running, Trace, visit, offEnd, returned, faulted, replayFrom, wholeReplay, ReachedAt, RunsOffWith, HasTotal, TotalsWithin, ShowsArm, AreStrings, ReplayOf, EveryReplay, SomeReplay, heightsAt, LiveRow, SomeReplayReaches, Demand3, TrueOfEveryReplay}
@@ -30,6 +30,10 @@ live-heights (live s) u h = (rw (paired-length (h .main), paired-length (h .alt)
 live-shows : (c : Arm) (u : Stacks Bytes) → LiveAs c u → ShowsArm c u
 live-shows dead u h = h
 live-shows (live s) u h = shownStacks h
+
+live-alive : (c : Arm) (u : Stacks Bytes) → LiveAs c u → Alive c
+live-alive dead u h = h
+live-alive (live s) u h = tt
 
 dead-or-alive : (c : Arm) → (c ≡ dead) ⊎ (Alive c)
 dead-or-alive dead = inl refl
@@ -117,11 +121,20 @@ module _ (R : Rules) (is : List Instruction) (s : Stacks Item) (log : List ℕ) 
   end-live : EveryReplay R is s (λ z. (u : Stacks Bytes) → RunsOffWith u z → LiveAs (t .arm) u)
   end-live r p u h = subst (λ c. LiveAs c u) (sym (end-at R t is (begin s log) accepted)) (good-runsOff R A (length is) (wholeReplay R is r) (follows r p) u h)
 
+  -- where the arm before an instruction is live, some replay reaches it, and only there
+  pub alive-reached : (k : ℕ) → k < length is → Alive (A k) → SomeReplayReaches R is s k
+  alive-reached k lt a =
+      comes R is s exacts moves-on k a (λ z. (u : Stacks Bytes) × (ReachedAt k u z)) (λ j v z q. (q .0, inr (q .1)))
+      (λ r l. (r .stacks, first-reached R k r (drop k is) (rw length-drop (omega arith))))
+
+  pub reached-alive : (k : ℕ) → SomeReplayReaches R is s k → Alive (A k)
+  reached-alive k q =
+      let u = q .2 in
+      live-alive (A k) (u .0) (good-reaches R A (length is) (wholeReplay R is (q .0)) (follows (q .0) (q .1)) k (u .0) (u .1) .1)
+
   -- liveness: a row that is not dead is reached ..
   reached : (k : ℕ) → k < length is → LiveRow k (t .log) → SomeReplayReaches R is s k
-  reached k lt h =
-      comes R is s exacts moves-on k (logged-alive (t .log) k (A k) (row k lt) h) (λ z. (u : Stacks Bytes) × (ReachedAt k u z)) (λ j v z q. (q .0, inr (q .1)))
-      (λ r l. (r .stacks, first-reached R k r (drop k is) (rw length-drop (omega arith))))
+  reached k lt h = alive-reached k lt (logged-alive (t .log) k (A k) (row k lt) h)
 
   -- .. and what is reached has a row that is not dead: a height is at most the limit
   not-dead : (k : ℕ) → SomeReplayReaches R is s k → LiveRow k (t .log)
@@ -198,6 +211,7 @@ refused-number at (unmodelledOpcode n) h = omega (arith, h)
 refused-number at (opcodeCount n) h = omega (arith, h)
 refused-number at (scriptSize n) h = omega (arith, h)
 refused-number at (longPaper n) h = omega (arith, h)
+refused-number at (longElement n) h = omega (arith, h)
 refused-number at (startTooLarge n m) h = omega (arith, h)
 refused-number at (shortLog n m) h = omega (arith, h)
 refused-number at (stacksFull n m) h = omega (arith, h)
@@ -252,6 +266,13 @@ module _ (R : Rules) (P : Marked → Type 0) where
       long true h = absurd (omega (arith, h))
       long false h = large (ltb (R .limit) (main + alt)) refl h
 
+unknown-strings : (n : ℕ) → AreStrings (stringsFor (replicate n unknown))
+unknown-strings zero = tt
+unknown-strings (suc n) = (tt, unknown-strings n)
+
+pub unknown-exacts : (main alt : ℕ) → ExactBytes (unknowns main alt)
+unknown-exacts main alt = record { main = unknown-strings main; alt = unknown-strings alt }
+
 module _ (R : Rules) (small : R .limit < 65535) where
   -- of decoded code, from any stacks within the limit whose exact items are byte strings
   pub trueOfCode : (code : Code) (s : Stacks Item) (log : List ℕ) → total s ≤ R .limit → ExactBytes s
@@ -260,17 +281,12 @@ module _ (R : Rules) (small : R .limit < 65535) where
       ofCode R (Demand3 R (instructions code) s) code s log
       (λ t l e. trueOfWalk R (instructions code) s log t small start exacts l e) h
 
-  unknown-strings : (n : ℕ) → AreStrings (stringsFor (replicate n unknown))
-  unknown-strings zero = tt
-  unknown-strings (suc n) = (tt, unknown-strings n)
-
   -- of a fragment, from so many unknown items, for any rules with a limit below 65,535
   pub trueOfAnalysis : (fragment : Bytes) (main alt : ℕ) (log : List ℕ) → TrueOfEveryReplay R fragment main alt log
   trueOfAnalysis fragment main alt log h =
       let is : List Instruction = instructions (decode fragment) in
       ofAnalysis R (Demand3 R is (unknowns main alt)) fragment main alt log
-      (λ start t l e. trueOfWalk R is (unknowns main alt) log t small (simp length-replicate start)
-      (record { main = unknown-strings main; alt = unknown-strings alt }) l e) h
+      (λ start t l e. trueOfWalk R is (unknowns main alt) log t small (simp length-replicate start) (unknown-exacts main alt) l e) h
 
 -- Demand 3: of every fragment, start heights and log, if the analysis accepts, what it answers is true of every replay.
 pub trueOfEveryReplay : (fragment : Bytes) (main alt : ℕ) (log : List ℕ) → TrueOfEveryReplay builtIn fragment main alt log

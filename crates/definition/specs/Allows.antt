@@ -1,4 +1,5 @@
--- One law over rules, which requests L6 and L8 use: what some rules accept, rules that allow as much answer in the same way.
+-- One law over rules, which requests L6, L7 and L8 use: what some rules accept, rules that allow as much answer in the same way.
+use mathlib.Core.Bool.{true}
 use mathlib.Core.List.{List}
 use mathlib.Core.Path.{_≡_}
 use Prim.Native.Nat.{ℕ, _≤_}
@@ -14,10 +15,11 @@ pub data Models : Class → Class → Type 0 where
   gainsOrdinary : (o : Ordinary) → Models (ordinary unmodelled) (ordinary o)
   gainsPlain : (pops pushes : ℕ) → Models (ordinary unmodelled) (plain pops pushes)
 
--- S allows all that R does: so it is with each class, and the limit is kept or raised
+-- S allows all that R does: so it is with each class, the limit is kept or raised, and S examines no more than R
 pub record Allows (R S : Rules) : Type 0 where
   pub classFor : (code : ℕ) → Models (R .classFor code) (S .classFor code)
   pub limit : R .limit ≤ S .limit
+  pub examined : S .examined ≡ true → R .examined ≡ true
 
 -- what R accepts S answers with the same verdict and the same log
 pub record Follows (R S : Rules) : Type 0 where

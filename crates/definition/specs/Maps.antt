@@ -1,5 +1,5 @@
 -- Request L6, "A lent opcode map", and the stack limit beside it. Words in quotes are the request's.
-use mathlib.Core.Bool.{Bool, true, _&&_, not}
+use mathlib.Core.Bool.{Bool, true, false, _&&_, not}
 use mathlib.Core.List.{List, [], _∷_}
 use mathlib.Core.Path.{_≡_}
 use Prim.Native.Nat.{ℕ, zero, suc, _+_}
@@ -47,14 +47,16 @@ goodMap map =
 abbrev pub goodLimit : ℕ → Bool
 goodLimit limit = leb 1 limit && leb limit 244
 
--- "Add the stack limit (1 to 244) beside it": what is lent beside a map
+-- "Add the stack limit (1 to 244) beside it": what is lent beside a map; and whether the mode is examined (request L7)
 pub record Options : Type 0 where
   pub limit : ℕ
+  pub examined : Bool
 
--- "it stands for 244 everywhere, figures too": by these rows the class of a code is that of its row, and the limit is this one.
+-- "it stands for 244 everywhere, figures too": by these rows the class of a code is that of its row, and limit and mode are these.
 -- There is no code above ff; it would be unmodelled.
 abbrev pub rulesBy : List ℕ → Options → Rules
-rulesBy rows options = record { classFor = λ code. classAt (getD rows code 0); limit = options .limit }
+rulesBy rows options =
+    record { classFor = λ code. classAt (getD rows code 0); limit = options .limit; examined = options .examined }
 
 abbrev pub rulesOf : Bytes → Options → Rules
 rulesOf map options = rulesBy (rowsOf map) options
@@ -86,7 +88,7 @@ unfoldable pub builtInMap : Bytes
 builtInMap = 0x00 ∷ 0x01 ∷ 0x04 ∷ 0x00 ∷ tableFrom 0x00 256
 
 abbrev pub builtInOptions : Options
-builtInOptions = record { limit = 244 }
+builtInOptions = record { limit = 244; examined = false }
 
 -- The claims
 

@@ -5,7 +5,7 @@ use Prim.Native.Nat.{ℕ}
 pub data Refusal : Type 0 where
   malformedFragment nesting altDry badIndex badTag armsDiffer strayElse secondElse strayEndif openIf badHeader tallyFull badSitting : Refusal
   crookedNumber negativeIndex strangeWord outputShort badMap badLimit : Refusal
-  longFragment unmodelledOpcode opcodeCount scriptSize longPaper : ℕ → Refusal
+  longFragment unmodelledOpcode opcodeCount scriptSize longPaper longElement : ℕ → Refusal
   startTooLarge shortLog stacksFull mainDry dispatchTooLarge : ℕ → ℕ → Refusal
 
 -- the greatest counts of sections 6 and 7; the stack limit, 244, is one of the rules (Stacks)
@@ -21,9 +21,13 @@ maxOperations = 201
 abbrev pub maxPaper : ℕ
 maxPaper = 8000
 
+-- request L7, "its element limit is 520 bytes"
+abbrev pub maxElement : ℕ
+maxElement = 520
+
 -- request L1, "the greatest in use": every verdict number below is at most this one. A request that adds numbers raises it.
 abbrev pub greatestNumber : ℕ
-greatestNumber = 29
+greatestNumber = 30
 
 -- number, offset and two figures: what the limit check answers, and part of every verdict
 pub record Answer : Type 0 where
@@ -71,3 +75,4 @@ refusedAt at strangeWord = answer 26 at 0 0
 refusedAt at outputShort = answer 27 at 0 0
 refusedAt at badMap = answer 28 at 0 0
 refusedAt at badLimit = answer 29 at 0 0
+refusedAt at (longElement length) = answer 30 at length maxElement

@@ -1,24 +1,26 @@
 -- Section 3: the two stacks and what each ordinary opcode does to them, over items of any type, so that the marker
 -- (Walk) and a replay (Replay) share it: "A step does what section 3 says with real bytes" (Section 5).
+use mathlib.Core.Bool.{Bool, false, _&&_}
 use mathlib.Core.List.{List, [], _∷_, _++_}
 use mathlib.Core.Option.{Option, none, some}
 use Prim.Native.Nat.{ℕ, zero, suc, _+_, _-_}
-use lib.Dec.{leb, eqb}
+use lib.Dec.{ltb, leb, eqb}
 use lib.ListN.{length, take, drop}
 use Rattle.definition.specs.Basics.{Bytes, pick}
 use Rattle.definition.specs.Decoding.{Instruction, serialize, plus, Index, notKnown, noNumber, negative, index, indexOf}
 use Rattle.definition.specs.Classes.{Class, Ordinary, unmodelled, push, nothing, TOALT, FROMALT, DEPTH, SIZE, NIP, TUCK, PICK, ROLL, ZK, copies, rotates, classOf}
-use Rattle.definition.specs.Refusals.{Refusal, stacksFull, mainDry, altDry, badIndex, crookedNumber, negativeIndex, badTag, unmodelledOpcode}
+use Rattle.definition.specs.Refusals.{Refusal, stacksFull, mainDry, altDry, badIndex, crookedNumber, negativeIndex, badTag, unmodelledOpcode, longElement, maxElement}
 
--- What the marker and a replay go by: the class of each opcode, and the limit of both stacks together. Document 01 has one such,
--- `builtIn`.
+-- What the marker and a replay go by: the class of each opcode, the limit of both stacks together, and whether the mode is
+-- request L7's examined one or plain. Document 01 has one such, `builtIn`.
 pub record Rules : Type 0 where
   pub classFor : ℕ → Class
   pub limit : ℕ
+  pub examined : Bool
 
 -- the classes of Section 2, and "Main and alt hold at most 244 items together"
 abbrev pub builtIn : Rules
-builtIn = record { classFor = classOf; limit = 244 }
+builtIn = record { classFor = classOf; limit = 244; examined = false }
 
 -- a stack is a list, its top first
 pub record Stacks (A : Type 0) : Type 0 where
@@ -164,12 +166,18 @@ module _ {A : Type 0} (I : ItemOps A) where
       zkDrop limit count v)))
   zkBy limit r0Succinct s = zkDrop limit 8 s
 
+  -- a literal is pushed. Request L7: "an examined mode in which the replay faults on pushing a literal above 520 bytes, and the
+  -- marker refuses it"; 30 is given "ahead of the test for room at that push"
+  abbrev pub pushLiteral : Rules → Bytes → Stacks A → Outcome A
+  pushLiteral R l s =
+      pick (R .examined && ltb maxElement (length l)) (refused (longElement (length l))) (pushItem (R .limit) (I .fromBytes l) s)
+
   -- What an instruction of an ordinary class does. "DEPTH pushes main's height. SIZE needs 1, pushes the top's length". "PICK and
   -- ROLL pop an index .., then need index + 1; PICK copies that item to the top, ROLL moves it": with 1 over a b c, PICK makes
   -- b a b c and ROLL b a c.
   unfoldable pub step : Rules → Instruction → Ordinary → Stacks A → Outcome A
   step R i unmodelled s = refused (unmodelledOpcode (i .opcode))
-  step R i push s = pushItem (R .limit) (I .fromBytes (i .literal)) s
+  step R i push s = pushLiteral R (i .literal) s
   step R i nothing s = done s
   step R i TOALT s = moveToAlt s
   step R i FROMALT s = moveFromAlt s

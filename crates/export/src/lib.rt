@@ -17,7 +17,7 @@ ghost use Rattle.maps.specs.View.{yearMap, mapSize};
 ghost use Rattle.log_text.specs.LogText.{logText, logTextWith};
 ghost use Rattle.reasons.specs.Reasons.{reason};
 ghost use Rattle.tally.specs.View.{Gives};
-ghost use Rattle.places.specs.View.{atLimit, written, verdictNumbers, endNumbers, answerNumbers, paperNumbers, sumsNumbers, convertedNumbers, displayStart, partNumbers, tallyFrom, tallyNumbers};
+ghost use Rattle.places.specs.View.{lentOptions, written, verdictNumbers, endNumbers, answerNumbers, paperNumbers, sumsNumbers, convertedNumbers, displayStart, partNumbers, tallyFrom, tallyNumbers};
 use places::display_start;
 use places::tally_from;
 use places::write;
@@ -109,8 +109,8 @@ pub extern "C" fn listochur_analyze_items(
     write_verdict(v, items, out)
 }
 
-// The analysis of a fragment by a lent map and a lent limit: as `listochur_analyze_items`, 28 and then 29 before all else. `mode`
-// is not read.
+// The analysis of a fragment by a lent map and a lent limit, in plain mode where `mode` is 0 and else in the examined one: as
+// `listochur_analyze_items`, 28 and then 29 before all else.
 #[no_mangle]
 pub extern "C" fn listochur_analyze_with(
     fragment: &[u8],
@@ -126,19 +126,19 @@ pub extern "C" fn listochur_analyze_with(
     ensures number { λ r.
         ⌜
         r
-        ≡ analysisWith (now (map .entry)) (atLimit limit) (now (fragment .entry)) main alt (now (log .entry)) .verdict .answer .number
+        ≡ analysisWith (now (map .entry)) (lentOptions limit mode) (now (fragment .entry)) main alt (now (log .entry)) .verdict .answer .number
         ⌝ }
     ensures logged { λ r.
         ⌜
         now (log .exit)
-        ≡ analysisWith (now (map .entry)) (atLimit limit) (now (fragment .entry)) main alt (now (log .entry)) .log
+        ≡ analysisWith (now (map .entry)) (lentOptions limit mode) (now (fragment .entry)) main alt (now (log .entry)) .log
         ⌝ }
     ensures listed { λ r.
         ⌜
         now (items .exit)
         ≡ written
         (endNumbers
-        (analysisWith (now (map .entry)) (atLimit limit) (now (fragment .entry)) main alt (now (log .entry)) .verdict .end))
+        (analysisWith (now (map .entry)) (lentOptions limit mode) (now (fragment .entry)) main alt (now (log .entry)) .verdict .end))
         (now (items .entry))
         ⌝ }
     ensures written { λ r.
@@ -146,11 +146,12 @@ pub extern "C" fn listochur_analyze_with(
         now (out .exit)
         ≡ written
         (verdictNumbers
-        (analysisWith (now (map .entry)) (atLimit limit) (now (fragment .entry)) main alt (now (log .entry)) .verdict))
+        (analysisWith (now (map .entry)) (lentOptions limit mode) (now (fragment .entry)) main alt (now (log .entry)) .verdict))
         (now (out .entry))
         ⌝ }
 {
-    let options = Options { limit };
+    let examined = mode != 0;
+    let options = Options { limit, examined };
     let v = stack_analysis::analyze_with(fragment, main, alt, map, options, log);
     write_verdict(v, items, out)
 }
@@ -205,8 +206,7 @@ pub extern "C" fn listochur_mark_paper(paper: &[u8], log: &mut [u16], out: &mut 
     number
 }
 
-// The marking of a paper by a lent map and a lent limit: as `listochur_mark_paper`, 28 and then 29 before all else. `mode` is
-// not read.
+// The marking of a paper by a lent map and a lent limit, in a mode: as `listochur_mark_paper`, 28 and then 29 before all else.
 #[no_mangle]
 pub extern "C" fn listochur_mark_paper_with(
     paper: &[u8],
@@ -219,19 +219,20 @@ pub extern "C" fn listochur_mark_paper_with(
     ensures number { λ r.
         ⌜
         r
-        ≡ markPaperWith (now (map .entry)) (atLimit limit) (now (paper .entry)) (now (log .entry)) .paper .verdict .answer .number
+        ≡ markPaperWith (now (map .entry)) (lentOptions limit mode) (now (paper .entry)) (now (log .entry)) .paper .verdict .answer .number
         ⌝ }
     ensures logged { λ r.
-        ⌜ now (log .exit) ≡ markPaperWith (now (map .entry)) (atLimit limit) (now (paper .entry)) (now (log .entry)) .log ⌝ }
+        ⌜ now (log .exit) ≡ markPaperWith (now (map .entry)) (lentOptions limit mode) (now (paper .entry)) (now (log .entry)) .log ⌝ }
     ensures written { λ r.
         ⌜
         now (out .exit)
         ≡ written
-        (paperNumbers (markPaperWith (now (map .entry)) (atLimit limit) (now (paper .entry)) (now (log .entry)) .paper))
+        (paperNumbers (markPaperWith (now (map .entry)) (lentOptions limit mode) (now (paper .entry)) (now (log .entry)) .paper))
         (now (out .entry))
         ⌝ }
 {
-    let options = Options { limit };
+    let examined = mode != 0;
+    let options = Options { limit, examined };
     let v = paper::mark_paper_with(paper, map, options, log);
     let number = v.number;
     write_paper(v, out);
@@ -314,7 +315,7 @@ pub extern "C" fn listochur_mark_lines(
     write_lines(l, text, out)
 }
 
-// The same by a lent map and a lent limit, 28 and then 29 before all else. `mode` is not read.
+// The same by a lent map and a lent limit, in a mode, 28 and then 29 before all else.
 #[no_mangle]
 pub extern "C" fn listochur_mark_lines_with(
     paper: &[u8],
@@ -328,28 +329,29 @@ pub extern "C" fn listochur_mark_lines_with(
     ensures number { λ r.
         ⌜
         r
-        ≡ markPaperWith (now (map .entry)) (atLimit limit) (now (paper .entry)) (now (log .entry)) .paper .verdict .answer .number
+        ≡ markPaperWith (now (map .entry)) (lentOptions limit mode) (now (paper .entry)) (now (log .entry)) .paper .verdict .answer .number
         ⌝ }
     ensures logged { λ r.
-        ⌜ now (log .exit) ≡ markPaperWith (now (map .entry)) (atLimit limit) (now (paper .entry)) (now (log .entry)) .log ⌝ }
+        ⌜ now (log .exit) ≡ markPaperWith (now (map .entry)) (lentOptions limit mode) (now (paper .entry)) (now (log .entry)) .log ⌝ }
     ensures printed { λ r.
         ⌜
         now (text .exit)
         ≡ written
-        (printedWith (now (map .entry)) (atLimit limit) (now (paper .entry)) (now (log .entry)))
+        (printedWith (now (map .entry)) (lentOptions limit mode) (now (paper .entry)) (now (log .entry)))
         (now (text .entry))
         ⌝ }
     ensures written { λ r.
         ⌜
         now (out .exit)
         ≡ written
-        (length (printedWith (now (map .entry)) (atLimit limit) (now (paper .entry)) (now (log .entry))) ∷ [])
+        (length (printedWith (now (map .entry)) (lentOptions limit mode) (now (paper .entry)) (now (log .entry))) ∷ [])
         (now (out .entry))
         ⌝ }
     ensures short { λ r.
-        ⌜ length (printedWith (now (map .entry)) (atLimit limit) (now (paper .entry)) (now (log .entry))) ≤ 4096 ⌝ }
+        ⌜ length (printedWith (now (map .entry)) (lentOptions limit mode) (now (paper .entry)) (now (log .entry))) ≤ 4096 ⌝ }
 {
-    let options = Options { limit };
+    let examined = mode != 0;
+    let options = Options { limit, examined };
     let l = lines::mark_lines_with(paper, map, options, log);
     write_lines(l, text, out)
 }
@@ -388,7 +390,7 @@ pub extern "C" fn listochur_log_lines(
     l.number
 }
 
-// The same by a lent map and a lent limit, 28 and then 29 before all else. `mode` is not read.
+// The same by a lent map and a lent limit, in a mode, 28 and then 29 before all else.
 #[no_mangle]
 pub extern "C" fn listochur_log_lines_with(
     paper: &[u8],
@@ -402,26 +404,27 @@ pub extern "C" fn listochur_log_lines_with(
     ensures number { λ r.
         ⌜
         r
-        ≡ markPaperWith (now (map .entry)) (atLimit limit) (now (paper .entry)) (now (log .entry)) .paper .verdict .answer .number
+        ≡ markPaperWith (now (map .entry)) (lentOptions limit mode) (now (paper .entry)) (now (log .entry)) .paper .verdict .answer .number
         ⌝ }
     ensures logged { λ r.
-        ⌜ now (log .exit) ≡ markPaperWith (now (map .entry)) (atLimit limit) (now (paper .entry)) (now (log .entry)) .log ⌝ }
+        ⌜ now (log .exit) ≡ markPaperWith (now (map .entry)) (lentOptions limit mode) (now (paper .entry)) (now (log .entry)) .log ⌝ }
     ensures printed { λ r.
         ⌜
         now (text .exit)
         ≡ written
-        (logTextWith (now (map .entry)) (atLimit limit) (now (paper .entry)) (now (log .entry)))
+        (logTextWith (now (map .entry)) (lentOptions limit mode) (now (paper .entry)) (now (log .entry)))
         (now (text .entry))
         ⌝ }
     ensures written { λ r.
         ⌜
         now (out .exit)
         ≡ written
-        (length (logTextWith (now (map .entry)) (atLimit limit) (now (paper .entry)) (now (log .entry))) ∷ [])
+        (length (logTextWith (now (map .entry)) (lentOptions limit mode) (now (paper .entry)) (now (log .entry))) ∷ [])
         (now (out .entry))
         ⌝ }
 {
-    let options = Options { limit };
+    let examined = mode != 0;
+    let options = Options { limit, examined };
     let w = log_text::write_log_with(paper, map, options, log, text);
     write_size(w.size, out);
     w.number

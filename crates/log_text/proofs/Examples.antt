@@ -1,5 +1,6 @@
 -- What `stacklog` prints, by example: the paper of LogText, a paper of three fragments, and a header of seven bytes; and what is
 -- printed by a lent map (document 02, L6).
+use mathlib.Core.Bool.{false}
 use mathlib.Core.List.{List, [], _∷_, _++_}
 use mathlib.Core.Path.{_≡_, refl, ap, _∙_}
 use Prim.Native.Nat.{ℕ}
@@ -83,7 +84,7 @@ sevenBytesLogged = refl
 
 -- where ff is IF and the limit is 5: the rows and the other arm go by the class, the word is that of the code
 abbrev ffIf : Rules
-ffIf = record { classFor = λ code. pick (eqb code 0xff) IF (classOf code); limit = 5 }
+ffIf = record { classFor = λ code. pick (eqb code 0xff) IF (classOf code); limit = 5; examined = false }
 
 unfoldable pub otherIf : Bytes
 otherIf =

@@ -81,7 +81,7 @@ module _ (rows : List ℕ) (e : length rows ≡ 256) (t : T (every (λ n. eqb (g
 
   rules-by : rulesBy rows builtInOptions ≡ builtIn
   unfolding classOf
-  rules-by = λ i. record { classFor = λ code. classAt (row-is code i); limit = 244 }
+  rules-by = λ i. record { classFor = λ code. classAt (row-is code i); limit = 244; examined = false }
 
   pub built-in-rows : BuiltInRows rows
   built-in-rows = record { good = good-rows; same = rules-by }

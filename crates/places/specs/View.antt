@@ -1,8 +1,8 @@
 -- How answers are handed to a caller in another language: as numbers, in places that it lends.
-use mathlib.Core.Bool.{Bool, true, false}
+use mathlib.Core.Bool.{Bool, true, false, not}
 use mathlib.Core.List.{List, [], _∷_, _++_}
 use Prim.Native.Nat.{ℕ, min}
-use lib.Dec.{ltb}
+use lib.Dec.{ltb, eqb}
 use lib.ListN.{length, drop, getD}
 use Rattle.definition.specs.Basics.{Bytes, pick}
 use Rattle.definition.specs.Listing.{Converted}
@@ -14,9 +14,9 @@ use Rattle.definition.specs.Walk.{Item, Arm, dead, live, Verdict, Tally}
 use Rattle.ends.specs.View.{itemsOf, itemLength, itemNumber}
 use Rattle.stack_analysis.specs.View.{hasEnd, endMain, endAlt}
 
--- what is lent beside a map: this limit
-abbrev pub atLimit : ℕ → Options
-atLimit limit = record { limit = limit }
+-- what is lent beside a map: this limit, and this mode, 0 for plain and any other number for the examined one
+abbrev pub lentOptions : ℕ → ℕ → Options
+lentOptions limit mode = record { limit = limit; examined = not (eqb mode 0) }
 
 abbrev pub flag : Bool → ℕ
 flag true = 1

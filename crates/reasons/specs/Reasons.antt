@@ -49,6 +49,7 @@ reasons first second =
     ∷ text "output short"
     ∷ text "bad map"
     ∷ text "bad limit"
+    ∷ both "long element: length " first ", limit " second
     ∷ []
 
 -- that of one number, and nothing for a number past the table

@@ -37,7 +37,7 @@ fn write_opcode(out: &mut [u8], at: usize, word: &[u8], opcode: u64) -> usize
     text::write_hex(out, next, opcode)
 }
 
-// The word of a number with its figures: document 01, section 7, and document 02. From 0 to 5, to 11, to 17, to 23 and to 27.
+// The word of a number with its figures: document 01, section 7, and document 02. From 0 to 5, to 11, to 17, to 23 and to 29.
 fn write_reason_0(out: &mut [u8], at: usize, number: u32, first: u64, second: u64) -> usize
     requires { ⌜ (at + 80 ≤ length (now out)) × ((0 ≤ number) × (number ≤ 5)) ⌝ }
     ensures same { λ r. ⌜ Written (now (out .entry)) at (reason number first second) (now (out .exit)) r ⌝ }
@@ -155,6 +155,16 @@ pub fn write_reason(out: &mut [u8], at: usize, number: u32, first: u64, second: 
     }
     if number < 30 {
         return write_reason_24(out, at, number, first, second);
+    }
+    if number == 30 {
+        return write_both(
+            out,
+            at,
+            b"long element: length ",
+            first,
+            b", limit ",
+            second,
+        );
     }
     at
 }

@@ -9,7 +9,7 @@ use Rattle.definition.specs.Walk.{Item, marking, unknowns}
 use Rattle.slots.specs.View.{Slots, slots, cells, backs, tops, Sound}
 use Rattle.stack.specs.declared.Stacks.{Stacks}
 use Rattle.stack.specs.declared.Refusal.{Refusal}
-use Rattle.stack.specs.declared.Refusal.the-variants.{Nesting, StacksFull, MainDry, AltDry, BadIndex, CrookedNumber, NegativeIndex, BadTag, Unmodelled, ArmsDiffer, StrayElse, SecondElse, StrayEndif, OpenIf}
+use Rattle.stack.specs.declared.Refusal.the-variants.{Nesting, StacksFull, MainDry, AltDry, BadIndex, CrookedNumber, NegativeIndex, BadTag, Unmodelled, LongElement, ArmsDiffer, StrayElse, SecondElse, StrayEndif, OpenIf}
 use Rattle.stack.specs.declared.Answer.{Answer}
 use Rattle.stack.specs.declared.Answer.the-variants.{Done, Refused}
 use Rattle.stack.specs.declared.Stepped.{Stepped}
@@ -27,6 +27,7 @@ refusalOf CrookedNumber = D.crookedNumber
 refusalOf NegativeIndex = D.negativeIndex
 refusalOf BadTag = D.badTag
 refusalOf (Unmodelled opcode) = D.unmodelledOpcode opcode
+refusalOf (LongElement size) = D.longElement size
 refusalOf ArmsDiffer = D.armsDiffer
 refusalOf StrayElse = D.strayElse
 refusalOf SecondElse = D.secondElse

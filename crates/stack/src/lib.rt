@@ -35,7 +35,8 @@ pub struct Stacks {
     pub codes: [u8; 244],
 }
 
-// The refusals of a walk, 5 to 16 of section 7 and 24 and 25 of request L2, with those of their figures that are not fixed.
+// The refusals of a walk, 5 to 16 of section 7, 24 and 25 of request L2 and 30 of request L7, with those of their figures that are
+// not fixed.
 pub enum Refusal {
     Nesting,
     StacksFull { wanted: u32, limit: u32 },
@@ -46,6 +47,7 @@ pub enum Refusal {
     NegativeIndex,
     BadTag,
     Unmodelled { opcode: u8 },
+    LongElement { size: usize },
     ArmsDiffer,
     StrayElse,
     SecondElse,

@@ -62,7 +62,7 @@ struct Figures {
     second: u64,
 }
 
-// The number and the figures of a refusal: section 7, and request L2.
+// The number and the figures of a refusal: section 7, and requests L2 and L7.
 fn figures_of(r: Refusal) -> Figures
     ensures { λ f.
         ⌜ ((at : ℕ) → refusedAt at (refusalOf r) ≡ answer (f .number) at (f .first) (f .second)) ⌝ }
@@ -112,6 +112,11 @@ fn figures_of(r: Refusal) -> Figures
             number: 11,
             first: opcode as u64,
             second: 0,
+        },
+        Refusal::LongElement { size } => Figures {
+            number: 30,
+            first: size as u64,
+            second: 520,
         },
         Refusal::ArmsDiffer => Figures {
             number: 12,

@@ -2,5 +2,6 @@
 pub mod Goings
 pub mod Rows
 pub mod Steps
+pub mod Literals
 pub mod Loop
 pub mod Dead

@@ -1,16 +1,17 @@
 -- The loop over plain instructions.
-use mathlib.Core.Bool.{Bool, true, false}
+use mathlib.Core.Bool.{Bool, true, false, _&&_}
 use mathlib.Core.List.{List, [], _∷_, _++_}
 use mathlib.Core.Logic.{_⊎_, ⊎-elim}
 use mathlib.Core.Path.{_≡_, refl, sym, ap, _∙_, subst}
 use Prim.Native.Nat.{ℕ, suc, _+_, _*_, _-_, _≤_, _<_, max}
 use native.Mathlib.Omega.{arith}
-use lib.Dec.{T}
+use lib.Dec.{T, ltb}
 use lib.ListN.{length, set}
 use Rattle.definition.specs.Basics.{Bytes, pick}
 use Rattle.definition.specs.Decoding.{instructions}
 use Rattle.definition.specs.Decoding as Decoding
 use Rattle.definition.specs.Classes.{Class, IF, NOTIF, ELSE, ENDIF, RETURN, Ordinary, ordinary, unmodelled, push, nothing, TOALT, FROMALT, NIP, TUCK, ROLL, copies, rotates, plain, classNumber, classAt}
+use Rattle.definition.specs.Refusals.{maxElement}
 use Rattle.definition.specs.Replay.{AreBytes}
 use Rattle.definition.specs.Stacks.{Rules, step, pushItem, copyItems, rotateItems, tuckTop, nipSecond, moveToAlt, moveFromAlt, popIndex, plainStep}
 use Rattle.definition.specs.Walk.{Item, dead, Frame, moves, effect, marking, totalOf, logRow}
@@ -19,11 +20,12 @@ use denote.Enum.Declared.{tagOf}
 use Rattle.decode.proofs.Decoded.{the-type}
 use Rattle.decode.specs.declared.Decoded.{Decoded}
 use Rattle.decode.specs.declared.Decoded.the-variants as D
-use Rattle.decode.specs.View.{codeAt, decodedAt, itemOf}
+use Rattle.decode.specs.View.{codeAt, decodedAt, dataStart, itemOf}
 use Rattle.decode.proofs.Codes.{InstructionAt, code-ends, code-malformed}
 use Rattle.decode.specs.declared.Instruction.{Instruction}
 use Rattle.opcodes.proofs.Every.{every}
 use Rattle.opcodes.proofs.Match.{Rest, gives, below}
+use Rattle.decode.specs.declared.Value.the-variants.{Unknown, Exact}
 use Rattle.stack.specs.View.{view, Fit, Says, Steps}
 use Rattle.stack.specs.declared.Stacks.{Stacks}
 use Rattle.stack.specs.declared.Stepped.{Stepped}
@@ -34,6 +36,7 @@ use Rattle.walk.specs.Runs.{arm, Goes, Any, stopOf, Stopped, Ready, Runs
 use Rattle.walk.specs.declared.Stop.{Stop}
 use Rattle.walk.specs.declared.Stop.the-variants.{Running, End, Conditional, Else, Endif, Refused}
 use Rattle.walk.specs.declared.Walk.{Walk}
+use Rattle.walk.proofs.Literals.{unknown-long, exact-pushed, long-pushed, short-pushed}
 use Rattle.walk.proofs.Goings.{stays, goes-on}
 use Rattle.walk.proofs.Steps.{past, at-if, at-notif, at-else, at-endif, at-return, skipped, stepped, at-end}
 
@@ -164,15 +167,39 @@ pub nearer : {R : Rules} {s : Bytes} {before : List ℕ} {v : Walk} {old : List 
     → length s - i .next < length s - w .at
 nearer m = omega (arith, m .stands .onward, m .stands .within)
 
+-- an unknown literal ends where the next instruction stands
+module _ {R : Rules} {s : Bytes} {before : List ℕ} {v : Walk} {old : List ℕ} {w : Walk} {new : List ℕ} {i : Instruction} {peak class : ℕ} (m : Met R s before v old w new i peak class)
+    (x : i .literal ≡ Unknown) where
+  data-long : 8 < length (m .stands .literal)
+  data-long = unknown-long (m .stands .literal) (m .stands .value ∙ x)
+
+  data-is : i .next - dataStart s (w .at) ≡ length (m .stands .literal)
+  data-is = omega (arith, m .stands .long data-long)
+
+  -- what `too_long` and `data_size` ask
+  pub data-within : (w .at < length s) × (dataStart s (w .at) ≤ i .next)
+  data-within = (omega (arith, m .stands .onward, m .stands .within), omega (arith, m .stands .long data-long))
+
 -- Each method of the stacks is the step of its class.
 module _ {R : Rules} {s : Bytes} {before : List ℕ} {v : Walk} {old : List ℕ} {w : Walk} {new : List ℕ} {i : Instruction} {peak class : ℕ} (m : Met R s before v old w new i peak class)
     (alive : w .live ≡ true) (r : Stepped) where
   abbrev On : Type 0
   On = Walking R s before v new (past w i peak (r .stacks) (w .live) (stopOf (r .answer)))
 
-  pub met-push : class ≡ 1 → Says r (pushItem (R .limit) (itemOf (i .literal)) (view (w .stacks))) → On
+  -- an exact literal is no long one
+  pub met-push : (len bytes : ℕ) → i .literal ≡ Exact len bytes → class ≡ 1 → Says r (pushItem (R .limit) (itemOf (i .literal)) (view (w .stacks))) → On
   unfolding step
-  met-push e h = met-live m 1 push e refl alive r (subst (λ (x : Item). Says r (pushItem (R .limit) x (view (w .stacks)))) (m .stands .item) h)
+  met-push len bytes x e h = met-live m 1 push e refl alive r
+      (subst (λ o. Says r o) (sym (exact-pushed R (m .stands .literal) (view (w .stacks)) len bytes (m .stands .value ∙ x)))
+      (subst (λ (x : Item). Says r (pushItem (R .limit) x (view (w .stacks)))) (m .stands .item) h))
+
+  -- nor is an unknown one that is tested
+  pub met-unknown : i .literal ≡ Unknown → (b : Bool) → b ≡ (R .examined && ltb maxElement (i .next - dataStart s (w .at))) → b ≡ false
+      → class ≡ 1 → Says r (pushItem (R .limit) (itemOf (i .literal)) (view (w .stacks))) → On
+  unfolding step
+  met-unknown x b t f e h = met-live m 1 push e refl alive r
+      (subst (λ o. Says r o) (sym (short-pushed R (m .stands .literal) (view (w .stacks)) _ (data-is m x) b t f))
+      (subst (λ (x : Item). Says r (pushItem (R .limit) x (view (w .stacks)))) (m .stands .item) h))
 
   pub met-to-alt : class ≡ 8 → Says r (moveToAlt (view (w .stacks))) → On
   unfolding step
@@ -204,6 +231,17 @@ module _ {R : Rules} {s : Bytes} {before : List ℕ} {v : Walk} {old : List ℕ}
   pub met-rotates : (n count shift : ℕ) → class ≡ n → classAt n ≡ ordinary (rotates count shift) → Says r (rotateItems count shift (view (w .stacks))) → On
   unfolding step
   met-rotates n count shift e k h = met-live m n (rotates count shift) e k alive r h
+
+-- a literal that is too long is refused, and the walk stops
+pub met-long : {R : Rules} {s : Bytes} {before : List ℕ} {v : Walk} {old : List ℕ} {w : Walk} {new : List ℕ} {i : Instruction} {peak class : ℕ} (m : Met R s before v old w new i peak class)
+    → w .live ≡ true → i .literal ≡ Unknown → (b : Bool) → b ≡ (R .examined && ltb maxElement (i .next - dataStart s (w .at))) → b ≡ true
+    → class ≡ 1 → (size : ℕ) → size ≡ i .next - dataStart s (w .at) → Runs R s v before (past w i peak (w .stacks) (w .live) (Refused (F.LongElement size))) new
+unfolding step
+met-long {R = R} {s = s} {before = before} {v = v} {w = w} {new = new} {i = i} {peak = peak} m l x b t f e size z = record { goes = long .goes; stopped = tt }
+  where
+    long : Walking R s before v new (past w i peak (w .stacks) (w .live) (Refused (F.LongElement size)))
+    long = met-live m 1 push e refl l (record { stacks = w .stacks; answer = A.Refused (F.LongElement size) })
+        (record { fit = m .walking .goes .fit; same = rw z (sym (long-pushed R (m .stands .literal) (view (w .stacks)) _ (data-is m x) b t f)) })
 
 -- an unmodelled opcode is refused
 pub met-unmodelled : {R : Rules} {s : Bytes} {before : List ℕ} {v : Walk} {old : List ℕ} {w : Walk} {new : List ℕ} {i : Instruction} {peak class : ℕ} → Met R s before v old w new i peak class

@@ -23,7 +23,7 @@ use Rattle.walk.specs.declared.Walk.{Walk}
 
 -- what is lent beside the classes
 abbrev pub optionsOf : Options → Maps.Options
-optionsOf o = record { limit = o .limit }
+optionsOf o = record { limit = o .limit; examined = o .examined }
 
 -- the arm of a walk
 abbrev pub armOf : Bool → Stacks → Arm

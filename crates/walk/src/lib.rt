@@ -17,18 +17,23 @@ use stack::Stepped;
 // What the log has for a height in a dead arm.
 const DEAD: u16 = 65535;
 
-// What a walk goes by besides the classes: the most items that the stacks hold together. Request L6.
+// What a walk goes by besides the classes: the most items that the stacks hold together (request L6), and whether literals above
+// 520 bytes are refused, the examined mode (request L7).
 pub struct Options {
     pub limit: u32,
+    pub examined: bool,
 }
 
 impl Options {
-    // What stands beside the built-in table: 244 items.
+    // What stands beside the built-in table: 244 items, plain mode.
     pub fn built_in() -> Options
         ensures same { λ r. ⌜ optionsOf r ≡ builtInOptions ⌝ }
         ensures limit { λ r. ⌜ r .limit ≡ 244 ⌝ }
     {
-        Options { limit: 244 }
+        Options {
+            limit: 244,
+            examined: false,
+        }
     }
 }
 
@@ -188,6 +193,7 @@ pub fn plain(code: &[u8], log: &mut [u16], classes: &[u8], options: Options, sta
     ensures { λ r. ⌜ Runs (rulesBy (now (classes .entry)) (optionsOf options)) (now (code .entry)) start (now (log .entry)) r (now (log .exit)) ⌝ }
 {
     let limit = options.limit;
+    let examined = options.examined;
     let s0 = start.stacks;
     let mut t = Stepped {
         stacks: s0,
@@ -250,6 +256,12 @@ pub fn plain(code: &[u8], log: &mut [u16], classes: &[u8], options: Options, sta
             opcodes::PUSH => {
                 let v = i.literal;
                 let Value::Exact { len, bytes } = v else {
+                    if decode::too_long(code, last, at, examined) {
+                        let size = decode::data_size(code, last, at);
+                        let s8 = t.stacks;
+                        let stop = Stop::Refused(Refusal::LongElement { size });
+                        return stopped(s8, true, at, last, rows, peak, stop);
+                    }
                     let s = t.stacks;
                     t = s.push_code(9, limit);
                     continue;

@@ -14,17 +14,17 @@ enum-told c = search needs
 enum-known-r : tie.Need-enum-known-r
 enum-known-r c = search needs
 
-cast-t8 : tie.Need-cast-t8
-cast-t8 c = search needs
-
 cast-t9 : tie.Need-cast-t9
 cast-t9 c = search needs
+
+cast-t10 : tie.Need-cast-t10
+cast-t10 c = search needs
 
 enum-known-r-2 : tie.Need-enum-known-r-2
 enum-known-r-2 c = search needs
 
-cast-t10 : tie.Need-cast-t10
-cast-t10 c = search needs
+cast-t11 : tie.Need-cast-t11
+cast-t11 c = search needs
 
 enum-told-2 : tie.Need-enum-told-2
 enum-told-2 c = search needs
@@ -44,8 +44,11 @@ enum-told-6 c = search needs
 enum-known-r-3 : tie.Need-enum-known-r-3
 enum-known-r-3 c = search needs
 
-cast-t11 : tie.Need-cast-t11
-cast-t11 c = search needs
+cast-t12 : tie.Need-cast-t12
+cast-t12 c = search needs
+
+enum-known-r-4 : tie.Need-enum-known-r-4
+enum-known-r-4 c = search needs
 
 enum-told-7 : tie.Need-enum-told-7
 enum-told-7 c = search needs
@@ -90,19 +93,22 @@ returns-9 : tie.Need-returns-9
 returns-9 c = λ at. ap (λ x. refusedAt at (refusalOf x)) (c .before .r3 .given .1)
 
 returns-10 : tie.Need-returns-10
-returns-10 c = λ at. ap (λ x. refusedAt at (refusalOf x)) (c .enum-told7 .given .1)
+returns-10 c = λ at. ap (λ x. refusedAt at (refusalOf x)) (c .before .r4 .given .1)
 
 returns-11 : tie.Need-returns-11
-returns-11 c = λ at. ap (λ x. refusedAt at (refusalOf x)) (c .enum-told8 .given .1)
+returns-11 c = λ at. ap (λ x. refusedAt at (refusalOf x)) (c .enum-told7 .given .1)
 
 returns-12 : tie.Need-returns-12
-returns-12 c = λ at. ap (λ x. refusedAt at (refusalOf x)) (c .enum-told9 .given .1)
+returns-12 c = λ at. ap (λ x. refusedAt at (refusalOf x)) (c .enum-told8 .given .1)
 
 returns-13 : tie.Need-returns-13
-returns-13 c = λ at. ap (λ x. refusedAt at (refusalOf x)) (c .enum-told10 .given .1)
+returns-13 c = λ at. ap (λ x. refusedAt at (refusalOf x)) (c .enum-told9 .given .1)
 
 returns-14 : tie.Need-returns-14
-returns-14 c = λ at. ap (λ x. refusedAt at (refusalOf x)) (c .enum-told11 .given .1)
+returns-14 c = λ at. ap (λ x. refusedAt at (refusalOf x)) (c .enum-told10 .given .1)
+
+returns-15 : tie.Need-returns-15
+returns-15 c = λ at. ap (λ x. refusedAt at (refusalOf x)) (c .enum-told11 .given .1)
 
 pub figures-of-spec : {M : Type 1} → statement M
 figures-of-spec =
@@ -110,17 +116,18 @@ figures-of-spec =
     (tie.spec
     enum-told
     enum-known-r
-    cast-t8
     cast-t9
-    enum-known-r-2
     cast-t10
+    enum-known-r-2
+    cast-t11
     enum-told-2
     enum-told-3
     enum-told-4
     enum-told-5
     enum-told-6
     enum-known-r-3
-    cast-t11
+    cast-t12
+    enum-known-r-4
     enum-told-7
     enum-told-8
     enum-told-9
@@ -139,4 +146,5 @@ figures-of-spec =
     returns-11
     returns-12
     returns-13
-    returns-14)
+    returns-14
+    returns-15)

@@ -13,7 +13,7 @@ use Rattle.stack.proofs.Values.{unknown-suffices, held-exact, code-wants, push-
 use Rattle.walk.specs.declared.Stop.the-variants.{Running}
 use Rattle.walk.proofs.Rows.{row-written, high-of, not-live, is-live}
 use Rattle.walk.proofs.Dead.{then-dead, room-there, room-on}
-use Rattle.walk.proofs.Loop.{walkOf, Walking, walking-none, runs-from, Met, was-refused, none-left, row-room, no-instruction, ready-running, nearer, class-left, met-copies, met-else, met-endif, met-from-alt, met-if, met-nip, met-nothing, met-notif, met-push, met-return, met-roll, met-rotates, met-steps, met-plain, met-to-alt, met-tuck, met-unmodelled}
+use Rattle.walk.proofs.Loop.{walkOf, Walking, walking-none, runs-from, Met, was-refused, none-left, row-room, no-instruction, ready-running, nearer, class-left, met-copies, met-else, met-endif, met-from-alt, met-if, met-nip, met-nothing, met-notif, met-push, met-unknown, met-long, data-within, met-return, met-roll, met-rotates, met-steps, met-plain, met-to-alt, met-tuck, met-unmodelled}
 use Rattle.walk.proofs.plain.Statement.{statement}
 use Rattle.walk.proofs.plain.Tie as tie
 use Rattle.walk.proofs.plain.Reads as reads
@@ -29,6 +29,8 @@ use Rattle.stack.proofs.Stacks.move_from_alt.Reads as move-from-alt-reads
 use Rattle.stack.proofs.Stacks.move_to_alt.Reads as move-to-alt-reads
 use Rattle.stack.proofs.Stacks.nip.Reads as nip-reads
 use Rattle.stack.proofs.Stacks.pick.Reads as pick-reads
+use Rattle.decode.proofs.too_long.Reads as too-long-reads
+use Rattle.decode.proofs.data_size.Reads as data-size-reads
 use Rattle.stack.proofs.Stacks.push_code.Reads as push-code-reads
 use Rattle.stack.proofs.Stacks.push_exact.Reads as push-exact-reads
 use Rattle.stack.proofs.Stacks.roll.Reads as roll-reads
@@ -42,14 +44,14 @@ use Rattle.walk.proofs.skip.Reads as skip-reads
 use Rattle.walk.proofs.stopped.Reads as stopped-reads
 
 abbrev Inv-loop : tie.InvT-loop
-Inv-loop code log₀ classes limit t₀ at₀ last₀ rows₀ peak₀ log t at last rows peak =
-    Walking (rulesBy classes (record { limit = limit })) code log₀ (walkOf t₀ at₀ last₀ rows₀ peak₀) log (walkOf t at last rows peak)
+Inv-loop code log₀ classes limit examined t₀ at₀ last₀ rows₀ peak₀ log t at last rows peak =
+    Walking (rulesBy classes (record { limit = limit; examined = examined })) code log₀ (walkOf t₀ at₀ last₀ rows₀ peak₀) log (walkOf t at last rows peak)
 
 abbrev μ-loop : tie.MeasureT-loop
-μ-loop code log₀ classes limit t₀ at₀ last₀ rows₀ peak₀ log t at last rows peak = length code - at
+μ-loop code log₀ classes limit examined t₀ at₀ last₀ rows₀ peak₀ log t at last rows peak = length code - at
 
 -- what is known once an instruction is met, its row is written and its class number is read
-met : (c : lts.After-class-in (skip-reads.Asked, skip-reads.Learnt, stopped-reads.Asked, stopped-reads.Learnt, higher-reads.Asked, higher-reads.Learnt, decode-at-reads.Asked, decode-at-reads.Learnt, log-row-reads.Asked, log-row-reads.Learnt, class-in-reads.Asked, class-in-reads.Learnt, push-code-reads.Asked, push-code-reads.Learnt, code-of-reads.Asked, code-of-reads.Learnt, suffices-reads.Asked, suffices-reads.Learnt, push-exact-reads.Asked, push-exact-reads.Learnt, move-to-alt-reads.Asked, move-to-alt-reads.Learnt, move-from-alt-reads.Asked, move-from-alt-reads.Learnt, depth-reads.Asked, depth-reads.Learnt, size-reads.Asked, size-reads.Learnt, nip-reads.Asked, nip-reads.Learnt, tuck-reads.Asked, tuck-reads.Learnt, pick-reads.Asked, pick-reads.Learnt, roll-reads.Asked, roll-reads.Learnt, zk-reads.Asked, zk-reads.Learnt, extend-from-within-reads.Asked, extend-from-within-reads.Learnt, rotate-left-reads.Asked, rotate-left-reads.Learnt, apply-effect-reads.Asked, apply-effect-reads.Learnt) reads.Pre reads.Post Inv-loop μ-loop)
+met : (c : lts.After-class-in (skip-reads.Asked, skip-reads.Learnt, stopped-reads.Asked, stopped-reads.Learnt, higher-reads.Asked, higher-reads.Learnt, decode-at-reads.Asked, decode-at-reads.Learnt, log-row-reads.Asked, log-row-reads.Learnt, class-in-reads.Asked, class-in-reads.Learnt, too-long-reads.Asked, too-long-reads.Learnt, data-size-reads.Asked, data-size-reads.Learnt, push-code-reads.Asked, push-code-reads.Learnt, code-of-reads.Asked, code-of-reads.Learnt, suffices-reads.Asked, suffices-reads.Learnt, push-exact-reads.Asked, push-exact-reads.Learnt, move-to-alt-reads.Asked, move-to-alt-reads.Learnt, move-from-alt-reads.Asked, move-from-alt-reads.Learnt, depth-reads.Asked, depth-reads.Learnt, size-reads.Asked, size-reads.Learnt, nip-reads.Asked, nip-reads.Learnt, tuck-reads.Asked, tuck-reads.Learnt, pick-reads.Asked, pick-reads.Learnt, roll-reads.Asked, roll-reads.Learnt, zk-reads.Asked, zk-reads.Learnt, extend-from-within-reads.Asked, extend-from-within-reads.Learnt, rotate-left-reads.Asked, rotate-left-reads.Learnt, apply-effect-reads.Asked, apply-effect-reads.Learnt) reads.Pre reads.Post Inv-loop μ-loop)
     → Met (rulesBy (c .before .before .before .before .before .before .before .before .before .before .before .before .before .before .before .before .before .before .before .args .classes .now) (optionsOf (c .before .before .before .before .before .before .before .before .before .before .before .before .before .before .before .before .before .before .before .args .options))) (c .before .before .before .before .before .before .before .before .before .before .before .before .before .before .before .before .before .before .before .args .code .now) (c .before .before .before .before .before .before .before .before .before .before .before .before .before .before .before .before .before .before .before .args .log .now) (record { stacks = c .before .before .before .before .before .before .before .before .before .before .before .before .before .before .before .before .before .before .before .args .start .stacks; live = true; at = c .before .before .before .before .before .before .before .before .before .before .before .before .before .before .before .before .before .before .before .args .start .at; last = c .before .before .before .before .before .before .before .before .before .before .before .before .before .before .before .before .before .before .before .args .start .last; rows = c .before .before .before .before .before .before .before .before .before .before .before .before .before .before .before .before .before .before .before .args .start .rows; peak = c .before .before .before .before .before .before .before .before .before .before .before .before .before .before .before .before .before .before .before .args .start .peak; stop = Running }) (c .before .before .before .before .before .before .before .before .before .before .before .before .loop .log) (walkOf (c .before .before .before .before .before .before .before .before .before .before .before .before .loop .t) (c .before .before .before .before .before .before .before .before .before .before .before .before .loop .at) (c .before .before .before .before .before .before .before .before .before .before .before .before .loop .last) (c .before .before .before .before .before .before .before .before .before .before .before .before .loop .rows) (c .before .before .before .before .before .before .before .before .before .before .before .before .loop .peak)) (c .before .before .before .log-row .last .0) (c .before .before .before .before .before .before .d .given .0 .0) (c .before .before .before .before .before .before .before .before .before .higher .result) (c .class-in .result)
 met c =
     let l = c .before .before .before in
@@ -198,14 +200,29 @@ enum-known-v c = search needs
 enum-told-2 : tie.Need-enum-told-2 Inv-loop μ-loop
 enum-told-2 c = search needs
 
+too-long-requires : tie.Need-too-long-requires Inv-loop μ-loop
+too-long-requires c κs = data-within (met (c .before .before .before)) (c .enum-told2 .given .1)
+
+data-size-requires : tie.Need-data-size-requires Inv-loop μ-loop
+data-size-requires c κs = data-within (met (c .before .before .before .before .before)) (c .before .before .enum-told2 .given .1)
+
+stopped-requires-9 : tie.Need-stopped-requires-9 Inv-loop μ-loop
+stopped-requires-9 c κs = search needs
+
+same-length-9 : tie.Need-same-length-9 Inv-loop μ-loop
+same-length-9 c = let m = met (c .before .before .before .before .before .before .before .before) in m .len ∙ m .walking .len
+
+returns-9 : tie.Need-returns-9 Inv-loop μ-loop
+returns-9 c = rw (c .stopped9 .ensures) (runs-from (c .before .before .before .before .before .before .before .before .before .before .before .before .before .before .before .before .before .before .before .before .before .before .before .before .before .before .before .args .start) (is-live _ (c .before .before .before .before .before .before .before .before .before .before .before .before .before .before .before .before .before .before .before .before .before .if1 .left)) (c .before .before .before .before .before .before .before .before .before .before .before .before .before .before .before .before .before .before .before .before .before .before .before .before .before .before .before .pre .0 .1) (met-long (met (c .before .before .before .before .before .before .before .before)) refl (c .before .before .before .before .before .enum-told2 .given .1) _ (c .before .before .before .before .too-long .ensures) (c .before .before .before .if2 .taken) (c .before .before .before .before .before .before .before .match3 .keys7) _ (c .before .before .data-size .ensures)))
+
 push-code-requires : tie.Need-push-code-requires Inv-loop μ-loop
-push-code-requires c κs = (search needs, (unknown-suffices, c .before .before .before .before .before .before .before .before .before .before .before .before .before .before .before .before .before .before .before .before .before .before .before .pre .1 .1))
+push-code-requires c κs = (met (c .before .before .before .before .before .before) .walking .goes .fit, (unknown-suffices, c .before .before .before .before .before .before .before .before .before .before .before .before .before .before .before .before .before .before .before .before .before .before .before .before .before .pre .1 .1))
 
 loop-less-2 : tie.Need-loop-less-2 Inv-loop μ-loop
-loop-less-2 c = nearer (met (c .before .before .before .before .before))
+loop-less-2 c = nearer (met (c .before .before .before .before .before .before .before))
 
 loop-again-2 : tie.Need-loop-again-2 Inv-loop μ-loop
-loop-again-2 c = met-push (met (c .before .before .before .before .before)) refl (c .push-code .result) (c .before .before .before .before .match3 .keys7) (push-is-unknown _ _ _ (c .push-code .result) (c .before .before .enum-told2 .given .1) (c .push-code .ensures))
+loop-again-2 c = met-unknown (met (c .before .before .before .before .before .before .before)) refl (c .push-code .result) (c .before .before .before .before .enum-told2 .given .1) _ (c .before .before .before .too-long .ensures) (c .before .before .if2 .left) (c .before .before .before .before .before .before .match3 .keys7) (push-is-unknown _ _ _ (c .push-code .result) (c .before .before .before .before .enum-told2 .given .1) (c .push-code .ensures))
 
 code-of-requires : tie.Need-code-of-requires Inv-loop μ-loop
 code-of-requires c κs = search needs
@@ -214,22 +231,22 @@ suffices-requires : tie.Need-suffices-requires Inv-loop μ-loop
 suffices-requires c κs = search needs
 
 push-code-requires-2 : tie.Need-push-code-requires-2 Inv-loop μ-loop
-push-code-requires-2 c κs = (met (c .before .before .before .before .before .before .before .before) .walking .goes .fit, (sym (c .before .before .suffices .ensures) ∙ c .before .if2 .taken, c .before .before .before .before .before .before .before .before .before .before .before .before .before .before .before .before .before .before .before .before .before .before .before .before .before .before .before .pre .1 .1))
+push-code-requires-2 c κs = (met (c .before .before .before .before .before .before .before .before) .walking .goes .fit, (sym (c .before .before .suffices .ensures) ∙ c .before .if3 .taken, c .before .before .before .before .before .before .before .before .before .before .before .before .before .before .before .before .before .before .before .before .before .before .before .before .before .before .before .pre .1 .1))
 
 loop-less-3 : tie.Need-loop-less-3 Inv-loop μ-loop
 loop-less-3 c = nearer (met (c .before .before .before .before .before .before .before .before .before))
 
 loop-again-3 : tie.Need-loop-again-3 Inv-loop μ-loop
-loop-again-3 c = met-push (met (c .before .before .before .before .before .before .before .before .before)) refl (c .push-code2 .result) (c .before .before .before .before .before .before .before .before .match3 .keys7) (push-is-code _ _ _ (c .push-code2 .result) _ _ (c .before .before .before .before .before .before .v .given .1) (met (c .before .before .before .before .before .before .before .before .before) .stands .held) _ (c .before .before .before .before .code-of .ensures) (sym (c .before .before .before .suffices .ensures) ∙ c .before .before .if2 .taken) (c .push-code2 .ensures))
+loop-again-3 c = met-push (met (c .before .before .before .before .before .before .before .before .before)) refl (c .push-code2 .result) _ _ (c .before .before .before .before .before .before .v .given .1) (c .before .before .before .before .before .before .before .before .match3 .keys7) (push-is-code _ _ _ (c .push-code2 .result) _ _ (c .before .before .before .before .before .before .v .given .1) (met (c .before .before .before .before .before .before .before .before .before) .stands .held) _ (c .before .before .before .before .code-of .ensures) (sym (c .before .before .before .suffices .ensures) ∙ c .before .before .if3 .taken) (c .push-code2 .ensures))
 
 push-exact-requires : tie.Need-push-exact-requires Inv-loop μ-loop
-push-exact-requires c κs = (met (c .before .before .before .before .before .before .before .before) .walking .goes .fit, (held-exact _ _ _ (c .before .before .before .before .before .v .given .1) (met (c .before .before .before .before .before .before .before .before) .stands .held), (code-wants _ _ (c .before .before .before .code-of .ensures) (sym (c .before .before .suffices .ensures) ∙ c .before .if2 .left), omega (arith, c .before .before .before .before .before .before .before .before .before .before .before .before .before .before .before .before .before .before .before .before .before .before .before .before .before .before .before .pre .1 .1))))
+push-exact-requires c κs = (met (c .before .before .before .before .before .before .before .before) .walking .goes .fit, (held-exact _ _ _ (c .before .before .before .before .before .v .given .1) (met (c .before .before .before .before .before .before .before .before) .stands .held), (code-wants _ _ (c .before .before .before .code-of .ensures) (sym (c .before .before .suffices .ensures) ∙ c .before .if3 .left), omega (arith, c .before .before .before .before .before .before .before .before .before .before .before .before .before .before .before .before .before .before .before .before .before .before .before .before .before .before .before .pre .1 .1))))
 
 loop-less-4 : tie.Need-loop-less-4 Inv-loop μ-loop
 loop-less-4 c = nearer (met (c .before .before .before .before .before .before .before .before .before))
 
 loop-again-4 : tie.Need-loop-again-4 Inv-loop μ-loop
-loop-again-4 c = met-push (met (c .before .before .before .before .before .before .before .before .before)) refl (c .push-exact .result) (c .before .before .before .before .before .before .before .before .match3 .keys7) (push-is-exact _ _ _ (c .push-exact .result) _ _ (c .before .before .before .before .before .before .v .given .1) (c .push-exact .ensures))
+loop-again-4 c = met-push (met (c .before .before .before .before .before .before .before .before .before)) refl (c .push-exact .result) _ _ (c .before .before .before .before .before .before .v .given .1) (c .before .before .before .before .before .before .before .before .match3 .keys7) (push-is-exact _ _ _ (c .push-exact .result) _ _ (c .before .before .before .before .before .before .v .given .1) (c .push-exact .ensures))
 
 move-to-alt-requires : tie.Need-move-to-alt-requires Inv-loop μ-loop
 move-to-alt-requires c κs = search needs
@@ -250,7 +267,7 @@ loop-again-6 : tie.Need-loop-again-6 Inv-loop μ-loop
 loop-again-6 c = met-from-alt (met (c .before .before .before)) refl (c .move-from-alt .result) (c .before .before .match3 .keys9) (c .move-from-alt .ensures)
 
 depth-requires : tie.Need-depth-requires Inv-loop μ-loop
-depth-requires c κs = search needs
+depth-requires c κs = search (needs, c .before .before .before .before .before .before .before .before .before .before .before .before .before .before .before .before .before .before .before .before .before .pre .1 .1)
 
 loop-less-7 : tie.Need-loop-less-7 Inv-loop μ-loop
 loop-less-7 c = nearer (met (c .before .before .before))
@@ -259,7 +276,7 @@ loop-again-7 : tie.Need-loop-again-7 Inv-loop μ-loop
 loop-again-7 c = met-steps (met (c .before .before .before)) refl (c .depth .result) 10 _ (c .before .before .match3 .keys10) refl (c .depth .ensures)
 
 size-requires : tie.Need-size-requires Inv-loop μ-loop
-size-requires c κs = search needs
+size-requires c κs = search (needs, c .before .before .before .before .before .before .before .before .before .before .before .before .before .before .before .before .before .before .before .before .before .pre .1 .1)
 
 loop-less-8 : tie.Need-loop-less-8 Inv-loop μ-loop
 loop-less-8 c = nearer (met (c .before .before .before))
@@ -277,7 +294,7 @@ loop-again-9 : tie.Need-loop-again-9 Inv-loop μ-loop
 loop-again-9 c = met-nip (met (c .before .before .before)) refl (c .nip .result) (c .before .before .match3 .keys12) (c .nip .ensures)
 
 tuck-requires : tie.Need-tuck-requires Inv-loop μ-loop
-tuck-requires c κs = search needs
+tuck-requires c κs = search (needs, c .before .before .before .before .before .before .before .before .before .before .before .before .before .before .before .before .before .before .before .before .before .pre .1 .1)
 
 loop-less-10 : tie.Need-loop-less-10 Inv-loop μ-loop
 loop-less-10 c = nearer (met (c .before .before .before))
@@ -286,7 +303,7 @@ loop-again-10 : tie.Need-loop-again-10 Inv-loop μ-loop
 loop-again-10 c = met-tuck (met (c .before .before .before)) refl (c .tuck .result) (c .before .before .match3 .keys13) (c .tuck .ensures)
 
 pick-requires : tie.Need-pick-requires Inv-loop μ-loop
-pick-requires c κs = search needs
+pick-requires c κs = search (needs, c .before .before .before .before .before .before .before .before .before .before .before .before .before .before .before .before .before .before .before .before .before .pre .1 .1)
 
 loop-less-11 : tie.Need-loop-less-11 Inv-loop μ-loop
 loop-less-11 c = nearer (met (c .before .before .before))
@@ -304,7 +321,7 @@ loop-again-12 : tie.Need-loop-again-12 Inv-loop μ-loop
 loop-again-12 c = met-roll (met (c .before .before .before)) refl (c .roll .result) (c .before .before .match3 .keys15) (c .roll .ensures)
 
 zk-requires : tie.Need-zk-requires Inv-loop μ-loop
-zk-requires c κs = search needs
+zk-requires c κs = search (needs, c .before .before .before .before .before .before .before .before .before .before .before .before .before .before .before .before .before .before .before .before .before .pre .1 .1)
 
 loop-less-13 : tie.Need-loop-less-13 Inv-loop μ-loop
 loop-less-13 c = nearer (met (c .before .before .before))
@@ -313,7 +330,7 @@ loop-again-13 : tie.Need-loop-again-13 Inv-loop μ-loop
 loop-again-13 c = met-steps (met (c .before .before .before)) refl (c .zk .result) 16 _ (c .before .before .match3 .keys16) refl (c .zk .ensures)
 
 extend-from-within-requires : tie.Need-extend-from-within-requires Inv-loop μ-loop
-extend-from-within-requires c κs = search needs
+extend-from-within-requires c κs = search (needs, c .before .before .before .before .before .before .before .before .before .before .before .before .before .before .before .before .before .before .before .before .before .pre .1 .1)
 
 loop-less-14 : tie.Need-loop-less-14 Inv-loop μ-loop
 loop-less-14 c = nearer (met (c .before .before .before))
@@ -322,7 +339,7 @@ loop-again-14 : tie.Need-loop-again-14 Inv-loop μ-loop
 loop-again-14 c = met-copies (met (c .before .before .before)) refl (c .extend-from-within .result) 17 1 1 (c .before .before .match3 .keys17) refl (c .extend-from-within .ensures)
 
 extend-from-within-requires-2 : tie.Need-extend-from-within-requires-2 Inv-loop μ-loop
-extend-from-within-requires-2 c κs = search needs
+extend-from-within-requires-2 c κs = search (needs, c .before .before .before .before .before .before .before .before .before .before .before .before .before .before .before .before .before .before .before .before .before .pre .1 .1)
 
 loop-less-15 : tie.Need-loop-less-15 Inv-loop μ-loop
 loop-less-15 c = nearer (met (c .before .before .before))
@@ -331,7 +348,7 @@ loop-again-15 : tie.Need-loop-again-15 Inv-loop μ-loop
 loop-again-15 c = met-copies (met (c .before .before .before)) refl (c .extend-from-within2 .result) 18 2 2 (c .before .before .match3 .keys18) refl (c .extend-from-within2 .ensures)
 
 extend-from-within-requires-3 : tie.Need-extend-from-within-requires-3 Inv-loop μ-loop
-extend-from-within-requires-3 c κs = search needs
+extend-from-within-requires-3 c κs = search (needs, c .before .before .before .before .before .before .before .before .before .before .before .before .before .before .before .before .before .before .before .before .before .pre .1 .1)
 
 loop-less-16 : tie.Need-loop-less-16 Inv-loop μ-loop
 loop-less-16 c = nearer (met (c .before .before .before))
@@ -340,7 +357,7 @@ loop-again-16 : tie.Need-loop-again-16 Inv-loop μ-loop
 loop-again-16 c = met-copies (met (c .before .before .before)) refl (c .extend-from-within3 .result) 19 3 3 (c .before .before .match3 .keys19) refl (c .extend-from-within3 .ensures)
 
 extend-from-within-requires-4 : tie.Need-extend-from-within-requires-4 Inv-loop μ-loop
-extend-from-within-requires-4 c κs = search needs
+extend-from-within-requires-4 c κs = search (needs, c .before .before .before .before .before .before .before .before .before .before .before .before .before .before .before .before .before .before .before .before .before .pre .1 .1)
 
 loop-less-17 : tie.Need-loop-less-17 Inv-loop μ-loop
 loop-less-17 c = nearer (met (c .before .before .before))
@@ -349,7 +366,7 @@ loop-again-17 : tie.Need-loop-again-17 Inv-loop μ-loop
 loop-again-17 c = met-copies (met (c .before .before .before)) refl (c .extend-from-within4 .result) 20 2 1 (c .before .before .match3 .keys20) refl (c .extend-from-within4 .ensures)
 
 extend-from-within-requires-5 : tie.Need-extend-from-within-requires-5 Inv-loop μ-loop
-extend-from-within-requires-5 c κs = search needs
+extend-from-within-requires-5 c κs = search (needs, c .before .before .before .before .before .before .before .before .before .before .before .before .before .before .before .before .before .before .before .before .before .pre .1 .1)
 
 loop-less-18 : tie.Need-loop-less-18 Inv-loop μ-loop
 loop-less-18 c = nearer (met (c .before .before .before))
@@ -394,7 +411,7 @@ loop-again-22 : tie.Need-loop-again-22 Inv-loop μ-loop
 loop-again-22 c = met-rotates (met (c .before .before .before)) refl (c .rotate-left4 .result) 25 4 2 (c .before .before .match3 .keys25) refl (c .rotate-left4 .ensures)
 
 apply-effect-requires : tie.Need-apply-effect-requires Inv-loop μ-loop
-apply-effect-requires c κs = search needs
+apply-effect-requires c κs = search (needs, c .before .before .before .before .before .before .before .before .before .before .before .before .before .before .before .before .before .before .before .before .before .pre .1 .1)
 
 loop-less-23 : tie.Need-loop-less-23 Inv-loop μ-loop
 loop-less-23 c = nearer (met (c .before .before .before))
@@ -403,7 +420,7 @@ loop-again-23 : tie.Need-loop-again-23 Inv-loop μ-loop
 loop-again-23 c = met-plain (met (c .before .before .before)) 26 1 0 (c .before .before .match3 .keys26) refl refl (c .apply-effect .result) (c .apply-effect .ensures)
 
 apply-effect-requires-2 : tie.Need-apply-effect-requires-2 Inv-loop μ-loop
-apply-effect-requires-2 c κs = search needs
+apply-effect-requires-2 c κs = search (needs, c .before .before .before .before .before .before .before .before .before .before .before .before .before .before .before .before .before .before .before .before .before .pre .1 .1)
 
 loop-less-24 : tie.Need-loop-less-24 Inv-loop μ-loop
 loop-less-24 c = nearer (met (c .before .before .before))
@@ -412,7 +429,7 @@ loop-again-24 : tie.Need-loop-again-24 Inv-loop μ-loop
 loop-again-24 c = met-plain (met (c .before .before .before)) 27 2 0 (c .before .before .match3 .keys27) refl refl (c .apply-effect2 .result) (c .apply-effect2 .ensures)
 
 apply-effect-requires-3 : tie.Need-apply-effect-requires-3 Inv-loop μ-loop
-apply-effect-requires-3 c κs = search needs
+apply-effect-requires-3 c κs = search (needs, c .before .before .before .before .before .before .before .before .before .before .before .before .before .before .before .before .before .before .before .before .before .pre .1 .1)
 
 loop-less-25 : tie.Need-loop-less-25 Inv-loop μ-loop
 loop-less-25 c = nearer (met (c .before .before .before))
@@ -421,7 +438,7 @@ loop-again-25 : tie.Need-loop-again-25 Inv-loop μ-loop
 loop-again-25 c = met-plain (met (c .before .before .before)) 28 0 1 (c .before .before .match3 .keys28) refl refl (c .apply-effect3 .result) (c .apply-effect3 .ensures)
 
 apply-effect-requires-4 : tie.Need-apply-effect-requires-4 Inv-loop μ-loop
-apply-effect-requires-4 c κs = search needs
+apply-effect-requires-4 c κs = search (needs, c .before .before .before .before .before .before .before .before .before .before .before .before .before .before .before .before .before .before .before .before .before .pre .1 .1)
 
 loop-less-26 : tie.Need-loop-less-26 Inv-loop μ-loop
 loop-less-26 c = nearer (met (c .before .before .before))
@@ -430,7 +447,7 @@ loop-again-26 : tie.Need-loop-again-26 Inv-loop μ-loop
 loop-again-26 c = met-plain (met (c .before .before .before)) 29 1 1 (c .before .before .match3 .keys29) refl refl (c .apply-effect4 .result) (c .apply-effect4 .ensures)
 
 apply-effect-requires-5 : tie.Need-apply-effect-requires-5 Inv-loop μ-loop
-apply-effect-requires-5 c κs = search needs
+apply-effect-requires-5 c κs = search (needs, c .before .before .before .before .before .before .before .before .before .before .before .before .before .before .before .before .before .before .before .before .before .pre .1 .1)
 
 loop-less-27 : tie.Need-loop-less-27 Inv-loop μ-loop
 loop-less-27 c = nearer (met (c .before .before .before))
@@ -439,7 +456,7 @@ loop-again-27 : tie.Need-loop-again-27 Inv-loop μ-loop
 loop-again-27 c = met-plain (met (c .before .before .before)) 30 3 1 (c .before .before .match3 .keys30) refl refl (c .apply-effect5 .result) (c .apply-effect5 .ensures)
 
 apply-effect-requires-6 : tie.Need-apply-effect-requires-6 Inv-loop μ-loop
-apply-effect-requires-6 c κs = search needs
+apply-effect-requires-6 c κs = search (needs, c .before .before .before .before .before .before .before .before .before .before .before .before .before .before .before .before .before .before .before .before .before .pre .1 .1)
 
 loop-less-28 : tie.Need-loop-less-28 Inv-loop μ-loop
 loop-less-28 c = nearer (met (c .before .before .before))
@@ -502,6 +519,11 @@ plain-spec =
     loop-again
     enum-known-v
     enum-told-2
+    too-long-requires
+    data-size-requires
+    stopped-requires-9
+    same-length-9
+    returns-9
     push-code-requires
     loop-less-2
     loop-again-2
