@@ -26,3 +26,4 @@ pub mod UnderEveryMap
 pub mod Allowed
 pub mod AllowedPapers
 pub mod Raising
+pub mod ClassicYear

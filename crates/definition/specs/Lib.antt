@@ -17,3 +17,4 @@ pub mod Shortest
 pub mod Assembling
 pub mod Allows
 pub mod Maps
+pub mod Years
