@@ -8,7 +8,7 @@ classic-numbers-requires : tie.Need-classic-numbers-requires
 classic-numbers-requires c κs = search needs
 
 returns : tie.Need-returns
-returns c = classic-rows _ _ (c .before .if1 .taken) (c .classic-numbers .ensures)
+returns c = classic-rows _ _ (omega (arith, c .before .if1 .taken)) (c .classic-numbers .ensures)
 
 numbers-requires : tie.Need-numbers-requires
 numbers-requires c κs = search needs
