@@ -3,7 +3,7 @@
 use tools::blank::{changed, free_in_paper, long_data, with_long_data};
 use tools::case;
 use tools::case::Case;
-use tools::definition::{self, Rules, built_in_map};
+use tools::definition::{self, Rules, built_in_map, classic_map};
 use tools::generate::{Draft, Kind, body, case, mutate, planned, start};
 use tools::maps::{self, Codes, damaged_map, good_map};
 use tools::model::{FAULTS, Fault, Writer};
@@ -134,6 +134,7 @@ pub fn parts<M: Marker>(sizes: &Sizes) -> Vec<Part<M>> {
     part("maps", sizes.mapped / 1_000, Box::new(|worker, _| mapped(worker, 1_000)));
     part("papers by maps", sizes.mapped_papers / 100, Box::new(|worker, _| mapped_papers(worker, 100)));
     part("bad maps", 257 + sizes.bad_maps / 1_000, Box::new(|worker, chunk| bad_maps(worker, chunk, 1_000)));
+    part("classic year", 256, Box::new(|worker, chunk| classic_year(worker, chunk as u8)));
     parts
 }
 
@@ -784,6 +785,18 @@ fn each_kind<M: Marker>(worker: &mut Worker<M>, by: &Lent) -> Done {
     let sample = [1, 0, 1, 0, 0x0e, 0, 0, 0, 1, 0, 0x0e, 0, 6, 0, 0x63, 0x51, 0x67, 0x52, 0x68, 0x75];
     for bytes in [&sample[..], &sample[..19], &[], &long[..8_001]] {
         worker.paper_by(by, bytes, 20)?;
+    }
+    Ok(())
+}
+
+/// Request L8: every fragment of two bytes that begins with this one, and this one alone, by the map of the classic year.
+fn classic_year<M: Marker>(worker: &mut Worker<M>, first: u8) -> Done {
+    let by = Lent { map: classic_map(), limit: 244 };
+    for (main, alt) in STARTS {
+        by_rules(worker, &by, main, alt, &[first], 1)?;
+        for second in 0..=255 {
+            by_rules(worker, &by, main, alt, &[first, second], 20)?;
+        }
     }
     Ok(())
 }
