@@ -176,7 +176,7 @@ uint32_t listochur_list(const uint8_t *fragment, size_t fragment_len, uint8_t *t
  * that push; where no run comes it passes.
  */
 
-/* How many bytes the built-in map has, and the built-in limit. */
+/* How many bytes the map of a year has, and the built-in limit. */
 #define LISTOCHUR_MAP_BYTES 260
 #define LISTOCHUR_LIMIT 244
 
@@ -185,8 +185,13 @@ uint32_t listochur_list(const uint8_t *fragment, size_t fragment_len, uint8_t *t
 #define LISTOCHUR_EXAMINED 1
 #define LISTOCHUR_ELEMENT 520
 
+/* The rule years (request L8): the current one, and the classic one. */
+#define LISTOCHUR_CURRENT_YEAR 0
+#define LISTOCHUR_CLASSIC_YEAR 1
+
 /*
- * A map to lend: that of year 0 is the built-in one, 00 01 04 00 and the 256 class numbers. Answers LISTOCHUR_MAP_BYTES, or 0 for
+ * The map of a rule year, to be lent: 00 01 04 00 and the 256 class numbers. That of the current year is the built-in one; that of
+ * the classic year leaves b2 to d9, 7e, 7f, 83 to 86, 95, 96, 97, a6 and a7 unmodelled. Answers LISTOCHUR_MAP_BYTES, or 0 for
  * another year and where `map` is shorter.
  * `map`: the bytes, where the answer is not 0; else it stays as it was. The bytes behind them stay as they were.
  */

@@ -214,6 +214,13 @@ try "$tree/mark" --map "$work/other map" "$work/good"
 gives "a map without ELSE" 1 "refused 11 at 0 2 103 0"
 try "$tree/mark" "$work/good"
 gives "and without the map" 0 "$good"
+# the classic year, which leaves 7e unmodelled
+try "$tree/mark" --year classic "$work/good"
+gives "the classic year" 0 "$good"
+for year in classic current; do
+    try "$tree/listochur" fragment --year "$year" 2 0 7e
+    is "7e in the $year year" "$status" -eq "$([ "$year" = classic ] && echo 1 || echo 0)"
+done
 try sh -c '"$0" "$1" >/dev/full' "$tree/mark" "$work/good"
 is "a full disk" "$status" -eq 2
 try sh -c '"$0" "$1" >&-' "$tree/mark" "$work/good"

@@ -356,6 +356,29 @@ static void built_in_map(void) {
     EXPECT(listochur_map(0, other, sizeof other) == LISTOCHUR_MAP_BYTES && memcmp(map, other, sizeof other) == 0);
 }
 
+/* Request L8: the map of the classic year is the built-in one with 51 codes unmodelled. */
+static void classic_map(void) {
+    static const int gone[][2] = {{0xb2, 0xd9}, {0x7e, 0x7f}, {0x83, 0x86}, {0x95, 0x97}, {0xa6, 0xa7}};
+    uint8_t wanted[LISTOCHUR_MAP_BYTES], old[LISTOCHUR_MAP_BYTES + 1];
+    memcpy(wanted, map, sizeof wanted);
+    for (size_t i = 0; i < sizeof gone / sizeof gone[0]; i++)
+        for (int code = gone[i][0]; code <= gone[i][1]; code++) wanted[row(code)] = 0;
+    memset(old, 9, sizeof old);
+    EXPECT(listochur_map(LISTOCHUR_CLASSIC_YEAR, old, LISTOCHUR_MAP_BYTES - 1) == 0 && old[0] == 9);
+    EXPECT(listochur_map(LISTOCHUR_CLASSIC_YEAR, old, sizeof old) == LISTOCHUR_MAP_BYTES);
+    EXPECT(memcmp(old, wanted, sizeof wanted) == 0 && old[LISTOCHUR_MAP_BYTES] == 9);
+    EXPECT(listochur_map(LISTOCHUR_CURRENT_YEAR, old, sizeof old) == LISTOCHUR_MAP_BYTES && memcmp(old, map, sizeof wanted) == 0);
+    /* 7e from (2, 0): unmodelled in the classic year, and skipped in dead code */
+    uint64_t out[10];
+    uint16_t log[6];
+    lend(out);
+    const uint8_t fragment[] = {0x7e}, skipped[] = {0x6a, 0x7e};
+    EXPECT(listochur_analyze_with(fragment, 1, 2, 0, wanted, 260, 244, 0, log, 6, NULL, 0, out, 10) == 11);
+    EXPECT(holds(out, (const uint64_t[]){11, 0, 0x7e, 0, 1, 0, 0, 0, 0}, 9));
+    EXPECT(listochur_analyze_with(fragment, 1, 2, 0, map, 260, 244, 0, log, 6, NULL, 0, out, 10) == 0);
+    EXPECT(listochur_analyze_with(skipped, 2, 2, 0, wanted, 260, 244, 0, log, 6, NULL, 0, out, 10) == 0);
+}
+
 /* By the built-in map at 244 it is the analysis without them, items included. */
 static void analyse_with(void) {
     uint64_t out[10], items[16];
@@ -620,6 +643,7 @@ int main(void) {
     sums();
     listings();
     built_in_map();
+    classic_map();
     analyse_with();
     other_maps();
     bad_maps_and_limits();

@@ -7,7 +7,7 @@ use crate::bytes::Bytes;
 use crate::listings::Listing;
 use crate::names::shown;
 use crate::papers::Source;
-use crate::rules::Named;
+use crate::rules::{Map, Named, Year};
 use crate::usage::{self, ASM, COMPARE, EXPLAIN, FRAGMENT, LIMITS, LIST, LOG, MAP, MARK, PAPER, SUMS, Usage};
 
 #[derive(Debug, PartialEq, Eq)]
@@ -23,7 +23,7 @@ pub enum Command {
     Sums { registers: Vec<OsString> },
     Asm { hex: bool, listing: Listing },
     List { bytes: Bytes },
-    Map,
+    Map { year: Year },
     Compare { papers: Vec<OsString> },
 }
 
@@ -146,14 +146,29 @@ impl Words<'_> {
     /// The map, the limit and the mode that are named; where what follows is read from standard input, named by this word, the map
     /// is not.
     fn rules(&self, input: Option<&str>) -> Result<Named, Stop> {
-        let map = self.value("--map").map(Source::new);
+        let (map, year) = (self.value("--map").map(Source::new), self.year()?);
+        if map.is_some() && year.is_some() {
+            return Err(self.wrong("--map and --year are one or the other"));
+        }
         if map == Some(Source::Input)
             && let Some(word) = input
         {
             return Err(self.wrong(format!("--map - and {word} are both standard input, which can be read once")));
         }
+        let map = map.map(Map::Lent).or(year.map(Map::Of));
         let limit = self.value("--limit").map(|word| self.number("the limit", word, listochur::LIMIT.into())).transpose()?;
         Ok(Named { map, limit, examined: self.has("--examined") })
+    }
+
+    /// The rule year that is named.
+    fn year(&self) -> Result<Option<Year>, Stop> {
+        let Some(word) = self.value("--year") else {
+            return Ok(None);
+        };
+        match Year::named(word.as_bytes()) {
+            None => Err(self.wrong(format!("the year is classic or current, and {} is neither", quoted(word)))),
+            year => Ok(year),
+        }
     }
 
     /// A decimal number of this width, digits alone.
@@ -172,8 +187,11 @@ impl Words<'_> {
 
 fn sub_command(usage: &'static Usage, words: &[OsString]) -> Result<Command, Stop> {
     let known: &[Known] = match usage.name {
-        "mark" => &[("--csv", false), ("--json", false), ("--map", true), ("--limit", true), ("--examined", false)],
-        "log" | "fragment" => &[("--map", true), ("--limit", true), ("--examined", false)],
+        "mark" => {
+            &[("--csv", false), ("--json", false), ("--map", true), ("--year", true), ("--limit", true), ("--examined", false)]
+        }
+        "log" | "fragment" => &[("--map", true), ("--year", true), ("--limit", true), ("--examined", false)],
+        "map" => &[("--year", true)],
         "paper" => &[("--fields", true), ("--init", true)],
         "asm" => &[("--hex", false)],
         _ => &[],
@@ -230,7 +248,7 @@ fn sub_command(usage: &'static Usage, words: &[OsString]) -> Result<Command, Sto
     }
     if usage == &MAP {
         let [] = words.exactly()?;
-        return Ok(Command::Map);
+        return Ok(Command::Map { year: words.year()?.unwrap_or(Year::Current) });
     }
     debug_assert_eq!(usage, &COMPARE);
     Ok(Command::Compare { papers: words.files("paper")? })
@@ -265,7 +283,7 @@ fn paper(words: &Words) -> Result<Command, Stop> {
 
 #[cfg(test)]
 mod tests {
-    use super::{Bytes, Command, Entry, Form, Listing, Named, Source, parse};
+    use super::{Bytes, Command, Entry, Form, Listing, Map, Named, Source, Year, parse};
     use crate::Stop;
     use crate::usage::{ALL, MARK};
     use std::ffi::OsString;
@@ -306,7 +324,7 @@ mod tests {
         assert_eq!(parsed(&["fragment", "1", "0", "51"]), fragment(1, &bytes));
         let none = Bytes::Given(Vec::new());
         assert_eq!(parsed(&["fragment", "4294967295", "0", "-"]), fragment(u32::MAX, &none));
-        assert_eq!(parsed(&["map"]), Command::Map);
+        assert_eq!(parsed(&["map"]), Command::Map { year: Year::Current });
         assert_eq!(parsed(&["limits", "@-"]), Command::Limits { bytes: Bytes::Of(Source::Input) });
         assert_eq!(parsed(&["explain", "22"]), Command::Explain { number: 22 });
         assert_eq!(parsed(&["sums", "a", "-"]), Command::Sums { registers: words(&["a", "-"]) });
@@ -331,14 +349,14 @@ mod tests {
 
     #[test]
     fn maps_and_limits() {
-        let file = |name: &str| Some(Source::File(name.into()));
+        let file = |name: &str| Some(Map::Lent(Source::File(name.into())));
         let mark = |map, limit| {
             let rules = Named { map, limit, examined: false };
             Command::Mark { form: Form::Lines, rules, papers: words(&["a"]) }
         };
         assert_eq!(parsed(&["mark", "--map", "m", "a"]), mark(file("m"), None));
         assert_eq!(parsed(&["mark", "a", "--limit", "5"]), mark(None, Some(5)));
-        assert_eq!(parsed(&["mark", "--limit", "0", "--map", "-", "a"]), mark(Some(Source::Input), Some(0)));
+        assert_eq!(parsed(&["mark", "--limit", "0", "--map", "-", "a"]), mark(Some(Map::Lent(Source::Input)), Some(0)));
         // what is outside 1 to 244 is judged later
         assert_eq!(parsed(&["mark", "--limit", "4294967295", "a"]), mark(None, Some(u32::MAX)));
         let rules = || Named { map: file("m"), limit: Some(244), examined: false };
@@ -362,6 +380,28 @@ mod tests {
         assert!(parse(&words(&["fragment", "--map", "-", "0", "0", "-"])).is_ok());
         assert!(wrong(&["mark", "--limit", "4294967296", "a"]).0.contains("the limit is at most 244, and 4294967296 is more"));
         assert!(wrong(&["mark", "--limit", "-5", "a"]).0.contains("the limit is a decimal number, and '-5' is none"));
+    }
+
+    #[test]
+    fn years() {
+        let of = |year, limit| Named { map: Some(Map::Of(year)), limit, examined: false };
+        assert_eq!(
+            parsed(&["mark", "--year", "classic", "-"]),
+            Command::Mark { form: Form::Lines, rules: of(Year::Classic, None), papers: words(&["-"]) }
+        );
+        assert_eq!(
+            parsed(&["log", "--limit", "5", "a", "--year", "current"]),
+            Command::Log { rules: of(Year::Current, Some(5)), paper: "a".into() }
+        );
+        assert_eq!(
+            parsed(&["fragment", "--year", "classic", "1", "0", "@-"]),
+            Command::Fragment { rules: of(Year::Classic, None), main: 1, alt: 0, bytes: Bytes::Of(Source::Input) }
+        );
+        assert_eq!(parsed(&["map", "--year", "classic"]), Command::Map { year: Year::Classic });
+        assert_eq!(parsed(&["map", "--year", "current"]), Command::Map { year: Year::Current });
+        assert!(wrong(&["mark", "--map", "m", "--year", "classic", "a"]).0.contains("--map and --year are one or the other"));
+        let (what, usage) = wrong(&["mark", "--year", "Classic", "a"]);
+        assert!(what.contains("the year is classic or current, and 'Classic' is neither") && usage == Some("mark"), "{what}");
     }
 
     #[test]
@@ -429,7 +469,19 @@ mod tests {
             &["log", "a", "--limit"],
             &["limits", "--limit", "5", "51"],
             &["compare", "--map", "m", "a"],
+            &["mark", "--year"],
+            &["mark", "--year", "classic"],
+            &["mark", "--year", "", "a"],
+            &["mark", "--year", "classic", "--year", "classic", "a"],
+            &["log", "--year", "1", "a"],
+            &["log", "--year", "current", "--map", "m", "a"],
+            &["fragment", "--map", "-", "--year", "classic", "0", "0", "51"],
+            &["compare", "--year", "classic", "a"],
+            &["limits", "--year", "classic", "51"],
             &["map", "m"],
+            &["map", "classic"],
+            &["map", "--year"],
+            &["map", "--year", "next"],
             &["map", "--hex"],
             &["fragment"],
             &["fragment", "0", "51"],

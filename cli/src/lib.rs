@@ -97,7 +97,7 @@ fn carry_out(command: Command) -> Result<Status, Stop> {
         Command::Explain { number } => explaining::explain(&mut out, number)?,
         Command::Sums { registers } => summing::sums(&mut out, &registers)?,
         Command::Asm { hex, listing } => listings::asm(&mut out, hex, &listing.read()?)?,
-        Command::Map => rules::map(&mut out)?,
+        Command::Map { year } => rules::map(&mut out, year)?,
         Command::List { bytes } => listings::list(&mut out, &bytes.read()?)?,
         Command::Compare { papers } => comparing::compare(&mut out, &papers)?,
     };

@@ -1,5 +1,5 @@
-//! `--map`, `--limit` and `--examined`: the map, the limit (request L6) and the mode (request L7) that papers are marked by; and
-//! `map`, which writes the built-in map.
+//! `--map`, `--year`, `--limit` and `--examined`: the map (requests L6 and L8), the limit (request L6) and the mode (request L7)
+//! that papers are marked by; and `map`, which writes the map of a year.
 //!
 //! The map is read once. The proved function judges map and limit, on an empty fragment, before anything is marked; what is wrong is
 //! looked for here only after it has said 28 or 29, and only to be said in words.
@@ -11,10 +11,43 @@ use crate::papers::{self, Source};
 use crate::streams::Output;
 use crate::{Status, Stop};
 
+/// A rule year.
+#[derive(Clone, Copy, Debug, PartialEq, Eq)]
+pub enum Year {
+    Current,
+    Classic,
+}
+
+impl Year {
+    /// The year of this name.
+    pub fn named(name: &[u8]) -> Option<Self> {
+        match name {
+            b"current" => Some(Self::Current),
+            b"classic" => Some(Self::Classic),
+            _ => None,
+        }
+    }
+
+    /// Its map, which the proved function writes.
+    pub fn map(self) -> [u8; listochur::MAP_BYTES] {
+        match self {
+            Self::Current => listochur::built_in_map(),
+            Self::Classic => listochur::classic_map(),
+        }
+    }
+}
+
+/// The map that is named: that of a year, or one to be read.
+#[derive(Clone, Debug, PartialEq, Eq)]
+pub enum Map {
+    Of(Year),
+    Lent(Source),
+}
+
 /// What the words of a command name.
 #[derive(Clone, Debug, Default, PartialEq, Eq)]
 pub struct Named {
-    pub map: Option<Source>,
+    pub map: Option<Map>,
     pub limit: Option<u32>,
     pub examined: bool,
 }
@@ -32,10 +65,11 @@ impl Named {
         if self == Self::default() {
             return Ok(None);
         }
-        let Self { map: source, limit, examined } = self;
-        let map = match &source {
-            Some(source) => papers::read(source).map_err(|error| Stop::Failed(source.unread(&error)))?,
-            None => listochur::built_in_map().into(),
+        let Self { map: named, limit, examined } = self;
+        let map = match &named {
+            Some(Map::Lent(source)) => papers::read(source).map_err(|error| Stop::Failed(source.unread(&error)))?,
+            Some(Map::Of(year)) => year.map().into(),
+            None => Year::Current.map().into(),
         };
         let plain = limit.map_or_else(Options::built_in, Options::limited);
         let options = if examined { plain.examined() } else { plain };
@@ -43,7 +77,7 @@ impl Named {
         let (what, why) = match number {
             0 => return Ok(Some(Rules { map, options })),
             29 => (format!("--limit {}", options.limit), Some("a limit is 1 to 244".into())),
-            _ => (named(source.as_ref()), wrong(&map)),
+            _ => (name(named.as_ref()), wrong(&map)),
         };
         let why = why.map_or_else(String::new, |why| format!(": {why}"));
         Err(Stop::Failed(format!("{what}: {} ({number}){why}", reason(number, 0, 0))))
@@ -51,11 +85,12 @@ impl Named {
 }
 
 /// The map as a message names it.
-fn named(source: Option<&Source>) -> String {
-    match source {
-        Some(Source::Input) => "standard input".into(),
-        Some(source) => shown(source.name()),
-        None => "the built-in map".into(),
+fn name(map: Option<&Map>) -> String {
+    match map {
+        Some(Map::Lent(Source::Input)) => "standard input".into(),
+        Some(Map::Lent(source)) => shown(source.name()),
+        Some(Map::Of(Year::Classic)) => "the map of the classic year".into(),
+        Some(Map::Of(Year::Current)) | None => "the built-in map".into(),
     }
 }
 
@@ -150,9 +185,9 @@ fn wrong_row(code: usize, class: u8, own: u8) -> Option<String> {
     (code > FIXED && class == PUSH).then(|| format!("{name} ({class}), which no code above 60 may be"))
 }
 
-/// `map`: the built-in map, as it is lent.
-pub fn map(out: &mut Output) -> Result<Status, Stop> {
-    out.write(&listochur::built_in_map())?;
+/// `map`: the map of a year, as it is lent.
+pub fn map(out: &mut Output, year: Year) -> Result<Status, Stop> {
+    out.write(&year.map())?;
     Ok(Status::Good)
 }
 

@@ -12,7 +12,7 @@ pub struct Usage {
 
 pub static MARK: Usage = Usage {
     name: "mark",
-    line: "listochur mark [--csv | --json] [--map FILE] [--limit N] [--examined] PAPER..",
+    line: "listochur mark [--csv | --json] [--map FILE | --year YEAR] [--limit N] [--examined] PAPER..",
     about: "\
 Marks papers. Of one paper the lines are those of document 01: a line for each fragment that is accepted, then
 `accepted` or `refused N at K O A B`. Of several, or of a folder, each line begins with the paper's name and `: `,
@@ -22,6 +22,7 @@ and a summary stands at the end.
   --csv       a record for each paper in its stead, comma-separated, under a line of column names
   --json      the same as a JSON array, a paper to a line
   --map       marks by the opcode map in FILE, or on standard input for -, in place of the built-in one (`help map`)
+  --year      marks by the map of a rule year: classic, or current, which is the built-in map
   --limit     lets both stacks hold N items together, 1 to 244, in place of 244
   --examined  refuses a literal above 520 bytes, 30, where a run may push it, as the course's engine stops there
   --          what follows are papers, whatever they begin with
@@ -39,13 +40,14 @@ where the map or the limit is bad.
         "listochur mark --csv room1 >register.csv",
         "listochur mark --map next.map --limit 100 room1",
         "listochur mark --examined room1",
+        "listochur mark --year classic room2",
         "head -c 100 draft.paper | listochur mark -",
     ],
 };
 
 pub static LOG: Usage = Usage {
     name: "log",
-    line: "listochur log [--map FILE] [--limit N] [--examined] PAPER",
+    line: "listochur log [--map FILE | --year YEAR] [--limit N] [--examined] PAPER",
     about: "\
 Prints the log of one paper as a person reads it: a line for each instruction with the heights before it, its bytes,
 and the instruction as a listing writes it (`list`); and the verdict in words. The words of the instructions are those
@@ -53,6 +55,7 @@ of the built-in map, also where another is lent.
 
   PAPER       a file, or - for standard input
   --map       marks by the opcode map in FILE, or on standard input for -, in place of the built-in one (`help map`)
+  --year      marks by the map of a rule year: classic, or current, which is the built-in map
   --limit     lets both stacks hold N items together, 1 to 244, in place of 244
   --examined  refuses a literal above 520 bytes, 30, where a run may push it, as the course's engine stops there
 
@@ -63,7 +66,7 @@ Status 0: accepted. 1: refused. 2: the paper could not be read, the map or the l
 
 pub static FRAGMENT: Usage = Usage {
     name: "fragment",
-    line: "listochur fragment [--map FILE] [--limit N] [--examined] MAIN ALT BYTES",
+    line: "listochur fragment [--map FILE | --year YEAR] [--limit N] [--examined] MAIN ALT BYTES",
     about: "\
 Analyses a fragment from so many unknown items on main and alt: the verdict, the items that it ends with, from the
 bottom up, and a line of the log for each instruction met: its offset, the heights before it, its bytes, and the
@@ -71,6 +74,7 @@ instruction as a listing writes it (`list`), also where another map than the bui
 
   BYTES       hexadecimal digits, - for none, @FILE for the bytes of a file, @- for those of standard input
   --map       analyses by the opcode map in FILE, or on standard input for -, in place of the built-in one (`help map`)
+  --year      analyses by the map of a rule year: classic, or current, which is the built-in map
   --limit     lets both stacks hold N items together, 1 to 244, in place of 244
   --examined  refuses a literal above 520 bytes, 30, where a run may push it, as the course's engine stops there
 
@@ -184,12 +188,15 @@ read, or a write that failed.
 
 pub static MAP: Usage = Usage {
     name: "map",
-    line: "listochur map",
+    line: "listochur map [--year YEAR]",
     about: "\
 Writes the built-in opcode map to standard output, 260 bytes, to be changed and lent with --map. A map is a header of
 two 16-bit numbers, lowest byte first, the count of rows (256, so 00 01) and the offset of the first (4 or more, here
 04 00), then a row for each code from 00 to ff: a byte, its class number. Bytes before the rows and behind them are
 free. So here the row of a code is at offset 4 + code; that of ff, the last, at 259.
+
+  --year    writes the map of a rule year: current, the built-in one, or classic, which leaves b2 to d9, 7e, 7f, 83 to
+            86, 95, 96, 97, a6 and a7 unmodelled
 
    0 unmodelled   8 to alt    16 ZK
    1 push         9 from alt  17 to 21 copies (depth, count): (1,1) (2,2) (3,3) (2,1) (4,2)
@@ -209,6 +216,7 @@ Status 0: written. 2: bad words, or a write that failed.
         "listochur map >next.map",
         "printf '\\3' | dd of=next.map bs=1 seek=259 conv=notrunc   # ff is one more IF",
         "listochur map | od -An -v -tx1 -j4   # sixteen codes to a line",
+        "listochur map --year classic >classic.map",
     ],
 };
 
@@ -269,7 +277,7 @@ pub fn all() -> String {
         "sums over the papers of registers",
         "the bytes of a listing",
         "the listing of bytes",
-        "writes the built-in opcode map",
+        "writes the built-in opcode map, or that of a rule year",
         "our verdicts beside the Rust's",
     ]) {
         text += &format!("  {}\n      {about}\n", usage.line);
@@ -282,7 +290,8 @@ PAPER is a file, - for standard input, or, for mark and compare, a folder: every
 names. REGISTER is a file that mark --csv wrote, or - for standard input. BYTES are hexadecimal digits, - for none,
 @FILE for the bytes of a file, @- for those of standard input. LISTING is the words of a listing, @FILE for those of a
 file, - for standard input. --map and --limit have papers marked by another opcode map than the built-in one, and with
-fewer items on both stacks than 244; --examined has them refused for a literal above 520 bytes.
+fewer items on both stacks than 244; --examined has them refused for a literal above 520 bytes. YEAR is classic or current, the rule
+years; that of the built-in map is current.
 
 Exit status: 0 all accepted, assembled, listed or equal; 1 some refused, or different; 2 bad usage, a bad map or limit,
 something that cannot be read, a write that failed. 2 goes before 1, and the other papers are marked all the same.

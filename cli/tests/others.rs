@@ -22,10 +22,11 @@ fn logs() {
     folder.run(&["log", "none"]).fails("", &["cannot read none"]);
     folder.run(&["log", "."]).fails("", &["cannot read ."]);
     folder.run(&["log", ""]).fails("", &["an empty name"]);
-    folder
-        .run(&["log", "good", "bad"])
-        .fails("", &["'bad' is one word too many", "usage: listochur log [--map FILE] [--limit N] [--examined] PAPER"]);
-    folder.run(&["log"]).fails("", &["usage: listochur log [--map FILE] [--limit N] [--examined] PAPER"]);
+    folder.run(&["log", "good", "bad"]).fails(
+        "",
+        &["'bad' is one word too many", "usage: listochur log [--map FILE | --year YEAR] [--limit N] [--examined] PAPER"],
+    );
+    folder.run(&["log"]).fails("", &["usage: listochur log [--map FILE | --year YEAR] [--limit N] [--examined] PAPER"]);
 }
 
 #[test]
@@ -69,9 +70,13 @@ fn fragments() {
         .run_on(&["fragment", "0", "0", "@-"], &[0x61; 10_001])
         .gives(1, "refused 1, long fragment: length 10001, limit 10000\n");
     folder.run(&["fragment", "0", "0", "@none"]).fails("", &["cannot read none"]);
-    folder
-        .run(&["fragment", "0", "0", "5"])
-        .fails("", &["one digit is left over", "usage: listochur fragment [--map FILE] [--limit N] [--examined] MAIN ALT BYTES"]);
+    folder.run(&["fragment", "0", "0", "5"]).fails(
+        "",
+        &[
+            "one digit is left over",
+            "usage: listochur fragment [--map FILE | --year YEAR] [--limit N] [--examined] MAIN ALT BYTES",
+        ],
+    );
     folder.run(&["fragment", "0", "0", ""]).fails("", &["no bytes are named"]);
     folder.run(&["fragment", "0", "0"]).fails("", &["too few words", "usage: listochur fragment"]);
     folder.run(&["fragment", "-1", "0", "51"]).fails("", &["usage: listochur fragment"]);

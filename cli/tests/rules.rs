@@ -1,10 +1,11 @@
-//! `--map` and `--limit` of `mark`, `log` and `fragment` (request L6), `--examined` of the same (request L7), and `map`.
+//! `--map` and `--limit` of `mark`, `log` and `fragment` (request L6), `--examined` (request L7) and `--year` (request L8) of the
+//! same, and `map`.
 mod common;
 
 use std::fs;
 
 use common::{DRY, Folder, Numbers, SAMPLE, SAMPLE_LINES, paper};
-use listochur::{MAP_BYTES, Options, analyze_with, built_in_map};
+use listochur::{MAP_BYTES, Options, analyze_with, built_in_map, classic_map};
 
 /// A folder with the two papers and two maps: `own` is the built-in one, in `next` ff is IF and there is no ELSE.
 fn folder() -> Folder {
@@ -253,6 +254,53 @@ fn a_map_that_cannot_be_read() {
     folder.run(&["compare", "--limit", "5", "good"]).fails("", &["there is no option '--limit'", "usage: listochur compare"]);
 }
 
+/// 7e is unmodelled in the classic year, skipped in dead code, and 82 and 87 are modelled in both.
+#[test]
+fn rule_years() {
+    let folder = folder();
+    for (words, wanted) in [
+        (&["map"][..], built_in_map()),
+        (&["map", "--year", "current"], built_in_map()),
+        (&["map", "--year", "classic"], classic_map()),
+    ] {
+        let ran = folder.run(words);
+        assert_eq!((ran.status, ran.out.as_slice(), ran.err.as_str()), (Some(0), &wanted[..], ""), "{words:?}");
+    }
+    folder.file("joined", &paper(0, 2, &[0x7e]));
+    folder.file("skipped", &paper(0, 2, &[0x6a, 0x7e]));
+    folder.file("sized", &paper(0, 2, &[0x87, 0x82]));
+    folder.run(&["mark", "--year", "classic", "joined"]).gives(1, "refused 11 at 0 0 126 0\n");
+    folder.run(&["mark", "--year", "current", "joined"]).gives(0, "entry 0 peak 2 end 1 0\naccepted\n");
+    folder.run(&["mark", "--year", "classic", "--limit", "4", "joined"]).gives(1, "refused 20 at 0 0 5 4\n");
+    folder.run(&["mark", "--year", "classic", "joined", "skipped", "sized"]).gives(
+        1,
+        "joined: refused 11 at 0 0 126 0\nskipped: entry 0 peak 2 end none\nskipped: accepted\n\
+         sized: entry 0 peak 2 end 2 0\nsized: accepted\n\
+         papers 3, accepted 2, refused 1 (1 with 11), rows 5, greatest peak 2\n",
+    );
+    // what is accepted in the classic year is so in the current one, with the same lines and log
+    for name in ["good", "skipped", "sized"] {
+        for command in ["mark", "log"] {
+            let wanted = folder.run(&[command, name]);
+            for year in ["classic", "current"] {
+                folder.run(&[command, "--year", year, name]).gives(0, wanted.out());
+            }
+        }
+    }
+    // as the map lent by its bytes
+    folder.file("classic", &classic_map());
+    for words in [&["log", "joined"][..], &["fragment", "2", "0", "7e"], &["fragment", "2", "0", "6a7e"]] {
+        let wanted = folder.run(&[words, &["--map", "classic"]].concat());
+        folder.run(&[words, &["--year", "classic"]].concat()).gives(wanted.status.unwrap(), wanted.out());
+    }
+    folder.shell("listochur map --year classic | listochur mark --map - joined").gives(1, "refused 11 at 0 0 126 0\n");
+    folder
+        .run(&["mark", "--map", "classic", "--year", "classic", "joined"])
+        .fails("", &["--map and --year are one or the other", "usage: listochur mark"]);
+    folder.run(&["log", "--year", "next", "good"]).fails("", &["the year is classic or current, and 'next' is neither"]);
+    folder.run(&["map", "classic"]).fails("", &["'classic' is one word too many"]);
+}
+
 /// The map is read once for all papers: a pipe gives it once.
 #[test]
 fn a_map_is_read_once() {
@@ -451,6 +499,7 @@ fn the_readme_shows_it() {
         "./mark --map next.map room1",
         "./mark --limit 100 room1",
         "./mark --examined room1",
+        "./mark --year classic room2",
         "refused 30 at 0 0 521 520",
         "30 is the greatest number in use.",
     ] {

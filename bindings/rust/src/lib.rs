@@ -184,8 +184,14 @@ pub const REASON_BYTES: usize = 80;
 /// How many verdict numbers are in use, from 0 on.
 pub const NUMBERS: usize = 31;
 
-/// How many bytes the built-in map has.
+/// How many bytes the map of a year has.
 pub const MAP_BYTES: usize = 260;
+
+/// The current rule year, whose map is the built-in one.
+pub const CURRENT_YEAR: u32 = 0;
+
+/// The classic rule year (request L8).
+pub const CLASSIC_YEAR: u32 = 1;
 
 /// The built-in stack limit, and the greatest there is.
 pub const LIMIT: u32 = 244;
@@ -668,9 +674,10 @@ impl Default for Options {
     }
 }
 
-/// A map to lend: that of year 0 is the built-in one, 00 01 04 00 and the 256 class numbers. Answers [`MAP_BYTES`], or 0 for
-/// another year and where `map` is shorter. The bytes are written to the start of `map` where the answer is not 0, else none is;
-/// the rest of it stays as lent.
+/// The map of a rule year, to be lent: 00 01 04 00 and the 256 class numbers. That of [`CURRENT_YEAR`] is the built-in one; that of
+/// [`CLASSIC_YEAR`] leaves b2 to d9, 7e, 7f, 83 to 86, 95, 96, 97, a6 and a7 unmodelled. Answers [`MAP_BYTES`], or 0 for another
+/// year and where `map` is shorter. The bytes are written to the start of `map` where the answer is not 0, else none is; the rest
+/// of it stays as lent.
 ///
 /// Tests nothing: any year and a map of any length are the callee's to judge.
 pub fn map(year: u32, map: &mut [u8]) -> usize {
@@ -679,7 +686,7 @@ pub fn map(year: u32, map: &mut [u8]) -> usize {
     size as usize
 }
 
-/// The built-in map, by [`map`].
+/// The built-in map, which is that of the current year, by [`map`].
 ///
 /// ```
 /// let map = listochur::built_in_map();
@@ -688,7 +695,23 @@ pub fn map(year: u32, map: &mut [u8]) -> usize {
 /// ```
 pub fn built_in_map() -> [u8; MAP_BYTES] {
     let mut bytes = [0; MAP_BYTES];
-    map(0, &mut bytes);
+    map(CURRENT_YEAR, &mut bytes);
+    bytes
+}
+
+/// The map of the classic year, by [`map`].
+///
+/// ```
+/// use listochur::{Options, analyze_with, built_in_map, classic_map};
+///
+/// let by = |map: &[u8], fragment: &[u8]| analyze_with(fragment, 2, 0, map, Options::built_in(), &mut [0; 6]).0;
+/// // 7e is unmodelled in the classic year, and in dead code it is skipped
+/// assert_eq!((by(&built_in_map(), &[0x7e]).number, by(&classic_map(), &[0x7e]).number), (0, 11));
+/// assert_eq!(by(&classic_map(), &[0x6a, 0x7e]).number, 0);
+/// ```
+pub fn classic_map() -> [u8; MAP_BYTES] {
+    let mut bytes = [0; MAP_BYTES];
+    map(CLASSIC_YEAR, &mut bytes);
     bytes
 }
 

@@ -1,8 +1,9 @@
 //! The functions from Rust: what document 01 says of them, bad input included.
 use listochur::{
-    Converted, DEAD, EndStacks, Heights, Item, LIMIT, LINES_BYTES, Limits, Lines, MAP_BYTES, NUMBERS, Options, PaperVerdict,
-    REASON_BYTES, Sums, Tally, Value, Verdict, analyze, analyze_items, analyze_with, assemble, built_in_map, check_limits,
-    display, gain, list, log_lines, log_lines_with, map, mark_lines, mark_lines_with, mark_paper, mark_paper_with, reason, sums,
+    CLASSIC_YEAR, CURRENT_YEAR, Converted, DEAD, EndStacks, Heights, Item, LIMIT, LINES_BYTES, Limits, Lines, MAP_BYTES, NUMBERS,
+    Options, PaperVerdict, REASON_BYTES, Sums, Tally, Value, Verdict, analyze, analyze_items, analyze_with, assemble,
+    built_in_map, check_limits, classic_map, display, gain, list, log_lines, log_lines_with, map, mark_lines, mark_lines_with,
+    mark_paper, mark_paper_with, reason, sums,
 };
 
 /// What stands in a log that no row has been written to.
@@ -510,6 +511,67 @@ fn the_built_in_map() {
         let mut lent = [b'#'; 270];
         assert_eq!(map(year, &mut lent[..room]), 0, "{year} {room}");
         assert_eq!(lent, [b'#'; 270], "{year} {room}");
+    }
+}
+
+/// Request L8: b2 to d9, 7e, 7f, 83 to 86, 95, 96, 97, a6 and a7 are unmodelled, and all other rows are those of the built-in map.
+#[test]
+fn the_classic_map() {
+    let (old, own) = (classic_map(), built_in_map());
+    let mut wanted = own;
+    for code in (0xb2..=0xd9).chain([0x7e, 0x7f]).chain(0x83..=0x86).chain([0x95, 0x96, 0x97, 0xa6, 0xa7]) {
+        wanted[4 + code] = 0;
+    }
+    assert_eq!(old, wanted);
+    assert_eq!((0..260).filter(|place| old[*place] != own[*place]).count(), 51);
+    assert_eq!((CURRENT_YEAR, CLASSIC_YEAR), (0, 1));
+    let mut lent = [b'#'; 270];
+    assert_eq!(map(CURRENT_YEAR, &mut lent), MAP_BYTES);
+    assert_eq!((&lent[..260], &lent[260..]), (&own[..], &[b'#'; 10][..]));
+    assert_eq!(map(CLASSIC_YEAR, &mut lent[..260]), MAP_BYTES);
+    assert_eq!((&lent[..260], &lent[260..]), (&old[..], &[b'#'; 10][..]));
+    for room in [0, 4, 259] {
+        let mut lent = [b'#'; 270];
+        assert_eq!(map(CLASSIC_YEAR, &mut lent[..room]), 0, "{room}");
+        assert_eq!(lent, [b'#'; 270], "{room}");
+    }
+}
+
+/// What the classic year accepts the current one answers with the same verdict, items and log: every fragment of up to two bytes,
+/// at two limits; and a paper.
+#[test]
+fn the_years() {
+    let (old, own) = (classic_map(), built_in_map());
+    let (mut stand, mut parted) = (0, 0);
+    let two = (0..=255u8).flat_map(|first| (0..=255u8).map(move |second| vec![first, second]));
+    for fragment in two.chain((0..=255u8).map(|first| vec![first])) {
+        for (main, limit) in [(0, 244), (3, 244), (9, 9)] {
+            let (mut one, mut other) = ([LENT; 9], [LENT; 9]);
+            let classic = analyze_with(&fragment, main, 0, &old, Options::limited(limit), &mut one);
+            let current = analyze_with(&fragment, main, 0, &own, Options::limited(limit), &mut other);
+            if classic.0.number == 0 {
+                assert_eq!((&current, other), (&classic, one), "{fragment:02x?} {main} {limit}");
+                stand += 1;
+            } else {
+                parted += u32::from(current.0.number == 0);
+            }
+        }
+    }
+    assert!(stand > 5_000 && parted > 5_000, "{stand} {parted}");
+    let answer = |map: &[u8], fragment: &[u8]| analyze_with(fragment, 2, 0, map, Options::built_in(), &mut [0; 9]).0;
+    assert_eq!(answer(&old, &[0x7e]), refused(11, 0, 0x7e, 0, 1));
+    assert_eq!(answer(&own, &[0x7e]), accepted(1, 2, 1, 0));
+    assert_eq!(answer(&old, &[0x6a, 0x7e]), dead(2, 2));
+    assert_eq!(answer(&own, &[0x6a, 0x7e]), dead(2, 2));
+    // 82 and 87 are modelled in both
+    assert_eq!(answer(&old, &[0x87, 0x82]), accepted(2, 2, 2, 0));
+    for (body, number) in [(&[0x6a, 0xa6][..], 0), (&[0x75, 0xb2], 11)] {
+        let paper = paper(0, 2, body, &[]);
+        let (mut one, mut other) = ([LENT; 9], [LENT; 9]);
+        let classic = mark_paper_with(&paper, &old, Options::built_in(), &mut one);
+        let current = mark_paper_with(&paper, &own, Options::built_in(), &mut other);
+        assert_eq!((classic.number, current.number), (number, 0));
+        assert_eq!((classic, one) == (current, other), number == 0);
     }
 }
 

@@ -3,7 +3,7 @@
 use tools::blank::{changed, free_in_paper, long_data, with_long_data};
 use tools::case;
 use tools::case::Case;
-use tools::definition::{self, Rules, built_in_map};
+use tools::definition::{self, Rules, built_in_map, classic_map};
 use tools::elements::{SIZES, forms, with_elements};
 use tools::generate::{Draft, Kind, body, case, mutate, planned, start};
 use tools::maps::{self, Codes, damaged_map, good_map};
@@ -146,6 +146,7 @@ pub fn parts<M: Marker>(sizes: &Sizes) -> Vec<Part<M>> {
     let run: Box<Chunk<M>> = Box::new(|worker, chunk| examined(worker, chunk as usize, 500));
     part("examined", sizes_tried + sizes.examined / 500, run);
     part("papers, examined", sizes.examined_papers / 100, Box::new(|worker, _| examined_papers(worker, 100)));
+    part("classic year", 256, Box::new(|worker, chunk| classic_year(worker, chunk as u8)));
     parts
 }
 
@@ -936,4 +937,16 @@ fn element_paper(rng: &mut Rng) -> Vec<u8> {
         draft.initialiser = part(rng, most, 1);
     }
     draft.pack()
+}
+
+/// Request L8: every fragment of two bytes that begins with this one, and this one alone, by the map of the classic year.
+fn classic_year<M: Marker>(worker: &mut Worker<M>, first: u8) -> Done {
+    let by = Lent::plain(classic_map(), 244);
+    for (main, alt) in STARTS {
+        by_rules(worker, &by, main, alt, &[first], 1)?;
+        for second in 0..=255 {
+            by_rules(worker, &by, main, alt, &[first, second], 20)?;
+        }
+    }
+    Ok(())
 }

@@ -473,7 +473,7 @@ fn display() {
 /// Request L6: what is easily got wrong with a lent map and limit, each found in this part.
 #[test]
 fn maps_and_limits() {
-    let wrong: [(&str, By); 12] = [
+    let wrong: [(&str, By); 13] = [
         // The built-in table in place of the lent rows, or the rows always right behind the header.
         ("maps", |by, bytes, main, alt, log, items| {
             let out = proved(by, bytes, main, alt, log, items);
@@ -488,6 +488,12 @@ fn maps_and_limits() {
             if map.len() >= 260 {
                 map[2..4].copy_from_slice(&[4, 0]);
             }
+            proved(&Lent { map, ..by.clone() }, bytes, main, alt, log, items)
+        }),
+        // A code that the classic year leaves unmodelled, modelled (request L8).
+        ("classic year", |by, bytes, main, alt, log, items| {
+            let mut map = by.map.clone();
+            map[4 + 0xd9] = 30;
             proved(&Lent { map, ..by.clone() }, bytes, main, alt, log, items)
         }),
         // 244 in place of the limit, in all and in figures alone; a limit that is one off.

@@ -287,6 +287,15 @@ pub fn built_in_map() -> Vec<u8> {
     [0x00, 0x01, 0x04, 0x00].into_iter().chain((0..=255).map(number)).collect()
 }
 
+/// Request L8: the map of the classic year, which "leaves b2 to d9, 7e, 7f, 83 to 86, 95, 96, 97, a6 and a7 unmodelled".
+pub fn classic_map() -> Vec<u8> {
+    let mut map = built_in_map();
+    for code in (0xb2..=0xd9).chain([0x7e, 0x7f]).chain(0x83..=0x86).chain([0x95, 0x96, 0x97, 0xa6, 0xa7]) {
+        map[4 + code] = 0;
+    }
+    map
+}
+
 // Section 3.
 
 /// Number and figures; the walk adds the offset.

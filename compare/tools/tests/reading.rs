@@ -3,8 +3,8 @@
 
 use reference::{Answer, PaperAnswer};
 use tools::definition::{
-    BUILT_IN, CLASSES, Class, Rules, Stacks, Verdict, analysis, analysis_with, built_in_map, decode, display, fragments, mark,
-    mark_with,
+    BUILT_IN, CLASSES, Class, Rules, Stacks, Verdict, analysis, analysis_with, built_in_map, classic_map, decode, display,
+    fragments, mark, mark_with,
 };
 use tools::replay::{Ending, Trace, replay};
 
@@ -157,6 +157,37 @@ fn the_built_in_map() {
         assert_eq!((usize::from(map[4 + code]), BUILT_IN.class(code as u8)), (number, CLASSES[number]), "{code:02x}");
     }
     assert_eq!(CLASSES[31], Class::Plain(2, 1));
+}
+
+/// Request L8: 51 rows less, and what is accepted by the classic map the built-in one answers with the same verdict and log: every
+/// fragment of up to two bytes.
+#[test]
+fn the_classic_map() {
+    let (old, own) = (classic_map(), built_in_map());
+    let gone: Vec<usize> = (0..260).filter(|place| old[*place] != own[*place]).collect();
+    assert!(gone.len() == 51 && gone.iter().all(|place| old[*place] == 0));
+    assert!(Rules::read(&old, 244).is_ok());
+    let by = |map: &[u8], bytes: &[u8], main| {
+        let mut log = [LENT; 6];
+        (analysis_with(map, 244, false, bytes, main, 0, &mut log), log)
+    };
+    let both = (0..=255u8).flat_map(|first| (0..=255u8).map(move |second| vec![first, second]));
+    let (mut accepted, mut parted) = (0, 0);
+    for bytes in both.chain((0..=255u8).map(|first| vec![first])) {
+        for main in [0, 2, 9] {
+            let (classic, current) = (by(&old, &bytes, main), by(&own, &bytes, main));
+            if classic.0.answer.number == 0 {
+                assert_eq!(classic, current, "{bytes:02x?} {main}");
+                accepted += 1;
+            } else {
+                parted += usize::from(current.0.answer.number == 0);
+            }
+        }
+    }
+    assert!(accepted > 5_000 && parted > 5_000, "{accepted} {parted}");
+    // Dead code is accepted in both years.
+    assert_eq!(by(&old, b"\x7e", 2).0.answer, Answer { number: 11, offset: 0, a: 0x7e, b: 0 });
+    assert_eq!(by(&old, b"\x6a\x7e", 2).0.answer, Answer::ACCEPTED);
 }
 
 /// Each way in which a map is bad, and its neighbours that are good; the limits; the map first.

@@ -49,29 +49,29 @@ past-codes : (opcode : ℕ) → 256 ≤ opcode → classNumber opcode ≡ 0
 unfolding classNumber
 past-codes opcode h = numberIn-past 256 ranges opcode tt h
 
--- the rows of the table
-tabled : (code n k : ℕ) → k < n → getD (tableFrom code n) k 0 ≡ classNumber (code + k)
-tabled code zero k h = absurd (omega arith)
-tabled code (suc n) zero h = ap classNumber (omega arith)
-tabled code (suc n) (suc k) h = tabled (code + 1) n k (omega arith) ∙ ap classNumber (omega arith)
+-- the rows of a table
+tabled : (rule : ℕ → ℕ) (code n k : ℕ) → k < n → getD (tableFrom rule code n) k 0 ≡ rule (code + k)
+tabled rule code zero k h = absurd (omega arith)
+tabled rule code (suc n) zero h = ap rule (omega arith)
+tabled rule code (suc n) (suc k) h = tabled rule (code + 1) n k (omega arith) ∙ ap rule (omega arith)
 
-table-length : (code n : ℕ) → length (tableFrom code n) ≡ n
-table-length code zero = refl
-table-length code (suc n) = ap suc (table-length (code + 1) n)
+table-length : (rule : ℕ → ℕ) (code n : ℕ) → length (tableFrom rule code n) ≡ n
+table-length rule code zero = refl
+table-length rule code (suc n) = ap suc (table-length rule (code + 1) n)
 
-rows-are : rowsOf builtInMap ≡ tableFrom 0x00 256
+rows-are : rowsOf builtInMap ≡ tableFrom classNumber 0x00 256
 unfolding builtInMap
 rows-are = refl
 
 row-is : (code : ℕ) → getD (rowsOf builtInMap) code 0 ≡ classNumber code
 row-is code = ap (λ l. getD l code 0) rows-are ∙ by (ltb code 256) refl
   where
-    by : (b : Bool) → ltb code 256 ≡ b → getD (tableFrom 0x00 256) code 0 ≡ classNumber code
-    by true e = tabled 0x00 256 code (ltb-true code 256 e) ∙ ap classNumber (omega arith)
+    by : (b : Bool) → ltb code 256 ≡ b → getD (tableFrom classNumber 0x00 256) code 0 ≡ classNumber code
+    by true e = tabled classNumber 0x00 256 code (ltb-true code 256 e) ∙ ap classNumber (omega arith)
     by false e =
         let h = ltb-false code 256 e in
-        let l : length (tableFrom 0x00 256) ≤ code = omega (arith, h, table-length 0x00 256) in
-        List·getD-eq-default (tableFrom 0x00 256) 0 l ∙ sym (past-codes code h)
+        let l : length (tableFrom classNumber 0x00 256) ≤ code = omega (arith, h, table-length classNumber 0x00 256) in
+        List·getD-eq-default (tableFrom classNumber 0x00 256) 0 l ∙ sym (past-codes code h)
 
 -- the rules by this map and 244 are those of document 01: "the built-in map at 244"
 pub builtInMapRules : rulesOf builtInMap builtInOptions ≡ builtIn

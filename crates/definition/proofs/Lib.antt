@@ -28,3 +28,4 @@ pub mod Allowed
 pub mod AllowedPapers
 pub mod ExaminedMode
 pub mod Raising
+pub mod ClassicYear

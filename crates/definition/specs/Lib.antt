@@ -18,3 +18,4 @@ pub mod Assembling
 pub mod Allows
 pub mod Maps
 pub mod Examined
+pub mod Years

@@ -78,14 +78,17 @@ markPaperWith map options paper log = judged map options (λ r. refusedPaper 0 r
 unfoldable pub printedWith : Bytes → Options → Bytes → List ℕ → Bytes
 printedWith map options paper log = linesOf (entryCount paper) (markPaperWith map options paper log)
 
--- "the built-in map at 244": the table of Section 2 as 260 bytes, a header and so many rows from this code on; and what stands
--- beside it
-abbrev pub tableFrom : ℕ → ℕ → Bytes
-tableFrom code zero = []
-tableFrom code (suc n) = classNumber code ∷ tableFrom (code + 1) n
+-- a map of 260 bytes by a rule, the class number of each code: its header, and a row for each code from 00 to ff
+abbrev pub tableFrom : (ℕ → ℕ) → ℕ → ℕ → Bytes
+tableFrom rule code zero = []
+tableFrom rule code (suc n) = rule code ∷ tableFrom rule (code + 1) n
 
+abbrev pub mapOf : (ℕ → ℕ) → Bytes
+mapOf rule = 0x00 ∷ 0x01 ∷ 0x04 ∷ 0x00 ∷ tableFrom rule 0x00 256
+
+-- "the built-in map at 244": the table of Section 2, and what stands beside it
 unfoldable pub builtInMap : Bytes
-builtInMap = 0x00 ∷ 0x01 ∷ 0x04 ∷ 0x00 ∷ tableFrom 0x00 256
+builtInMap = mapOf classNumber
 
 abbrev pub builtInOptions : Options
 builtInOptions = record { limit = 244; examined = false }

@@ -156,7 +156,8 @@ pub extern "C" fn listochur_analyze_with(
     write_verdict(v, items, out)
 }
 
-// The map of a year, 0 the built-in one, into `map`: 260, its size, or 0 with nothing written for another year or a short `map`.
+// The map of a year, 0 the built-in one, 1 the classic one, into `map`: 260, its size, or 0 with nothing written for another year
+// or a short `map`.
 #[no_mangle]
 pub extern "C" fn listochur_map(year: u32, map: &mut [u8]) -> u32
     ensures size { λ r. ⌜ r ≡ mapSize year (now (map .entry)) ⌝ }

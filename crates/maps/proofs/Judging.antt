@@ -13,7 +13,7 @@ use Rattle.definition.specs.Classes.{classNumber}
 use Rattle.definition.specs.Maps.{rowCount, firstRow, rowsOf, goodRow, goodRows, goodMap, goodLimit}
 use Rattle.opcodes.proofs.Classes.{number-below}
 use Rattle.opcodes.proofs.Every.{every, tabled}
-use Rattle.maps.specs.View.{BuiltInNumbers, Judged}
+use Rattle.maps.specs.View.{Numbers, Judged}
 
 and-assoc : (a b c : Bool) → ((a && b) && c) ≡ (a && (b && c))
 and-assoc true b c = refl
@@ -28,8 +28,8 @@ and-right true b e = sym e
 and-right false b e = refl
 
 -- a table that passes the test at all of its 256 entries
-pub built-in-numbers : (rows : List ℕ) → length rows ≡ 256 → T (every (λ n. eqb (getD rows n 0) (classNumber n)) 256 0) → BuiltInNumbers rows
-built-in-numbers rows l t = record { size = l; row = λ code h. tabled classNumber rows code (rw l t) (omega (arith, l, h)) }
+pub numbers-by : (rule : ℕ → ℕ) (rows : List ℕ) → length rows ≡ 256 → T (every (λ n. eqb (getD rows n 0) (rule n)) 256 0) → Numbers rule rows
+numbers-by rule rows l t = record { size = l; row = λ code h. tabled rule rows code (rw l t) (omega (arith, l, h)) }
 
 -- one row more, and those after it
 rows-more : (rows : List ℕ) (code : ℕ) → code < length rows

@@ -1,16 +1,20 @@
-// Lent opcode maps and limits: document 02, request L6.
+// Lent opcode maps and limits: document 02, request L6; and the maps of the rule years, request L8.
 ghost use mathlib.Core.Bool.{true, _&&_, not};
 ghost use mathlib.Core.Path.{_≡_};
 ghost use Prim.Native.Nat.{_<_};
 ghost use lib.Dec.{leb, eqb};
 ghost use lib.ListN.{length};
+ghost use Rattle.definition.specs.Classes.{classNumber};
 ghost use Rattle.definition.specs.Maps.{firstRow, rowsOf, goodRows, goodMap, goodLimit};
+ghost use Rattle.definition.specs.Years.{classicNumber};
 ghost use Rattle.opcodes.specs.View.{GoodRows};
-ghost use Rattle.maps.specs.View.{BuiltInNumbers, Judged, judgedNumber, mapSize, mapPut};
+ghost use Rattle.maps.specs.View.{Numbers, Judged, judgedNumber, YearRows, mapSize, mapPut};
+
+mod classic;
 
 // The built-in table, by its class numbers.
 fn numbers() -> [u8; 256]
-    ensures { λ r. ⌜ BuiltInNumbers r ⌝ }
+    ensures { λ r. ⌜ Numbers classNumber r ⌝ }
 {
     opcodes::CLASSES
 }
@@ -129,19 +133,37 @@ pub fn rows<'a>(map: &'a [u8]) -> &'a [u8]
     &map[at..at + 256]
 }
 
-// The map of a year into lent bytes, 0 the built-in one: its size, 260; or 0, and nothing is written, where there is no such
-// year or no room.
+// The table of the classic year, by its class numbers.
+fn classic_numbers() -> [u8; 256]
+    ensures { λ r. ⌜ Numbers classicNumber r ⌝ }
+{
+    classic::CLASSIC
+}
+
+// The rows of a year: 0 is the current one, which is built in, 1 the classic one.
+fn year_rows(year: u32) -> [u8; 256]
+    requires { ⌜ year < 2 ⌝ }
+    ensures { λ r. ⌜ YearRows year r ⌝ }
+{
+    if year == 1 {
+        return classic_numbers();
+    }
+    numbers()
+}
+
+// The map of a year into lent bytes, 0 the built-in one, 1 the classic one: its size, 260; or 0, and nothing is written, where
+// there is no such year or no room.
 pub fn write_map(year: u32, map: &mut [u8]) -> u32
     ensures size { λ r. ⌜ r ≡ mapSize year (now (map .entry)) ⌝ }
     ensures put { λ r. ⌜ now (map .exit) ≡ mapPut year (now (map .entry)) ⌝ }
 {
-    if year != 0 {
+    if year > 1 {
         return 0;
     }
     if map.len() < 260 {
         return 0;
     }
-    let rows = numbers();
+    let rows = year_rows(year);
     let next = text::write_word(map, 0, b"\x00\x01\x04\x00");
     text::write_word(map, next, &rows);
     260

@@ -8,10 +8,10 @@ returns : tie.Need-returns
 returns c = no-year _ _ (c .if1 .taken)
 
 returns-2 : tie.Need-returns-2
-returns-2 c = no-room _ _ (c .before .if1 .left) (omega arith)
+returns-2 c = no-room _ _ (omega arith) (omega arith)
 
-numbers-requires : tie.Need-numbers-requires
-numbers-requires c κs = search needs
+year-rows-requires : tie.Need-year-rows-requires
+year-rows-requires c κs = search needs
 
 slice-aggregate-write-word : tie.Need-slice-aggregate-write-word
 slice-aggregate-write-word c = search needs
@@ -33,7 +33,7 @@ returns-3 c =
     let v = c .before .before in
     let w = v .before .before .before .before .before in
     let n = w .before .before .before in
-    map-put _ _ (n .before .before .if1 .left) (n .before .if2 .left) _ (n .numbers .ensures) (w .write-word .ensures) (v .write-word2 .ensures)
+    map-put _ _ (omega (arith, n .before .before .if1 .left)) (n .before .if2 .left) _ (n .year-rows .ensures) (w .write-word .ensures) (v .write-word2 .ensures)
 
 pub write-map-spec : {M : Type 1} → statement M
 write-map-spec =
@@ -41,7 +41,7 @@ write-map-spec =
     (tie.spec
     returns
     returns-2
-    numbers-requires
+    year-rows-requires
     slice-aggregate-write-word
     write-word-requires
     slice-aggregate-write-word-2
