@@ -5,7 +5,7 @@ ghost use Rattle.definition.specs.Stacks.{Rules};
 ghost use Rattle.stack.specs.View.{Fit};
 ghost use Rattle.definition.specs.Basics.{Bytes};
 ghost use Rattle.definition.specs.Maps.{rulesBy};
-ghost use Rattle.opcodes.specs.View.{GoodRows};
+ghost use Rattle.opcodes.specs.View.{ClassRows};
 ghost use Rattle.walk.specs.Runs.{optionsOf, armOf, arm, stopOf, Ready};
 ghost use Rattle.arms.specs.Walkers.{Ended, Enters, Joins, Finishes, Walks, Closes};
 use stack::Answer;
@@ -145,7 +145,7 @@ pub fn arm(
     depth: u32,
 ) -> Walk
     requires { ⌜ (Ready (now code) (now log) start) × (start .stop ≡ Stop.Running) ⌝ }
-    requires { ⌜ (GoodRows (now classes)) × (options .limit ≤ 244) × (depth ≤ 24) ⌝ }
+    requires { ⌜ (ClassRows (now classes)) × (options .limit ≤ 244) × (depth ≤ 24) ⌝ }
     ensures { λ r.
         ⌜ Walks (rulesBy (now (classes .entry)) (optionsOf options)) (now (code .entry)) depth start (now (log .entry)) r (now (log .exit)) ⌝ }
 {
@@ -174,7 +174,7 @@ fn conditional(
     depth: u32,
 ) -> Walk
     requires { ⌜ (Ready (now code) (now log) w) × (w .stop ≡ Stop.Conditional) ⌝ }
-    requires { ⌜ (GoodRows (now classes)) × (options .limit ≤ 244) × (depth ≤ 24) ⌝ }
+    requires { ⌜ (ClassRows (now classes)) × (options .limit ≤ 244) × (depth ≤ 24) ⌝ }
     ensures { λ r. ⌜ Closes (rulesBy (now (classes .entry)) (optionsOf options)) (now (code .entry)) depth w (now (log .entry)) r (now (log .exit)) ⌝ }
 {
     let mut v = enter(w, depth);

@@ -14,7 +14,7 @@ use Rattle.definition.specs.Classes.{Class, IF, NOTIF, ELSE, ENDIF, RETU
 use Rattle.definition.specs.Refusals.{nesting, maxOpen}
 use Rattle.definition.specs.Stacks.{Rules, Stacks, Outcome, done, refused, dropItems, step, plainStep}
 use Rattle.definition.specs.Walk.{Item, unknown, exact, marking, Arm, dead, live, FirstArm, notEnded, ended, Frame, Move, moves, refuses, onOutcome, join, onIf, conditional, onElse, onEndif, effect}
-use Rattle.definition.specs.Replay.{Replay, replaying, Mode, running, jumping, Carried, goesOn, halts, fails, carriedOut, chosen, branches, carry, past, Trace, visit, onCarried, replayFrom, wholeReplay, ShowsAll, ShowsStacks, AreStrings, ReplayOf}
+use Rattle.definition.specs.Replay.{Replay, replaying, Going, running, jumping, Carried, goesOn, halts, fails, carriedOut, chosen, branches, carry, past, Trace, visit, onCarried, replayFrom, wholeReplay, ShowsAll, ShowsStacks, AreStrings, ReplayOf}
 use Rattle.definition.proofs.Related.{pairedStacks}
 use Rattle.definition.proofs.Arms.{Goes, Accepts, after, armAt, Alive}
 use Rattle.definition.proofs.Sound.{Leads, opened, LiveAs, Joins, join-leads, Waits, Inv, Next, act, act-next}
@@ -23,7 +23,7 @@ use Rattle.definition.proofs.Sound.{Leads, opened, LiveAs, Joins, join-
 
 -- where an instruction leads: on in a mode, with what is left of the choices, or to the replay's end
 pub data Turn : Type 0 where
-  turn : Mode → List Bool → Turn
+  turn : Going → List Bool → Turn
   over : Turn
 
 abbrev carried : Class → List Bool → Turn
@@ -35,16 +35,16 @@ carried RETURN choices = over
 carried (ordinary o) choices = turn running choices
 carried (plain pops pushes) choices = turn running choices
 
-abbrev steer : Class → Mode → List Bool → Turn
+abbrev steer : Class → Going → List Bool → Turn
 steer k running choices = carried k choices
 steer k (jumping toElse n) choices = turn (past k toElse n) choices
 
-abbrev Then : Turn → (Mode → List Bool → Type 0) → Type 0
+abbrev Then : Turn → (Going → List Bool → Type 0) → Type 0
 Then (turn m choices) P = P m choices
 Then over P = ⊥
 
 -- these choices lead to the instruction j places on, to be carried out, or to the end
-abbrev Route : Rules → List Instruction → Mode → List Bool → ℕ → Type 0
+abbrev Route : Rules → List Instruction → Going → List Bool → ℕ → Type 0
 Route R is m choices zero = m ≡ running
 Route R [] m choices (suc j) = ⊥
 Route R (i ∷ is) m choices (suc j) = Then (steer (R .classFor (i .opcode)) m choices) (λ m choices. Route R is m choices j)
@@ -60,17 +60,17 @@ abbrev Closing : FirstArm → Type 0
 Closing notEnded = ⊥
 Closing (ended a) = Alive a
 
-abbrev May : Mode → Arm → List Frame → Type 0
+abbrev May : Going → Arm → List Frame → Type 0
 May running c fs = Alive c
 May (jumping true n) c fs = Waits n (λ f. Opening (f .first) (f .start)) fs
 May (jumping false n) c fs = Waits n (λ f. Closing (f .first)) fs
 
 -- some mode before the instruction leads to this one, with no fewer choices
-abbrev Back : Class → Arm → List Frame → Mode → List Bool → Type 0
-Back k c fs m′ choices′ = (m : Mode) × (choices : List Bool) × (May m c fs) × (steer k m choices ≡ turn m′ choices′) × (length choices′ ≤ length choices)
+abbrev Back : Class → Arm → List Frame → Going → List Bool → Type 0
+Back k c fs m′ choices′ = (m : Going) × (choices : List Bool) × (May m c fs) × (steer k m choices ≡ turn m′ choices′) × (length choices′ ≤ length choices)
 
 abbrev BackFrom : Class → Arm → List Frame → Arm → List Frame → Type 0
-BackFrom k c fs c′ fs′ = (m : Mode) (choices : List Bool) → May m c′ fs′ → Back k c fs m choices
+BackFrom k c fs c′ fs′ = (m : Going) (choices : List Bool) → May m c′ fs′ → Back k c fs m choices
 
 -- a class that changes neither the mode nor the choices
 abbrev Passing : Class → Type 0
@@ -167,7 +167,7 @@ module _ (R : Rules) where
 
   -- from a mode and choices that begin with those found, and end in the ones given
   abbrev Routed : List Instruction → Arm → List Frame → List Bool → ℕ → Type 0
-  Routed is c fs rest j = (m : Mode) × (choices : List Bool) × (May m c fs) × (Route R is m choices j) × (length rest ≤ length choices)
+  Routed is c fs rest j = (m : Going) × (choices : List Bool) × (May m c fs) × (Route R is m choices j) × (length rest ≤ length choices)
 
   routes : (is : List Instruction) (c : Arm) (fs : List Frame) (rest : List Bool) → Accepts R is c fs → (j : ℕ) → Alive (armAt R is c fs j) → Routed is c fs rest j
   routes is c fs rest g zero h = (running, rest, h, refl, omega arith)
@@ -192,7 +192,7 @@ Steers halts (turn m choices) = ⊥
 Steers halts over = Unit {0}
 Steers fails w = Unit {0}
 
-carriedOut-steers : (o : Outcome Bytes) (m : Mode) (choices : List Bool) (results : List Bytes) → Steers (carriedOut o m choices results) (turn m choices)
+carriedOut-steers : (o : Outcome Bytes) (m : Going) (choices : List Bool) (results : List Bytes) → Steers (carriedOut o m choices results) (turn m choices)
 carriedOut-steers (done s) m choices results = (refl, refl)
 carriedOut-steers (refused x) m choices results = tt
 
@@ -205,7 +205,7 @@ carry-steers R i RETURN r = tt
 carry-steers R i (ordinary o) r = carriedOut-steers (step (replaying (r .results)) R i o (r .stacks)) _ _ _
 carry-steers R i (plain pops pushes) r = carriedOut-steers (plainStep (replaying (r .results)) (R .limit) pops pushes (r .stacks)) _ _ _
 
-act-steers : (R : Rules) (i : Instruction) (k : Class) (m : Mode) (r : Replay) → Steers (act R i k m r) (steer k m (r .choices))
+act-steers : (R : Rules) (i : Instruction) (k : Class) (m : Going) (r : Replay) → Steers (act R i k m r) (steer k m (r .choices))
 act-steers R i k running r = carry-steers R i k r
 act-steers R i k (jumping toElse n) r = (refl, refl)
 
@@ -217,7 +217,7 @@ module _ (R : Rules) (P : Trace → Type 0) (earlier : (k : ℕ) (u : Stacks Byt
 
   traced-follows : (is : List Instruction) (k : ℕ) (u : Stacks Bytes) (j x : ℕ) (mv : Move) (a : Carried) (w : Turn) → Next mv a → Steers a w
       → Goes mv (λ c fs. Accepts R is c fs) → Then w (λ m choices. Route R is m choices j) → There is (after mv (λ c fs. armAt R is c fs j)) j x
-      → ((c : Arm) (fs : List Frame) (m : Mode) (r : Replay) → Accepts R is c fs → Inv m (r .stacks) c fs → Route R is m (r .choices) j
+      → ((c : Arm) (fs : List Frame) (m : Going) (r : Replay) → Accepts R is c fs → Inv m (r .stacks) c fs → Route R is m (r .choices) j
       → There is (armAt R is c fs j) j x → P (replayFrom R is (k + 1) m r))
       → P (onCarried a u (λ m r. replayFrom R is (k + 1) m r))
   traced-follows is k u j x (moves c fs) (goesOn m r) (turn m′ choices) h s g p q f = f c fs m r g h (rw (s .0, s .1) p) q
@@ -227,7 +227,7 @@ module _ (R : Rules) (P : Trace → Type 0) (earlier : (k : ℕ) (u : Stacks Byt
   traced-follows is k u j x (moves c fs) fails w h s g p q f = absurd h
   traced-follows is k u j x (refuses y) a w h s g p q f = absurd g
 
-  follows : (is : List Instruction) (k : ℕ) (c : Arm) (fs : List Frame) (m : Mode) (r : Replay) (j x : ℕ) → Accepts R is c fs → Inv m (r .stacks) c fs
+  follows : (is : List Instruction) (k : ℕ) (c : Arm) (fs : List Frame) (m : Going) (r : Replay) (j x : ℕ) → Accepts R is c fs → Inv m (r .stacks) c fs
       → Route R is m (r .choices) j → k + j ≡ x → There is (armAt R is c fs j) j x → P (replayFrom R is k m r)
   unfolding replayFrom
   follows is k c fs m r zero x g h p e q =
@@ -239,7 +239,7 @@ module _ (R : Rules) (P : Trace → Type 0) (earlier : (k : ℕ) (u : Stacks Byt
       (steer (R .classFor (i .opcode)) m (r .choices)) (act-next R i r (R .classFor (i .opcode)) m c fs h) (act-steers R i (R .classFor (i .opcode)) m r) g p q
       (λ c fs m r g h p q. follows is (k + 1) c fs m r j x g h p (omega arith) q))
     where
-      onto : (m : Mode) → P (onCarried (act R i (R .classFor (i .opcode)) m r) (r .stacks) (λ m r. replayFrom R is (k + 1) m r)) → P (replayFrom R (i ∷ is) k m r)
+      onto : (m : Going) → P (onCarried (act R i (R .classFor (i .opcode)) m r) (r .stacks) (λ m r. replayFrom R is (k + 1) m r)) → P (replayFrom R (i ∷ is) k m r)
       onto running t = earlier k (r .stacks) _ t
       onto (jumping toElse n) t = t
 
@@ -295,7 +295,7 @@ pub comes : (R : Rules) (is : List Instruction) (s : Stacks Item) → ExactBytes
     → (r : Replay) × (ReplayOf is s r) × (P (wholeReplay R is r))
 comes R is s b g j h P earlier q = from (routes R is (live s) [] (replicate (length is) true) g j h)
   where
-    none-waits : (m : Mode) → May m (live s) [] → m ≡ running
+    none-waits : (m : Going) → May m (live s) [] → m ≡ running
     none-waits running h = refl
     none-waits (jumping true n) h = absurd h
     none-waits (jumping false n) h = absurd h

@@ -15,7 +15,7 @@ use Rattle.definition.specs.Maps.{goodMap, analysisWith, markPaperWith, 
 use Rattle.definition.specs.Papers.{goodHeader, fragments, markFrom, dispatch, markPaper}
 use Rattle.definition.specs.Examined.{plainAt, examinedAt}
 
--- 520 bytes, 02 08 being the length lowest byte first, and 521
+-- 520 bytes, 08 02 being the length, lowest byte first, and 521
 abbrev allowed : Bytes
 allowed = 0x4d ∷ 0x08 ∷ 0x02 ∷ replicate 520 0x07
 
@@ -36,11 +36,12 @@ pub beforeRoom : (analysisWith builtInMap (examinedAt 1) tooLong 1 0 (replicate 
 unfolding analysisWith goodMap builtInMap analysis analysisOf walk logRow joinStacks step plainStep pushItem dropItems copyItems classOf classNumber decode front serialize deserialize
 beforeRoom = (refl, refl)
 
--- "in live code only": behind RETURN, and in one arm alone
+-- "in live code only": behind RETURN, also within an arm; in one arm alone it is live
 pub inDeadCode : (analysisWith builtInMap (examinedAt 244) (0x6a ∷ tooLong) 0 0 (replicate 6 9) .verdict .answer ≡ accepted)
-    × (analysisWith builtInMap (examinedAt 244) (0x63 ∷ 0x6a ∷ tooLong ++ 0x68 ∷ []) 1 0 (replicate 12 9) .verdict .answer ≡ accepted)
+    × ((analysisWith builtInMap (examinedAt 244) (0x63 ∷ 0x6a ∷ tooLong ++ 0x68 ∷ []) 1 0 (replicate 12 9) .verdict .answer ≡ accepted)
+    × (analysisWith builtInMap (examinedAt 244) (0x63 ∷ tooLong ++ 0x75 ∷ 0x68 ∷ []) 1 0 (replicate 12 9) .verdict .answer ≡ answer 30 1 521 520))
 unfolding analysisWith goodMap builtInMap analysis analysisOf walk logRow joinStacks step plainStep pushItem dropItems copyItems classOf classNumber decode front serialize deserialize
-inDeadCode = (refl, refl)
+inDeadCode = (refl, (refl, refl))
 
 -- only literals count: SIZE of an item, a copy of it and a result of a plain class are no literals, whatever length they have
 pub onlyLiterals : analysisWith builtInMap (examinedAt 244) (0x82 ∷ 0x78 ∷ 0x7e ∷ []) 1 0 (replicate 9 9) .verdict .answer ≡ accepted

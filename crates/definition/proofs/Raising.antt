@@ -17,7 +17,7 @@ use Rattle.definition.specs.Stacks.{Rules}
 use Rattle.definition.specs.Walk.{dead, Verdict, Marked, analysis}
 use Rattle.definition.specs.Papers.{Entry, stateFields, entries, goodHeader, Fragment, fragments, PaperMarked, refusedPaper, after, markFrom, dispatch, markPaper}
 use Rattle.definition.specs.Allows.{keeps, Follows}
-use Rattle.definition.specs.Maps.{Options, goodLimit, rowsOf, rulesOf, analysisWith, markPaperWith, Raises}
+use Rattle.definition.specs.Maps.{Options, goodLimit, rowsOf, rulesOf, analysisWith, markPaperWith, Raised, Raises}
 use Rattle.definition.proofs.TrueOfEveryReplay.{trueOfAnalysis}
 use Rattle.definition.proofs.UnderEveryMap.{limit-within, acceptedIsGood, analysis-good, acceptedPaperIsGood, paper-good}
 use Rattle.definition.proofs.Allowed.{Modest, Examines, Covers, AllModest, Short, analysis-fits}
@@ -30,24 +30,23 @@ limit-good limit l m = rw (le-leb 1 limit l, le-leb limit 244 m)
 same-map : (map : Bytes) (from to : Options) → Examines (rulesOf map from) (rulesOf map to) → Covers (rulesOf map from) (rulesOf map to)
 same-map map from to m = record { classFor = λ code. keeps _; examined = m }
 
--- "Raising the limit under one map never turns acceptance into refusal, and peak, log and end stay equal": in one mode, or from the
--- examined one to plain
-pub raisingTheLimit : (map : Bytes) (from to : Options) → from .limit ≤ to .limit → to .limit ≤ 244 → (to .examined ≡ true → from .examined ≡ true) → Raises map from to
-raisingTheLimit map from to up most mode = record {
-  fragments = λ fragment main alt log h.
+-- "Raising the limit under one map never turns acceptance into refusal, and peak, log and end stay equal"
+pub raisingTheLimit : (map : Bytes) → Raises map
+raisingTheLimit map = record {
+  fragments = λ from to r fragment main alt log h.
       let b = acceptedIsGood map from fragment main alt log h in
       let here = analysis-good map from fragment main alt log (b .0) (b .1) in
-      let there = analysis-good map to fragment main alt log (b .0) (limit-good (to .limit) (omega (arith, up, limit-within (from .limit) (b .1) .0)) most) in
-      there ∙ law .fragments fragment main alt log (rw here at h) ∙ sym here;
-  papers = λ paper log h.
+      let there = analysis-good map to fragment main alt log (b .0) (limit-good (to .limit) (omega (arith, r .limit, limit-within (from .limit) (b .1) .0)) (r .most)) in
+      there ∙ law from to r .fragments fragment main alt log (rw here at h) ∙ sym here;
+  papers = λ from to r paper log h.
       let b = acceptedPaperIsGood map from paper log h in
       let here = paper-good map from paper log (b .0) (b .1) in
-      let there = paper-good map to paper log (b .0) (limit-good (to .limit) (omega (arith, up, limit-within (from .limit) (b .1) .0)) most) in
-      there ∙ law .papers paper log (rw here at h) ∙ sym here;
+      let there = paper-good map to paper log (b .0) (limit-good (to .limit) (omega (arith, r .limit, limit-within (from .limit) (b .1) .0)) (r .most)) in
+      there ∙ law from to r .papers paper log (rw here at h) ∙ sym here;
 }
   where
-    law : Follows (rulesOf map from) (rulesOf map to)
-    law = allowedFollows (rulesOf map from) (rulesOf map to) (record { classFor = λ code. keeps _; limit = up; examined = mode })
+    law : (from to : Options) → Raised from to → Follows (rulesOf map from) (rulesOf map to)
+    law from to r = allowedFollows (rulesOf map from) (rulesOf map to) (record { classFor = λ code. keeps _; limit = r .limit; examined = r .mode })
 
 -- The stronger form
 

@@ -15,7 +15,7 @@ use Rattle.definition.specs.Classes.{Class, IF, NOTIF, ELSE, ENDIF, RETU
 use Rattle.definition.specs.Refusals.{maxOpen, nesting, armsDiffer}
 use Rattle.definition.specs.Stacks.{Rules, Stacks, Outcome, done, refused, total, onDone, dropItems, step, plainStep}
 use Rattle.definition.specs.Walk.{Item, unknown, exact, marking, Arm, dead, live, FirstArm, notEnded, ended, Frame, Move, moves, refuses, sameBytes, joinItem, joinItems, joinStacks, onOutcome, join, opens, onIf, conditional, onElse, onEndif, effect}
-use Rattle.definition.specs.Replay.{Replay, replaying, Mode, running, jumping, Carried, goesOn, halts, fails, carriedOut, chosen, branches, carry, past, Trace, visit, offEnd, returned, faulted, onCarried, replayFrom, ReachedAt, EndsInFault, RunsOffWith, HasTotal, Shows}
+use Rattle.definition.specs.Replay.{Replay, replaying, Going, running, jumping, Carried, goesOn, halts, fails, carriedOut, chosen, branches, carry, past, Trace, visit, offEnd, returned, faulted, onCarried, replayFrom, ReachedAt, EndsInFault, RunsOffWith, HasTotal, Shows}
 use Rattle.definition.proofs.Related.{Paired, bottom, above, PairedStacks, Agree, agree, stops, dropItems-agrees, step-agrees, plainStep-agrees, Within, dropItems-within, step-within, plainStep-within}
 use Rattle.definition.proofs.Arms.{Goes, Accepts, after, armAt, Alive}
 
@@ -120,7 +120,7 @@ Ended u (ended a) = LiveAs a u
 
 -- A running replay is in the marker's arm; one that jumps waits for the start of a second arm, or past the end of a first
 -- one, n conditionals out.
-abbrev pub Inv : Mode → Stacks Bytes → Arm → List Frame → Type 0
+abbrev pub Inv : Going → Stacks Bytes → Arm → List Frame → Type 0
 Inv running u c fs = LiveAs c u
 Inv (jumping true n) u c fs = Waits n (λ f. Opens u (f .first) (f .start)) fs
 Inv (jumping false n) u c fs = Waits n (λ f. Ended u (f .first)) fs
@@ -133,7 +133,7 @@ Next (moves c fs) fails = ⊥
 Next (refuses x) a = Unit {0}
 
 -- an instruction met in any mode: carried out, or jumped over
-abbrev pub act : Rules → Instruction → Class → Mode → Replay → Carried
+abbrev pub act : Rules → Instruction → Class → Going → Replay → Carried
 act R i k running r = carry R i k r
 act R i k (jumping toElse n) r = goesOn (past k toElse n) r
 
@@ -147,7 +147,7 @@ module _ (R : Rules) (i : Instruction) (r : Replay) where
   moved-next fs results (agree h) = h
   moved-next fs results stops = tt
 
-  moved-waits : (m : Mode) (o : Outcome Item) (fs : List Frame) → ((c : Arm) → Inv m (r .stacks) c fs) → Next (onOutcome o fs) (goesOn m r)
+  moved-waits : (m : Going) (o : Outcome Item) (fs : List Frame) → ((c : Arm) → Inv m (r .stacks) c fs) → Next (onOutcome o fs) (goesOn m r)
   moved-waits m (done s) fs h = h (live s)
   moved-waits m (refused x) fs h = tt
 
@@ -170,7 +170,7 @@ module _ (R : Rules) (i : Instruction) (r : Replay) where
   if-next dead fs h = absurd h
   if-next (live s) fs h = nested (ltb (length fs) maxOpen) (opened (dropItems 1 s) fs) _ (opened-next fs (dropItems-agrees h 1))
 
-  if-waits : (m : Mode) (c : Arm) (fs : List Frame) → ((c : Arm) (f : Frame) → Inv m (r .stacks) c (f ∷ fs)) → Next (conditional c fs) (goesOn m r)
+  if-waits : (m : Going) (c : Arm) (fs : List Frame) → ((c : Arm) (f : Frame) → Inv m (r .stacks) c (f ∷ fs)) → Next (conditional c fs) (goesOn m r)
   if-waits m c fs h = nested (ltb (length fs) maxOpen) (onIf c fs) (goesOn m r) (open-waits c)
     where
       opened-waits : (o : Outcome Item) → Next (opened o fs) (goesOn m r)
@@ -194,7 +194,7 @@ module _ (R : Rules) (i : Instruction) (r : Replay) where
   else-past c s notEnded fs h = absurd h
   else-past c s (ended a) fs h = tt
 
-  else-waits : (m : Mode) (c s : Arm) (t : FirstArm) (fs : List Frame) → ((c : Arm) (f : Frame) → Inv m (r .stacks) c (f ∷ fs)) → Next (onElse c s t fs) (goesOn m r)
+  else-waits : (m : Going) (c s : Arm) (t : FirstArm) (fs : List Frame) → ((c : Arm) (f : Frame) → Inv m (r .stacks) c (f ∷ fs)) → Next (onElse c s t fs) (goesOn m r)
   else-waits m c s notEnded fs h = h s (record { start = s; first = ended c })
   else-waits m c s (ended a) fs h = tt
 
@@ -206,7 +206,7 @@ module _ (R : Rules) (i : Instruction) (r : Replay) where
       leads (moves c gs) j = j .0 (r .stacks) h
       leads (refuses x) j = tt
 
-  joins-waits : (m : Mode) (a b : Arm) (fs : List Frame) → ((c : Arm) → Inv m (r .stacks) c fs) → Next (join a b fs) (goesOn m r)
+  joins-waits : (m : Going) (a b : Arm) (fs : List Frame) → ((c : Arm) → Inv m (r .stacks) c fs) → Next (join a b fs) (goesOn m r)
   joins-waits m a b fs h = leads (join a b fs) (join-leads a b fs)
     where
       leads : (mv : Move) → Leads mv (Joins a b fs) → Next mv (goesOn m r)
@@ -225,12 +225,12 @@ module _ (R : Rules) (i : Instruction) (r : Replay) where
   endif-past c s notEnded fs h = absurd h
   endif-past c s (ended a) fs h = joins-next a c fs (inl h)
 
-  endif-waits : (m : Mode) (c s : Arm) (t : FirstArm) (fs : List Frame) → ((c : Arm) → Inv m (r .stacks) c fs) → Next (onEndif c s t fs) (goesOn m r)
+  endif-waits : (m : Going) (c s : Arm) (t : FirstArm) (fs : List Frame) → ((c : Arm) → Inv m (r .stacks) c fs) → Next (onEndif c s t fs) (goesOn m r)
   endif-waits m c s notEnded fs h = joins-waits m c s fs h
   endif-waits m c s (ended a) fs h = joins-waits m a c fs h
 
   -- one instruction of any class, in any mode
-  pub act-next : (k : Class) (m : Mode) (c : Arm) (fs : List Frame) → Inv m (r .stacks) c fs → Next (effect R i k c fs) (act R i k m r)
+  pub act-next : (k : Class) (m : Going) (c : Arm) (fs : List Frame) → Inv m (r .stacks) c fs → Next (effect R i k c fs) (act R i k m r)
   act-next IF running c fs h = if-next c fs h
   act-next IF (jumping true n) c fs h = if-waits (jumping true (suc n)) c fs (λ c f. h)
   act-next IF (jumping false n) c fs h = if-waits (jumping false (suc n)) c fs (λ c f. h)
@@ -276,14 +276,14 @@ module _ (R : Rules) (A : ℕ → Arm) (n : ℕ) where
   Good (returned u) = (k : ℕ) × (k ≤ n) × (LiveAs (A k) u)
   Good faulted = ⊥
 
-  no-mode-waits : (m : Mode) (u : Stacks Bytes) (c : Arm) (fs : List Frame) → fs ≡ [] → Inv m u c fs → LiveAs c u
+  no-mode-waits : (m : Going) (u : Stacks Bytes) (c : Arm) (fs : List Frame) → fs ≡ [] → Inv m u c fs → LiveAs c u
   no-mode-waits running u c fs e h = h
   no-mode-waits (jumping true k) u c fs e h = absurd (rw e at h)
   no-mode-waits (jumping false k) u c fs e h = absurd (rw e at h)
 
   -- what holds of the rest of the replay, wherever the marker moves on to
   abbrev Rest : List Instruction → ℕ → Type 0
-  Rest is k = (c : Arm) (fs : List Frame) (m : Mode) (r : Replay) → ((j : ℕ) → A (k + j) ≡ armAt R is c fs j) → Accepts R is c fs → Inv m (r .stacks) c fs
+  Rest is k = (c : Arm) (fs : List Frame) (m : Going) (r : Replay) → ((j : ℕ) → A (k + j) ≡ armAt R is c fs j) → Accepts R is c fs → Inv m (r .stacks) c fs
       → Good (replayFrom R is k m r)
 
   traced-good : (is : List Instruction) (k : ℕ) (u : Stacks Bytes) (mv : Move) (a : Carried) → Next mv a → Goes mv (λ c fs. Accepts R is c fs)
@@ -295,7 +295,7 @@ module _ (R : Rules) (A : ℕ → Arm) (n : ℕ) where
   traced-good is k u (refuses x) a h g e l f = absurd g
 
   -- the trace from an instruction on
-  act-good : (i : Instruction) (is : List Instruction) (k : ℕ) (c : Arm) (fs : List Frame) (m : Mode) (r : Replay)
+  act-good : (i : Instruction) (is : List Instruction) (k : ℕ) (c : Arm) (fs : List Frame) (m : Going) (r : Replay)
       → ((j : ℕ) → A (k + j) ≡ armAt R (i ∷ is) c fs j) → Accepts R (i ∷ is) c fs → Inv m (r .stacks) c fs
       → (act R i (R .classFor (i .opcode)) m r ≡ halts → (k ≤ n) × (LiveAs (A k) (r .stacks))) → Rest is (k + 1)
       → Good (onCarried (act R i (R .classFor (i .opcode)) m r) (r .stacks) (λ m r. replayFrom R is (k + 1) m r))
@@ -304,7 +304,7 @@ module _ (R : Rules) (A : ℕ → Arm) (n : ℕ) where
       (act-next R i r (R .classFor (i .opcode)) m c fs h) g (λ j. e (suc j)) l f
 
   -- a replay that agrees with the marker, where the rest of the walk is accepted, goes on as the marker does
-  pub sound : (is : List Instruction) (k : ℕ) (c : Arm) (fs : List Frame) (m : Mode) (r : Replay)
+  pub sound : (is : List Instruction) (k : ℕ) (c : Arm) (fs : List Frame) (m : Going) (r : Replay)
       → ((j : ℕ) → A (k + j) ≡ armAt R is c fs j) → k + length is ≡ n → Accepts R is c fs → Inv m (r .stacks) c fs → Good (replayFrom R is k m r)
   unfolding replayFrom
   sound [] k c fs m r e l g h = subst (λ a. LiveAs a (r .stacks)) (sym (e 0) ∙ ap A l) (no-mode-waits m (r .stacks) c fs g h)
@@ -352,7 +352,7 @@ module _ (R : Rules) (x : ℕ) where
   Stays halts = Unit {0}
   Stays fails = Unit {0}
 
-  carriedOut-stays : (o : Outcome Bytes) (m : Mode) (choices : List Bool) (results : List Bytes) → Within (R .limit) o → Stays (carriedOut o m choices results)
+  carriedOut-stays : (o : Outcome Bytes) (m : Going) (choices : List Bool) (results : List Bytes) → Within (R .limit) o → Stays (carriedOut o m choices results)
   carriedOut-stays (done s) m choices results h = h
   carriedOut-stays (refused r) m choices results h = tt
 
@@ -371,14 +371,14 @@ module _ (R : Rules) (x : ℕ) where
       carriedOut-stays (plainStep (replaying (r .results)) (R .limit) pops pushes (r .stacks)) _ _ _
       (plainStep-within (replaying (r .results)) (R .limit) pops pushes (r .stacks) h)
 
-  traced-stays : (a : Carried) (u : Stacks Bytes) (next : Mode → Replay → Trace) → total u ≤ R .limit → Stays a
-      → ((m : Mode) (r : Replay) → total (r .stacks) ≤ R .limit → HasTotal x (next m r) → x ≤ R .limit) → HasTotal x (onCarried a u next) → x ≤ R .limit
+  traced-stays : (a : Carried) (u : Stacks Bytes) (next : Going → Replay → Trace) → total u ≤ R .limit → Stays a
+      → ((m : Going) (r : Replay) → total (r .stacks) ≤ R .limit → HasTotal x (next m r) → x ≤ R .limit) → HasTotal x (onCarried a u next) → x ≤ R .limit
   traced-stays (goesOn m r) u next h s f p = f m r s p
   traced-stays halts u next h s f p = rw (← p) h
   traced-stays fails u next h s f p = absurd p
 
   -- a replay that starts within the limit stays within it
-  pub stays-within : (is : List Instruction) (k : ℕ) (m : Mode) (r : Replay) → total (r .stacks) ≤ R .limit → HasTotal x (replayFrom R is k m r) → x ≤ R .limit
+  pub stays-within : (is : List Instruction) (k : ℕ) (m : Going) (r : Replay) → total (r .stacks) ≤ R .limit → HasTotal x (replayFrom R is k m r) → x ≤ R .limit
   unfolding replayFrom
   stays-within [] k m r h p = rw (← p) h
   stays-within (i ∷ is) k running r h p =

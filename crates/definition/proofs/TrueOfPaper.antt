@@ -15,7 +15,7 @@ use Rattle.definition.specs.Decoding.{Instruction, decode, instructions}
 use Rattle.definition.specs.Refusals.{maxPaper, badHeader, dispatchTooLarge, longPaper}
 use Rattle.definition.specs.Stacks.{Rules, Stacks, builtIn}
 use Rattle.definition.specs.Walk.{Item, dead, Verdict, Marked, begin, unknowns, analysis}
-use Rattle.definition.specs.Replay.{Replay, Mode, running, jumping, Carried, goesOn, halts, fails, carry, past, Trace, onCarried, replayFrom, ReachedAt, heightsAt, Demand3}
+use Rattle.definition.specs.Replay.{Replay, Going, running, jumping, Carried, goesOn, halts, fails, carry, past, Trace, onCarried, replayFrom, ReachedAt, heightsAt, Demand3}
 use Rattle.definition.specs.Papers.{Entry, Fragment, PaperMarked, after, markFrom, dispatch, refusedPaper, markPaper, goodHeader, stateFields, entries, fragments, EachTrue, TrueOfPaper}
 use Rattle.definition.proofs.Arms.{rows-all, log-length}
 use Rattle.definition.proofs.TrueOfEveryReplay.{ofAnalysis, trueOfAnalysis}
@@ -24,13 +24,13 @@ use Rattle.definition.proofs.TrueOfEveryReplay.{ofAnalysis, trueOfAnaly
 
 -- a replay reaches places below the number of instructions
 module _ (R : Rules) (k : ℕ) (u : Stacks Bytes) where
-  traced-below : (n : ℕ) (a : Carried) (s : Stacks Bytes) (next : Mode → Replay → Trace)
-      → ((m : Mode) (r : Replay) → ReachedAt k u (next m r) → k < n) → ReachedAt k u (onCarried a s next) → k < n
+  traced-below : (n : ℕ) (a : Carried) (s : Stacks Bytes) (next : Going → Replay → Trace)
+      → ((m : Going) (r : Replay) → ReachedAt k u (next m r) → k < n) → ReachedAt k u (onCarried a s next) → k < n
   traced-below n (goesOn m r) s next f h = f m r h
   traced-below n halts s next f h = absurd h
   traced-below n fails s next f h = absurd h
 
-  reached-below : (is : List Instruction) (j : ℕ) (m : Mode) (r : Replay) → ReachedAt k u (replayFrom R is j m r) → k < j + length is
+  reached-below : (is : List Instruction) (j : ℕ) (m : Going) (r : Replay) → ReachedAt k u (replayFrom R is j m r) → k < j + length is
   unfolding replayFrom
   reached-below [] j m r h = absurd h
   reached-below (i ∷ is) j running r h =

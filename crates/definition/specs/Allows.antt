@@ -9,7 +9,7 @@ use Rattle.definition.specs.Stacks.{Rules}
 use Rattle.definition.specs.Walk.{analysis}
 use Rattle.definition.specs.Papers.{markPaper}
 
--- a class is kept, or it was unmodelled and is ordinary or plain now
+-- a class is kept, or it was unmodelled and is ordinary or of a plain class now
 pub data Models : Class → Class → Type 0 where
   keeps : (c : Class) → Models c c
   gainsOrdinary : (o : Ordinary) → Models (ordinary unmodelled) (ordinary o)

@@ -17,6 +17,7 @@
 --   (x : A) → P, (x : A) × P                         for every x; there is an x
 --   module _ (I : T) where   each definition below takes I first; within the module it is not written
 --   "text" in a comment      document 01's own words; .. marks what is left out
+--   M.f                      f of the module M
 --   use, pub, abbrev, unfoldable                     for the checker alone
 use mathlib.Core.Bool.{Bool, true, false}
 use mathlib.Core.List.{List}

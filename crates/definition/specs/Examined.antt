@@ -30,14 +30,15 @@ LongPushAt R [] k = ⊥
 LongPushAt R (i ∷ is) zero = (R .classFor (i .opcode) ≡ ordinary push) × (maxElement < length (i .literal))
 LongPushAt R (i ∷ is) (suc k) = LongPushAt R is k
 
--- "a plain replay reaches such a push": some replay by R, from stacks that s shows
+-- "a plain replay reaches such a push": some replay by R, which are rules of plain mode below, from stacks that s shows
 abbrev pub ReachesLong : Rules → List Instruction → Stacks Item → Type 0
 ReachesLong R is s = (k : ℕ) × (LongPushAt R is k) × (SomeReplayReaches R is s k)
 
--- .. of a fragment, from the heights that its analysis starts from, and of one of these fragments
+-- .. of a fragment, from the heights that its analysis starts from
 abbrev pub FragmentReachesLong : Rules → Fragment → Type 0
 FragmentReachesLong R f = ReachesLong R (instructions (decode (f .bytes))) (unknowns (f .main) (f .alt))
 
+-- .. of one of these fragments
 abbrev pub SomeReachesLong : Rules → List Fragment → Type 0
 SomeReachesLong R [] = ⊥
 SomeReachesLong R (f ∷ fs) = (FragmentReachesLong R f) ⊎ (SomeReachesLong R fs)
@@ -50,8 +51,8 @@ pub record ExaminedAs {X : Type 0} (Reaches : Type 0) (number : ℕ) (inPlain in
   pub exactly : (number ≡ 30) ↔ Reaches
   pub else : (Reaches → ⊥) → inExamined ≡ inPlain
 
--- "What plain mode accepts", by this map and limit, a fragment or a paper. Of a paper the verdict of each accepted fragment is the
--- same too.
+-- "What plain mode accepts", by this map and limit, a fragment or a paper. Where no replay reaches such a push, the verdicts of a
+-- paper's fragments are the same too.
 pub record Examining (map : Bytes) (limit : ℕ) : Type 0 where
   pub fragments : (fragment : Bytes) (main alt : ℕ) (log : List ℕ) →
       let plain : Marked = analysisWith map (plainAt limit) fragment main alt log in

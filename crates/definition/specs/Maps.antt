@@ -2,7 +2,7 @@
 use mathlib.Core.Bool.{Bool, true, false, _&&_, not}
 use mathlib.Core.List.{List, [], _∷_}
 use mathlib.Core.Path.{_≡_}
-use Prim.Native.Nat.{ℕ, zero, suc, _+_}
+use Prim.Native.Nat.{ℕ, zero, suc, _+_, _≤_}
 use lib.Dec.{leb, eqb}
 use lib.ListN.{length, take, drop, getD}
 use Rattle.definition.specs.Basics.{Bytes, pick}
@@ -28,12 +28,12 @@ firstRow map = field map 2
 abbrev pub rowsOf : Bytes → List ℕ
 rowsOf map = take 256 (drop (firstRow map) map)
 
--- the row of a code, not one of those that are 28: "a class byte is no class, a code up to 60 differs from the built-in table, or
+-- a row is good where it is none of these, which are 28: "a class byte is no class, a code up to 60 differs from the built-in table, or
 -- a later one is push"
 abbrev pub goodRow : ℕ → ℕ → Bool
 goodRow code class = leb class 31 && pick (leb code 0x60) (eqb class (classNumber code)) (not (eqb class 1))
 
--- these rows, the first of them that of this code
+-- each of these rows is good, the first of them that of this code
 abbrev pub goodRows : ℕ → List ℕ → Bool
 goodRows code [] = true
 goodRows code (class ∷ l) = goodRow code class && goodRows (code + 1) l
@@ -58,6 +58,7 @@ abbrev pub rulesBy : List ℕ → Options → Rules
 rulesBy rows options =
     record { classFor = λ code. classAt (getD rows code 0); limit = options .limit; examined = options .examined }
 
+-- by the rows of a map
 abbrev pub rulesOf : Bytes → Options → Rules
 rulesOf map options = rulesBy (rowsOf map) options
 
@@ -78,11 +79,13 @@ markPaperWith map options paper log = judged map options (λ r. refusedPaper 0 r
 unfoldable pub printedWith : Bytes → Options → Bytes → List ℕ → Bytes
 printedWith map options paper log = linesOf (entryCount paper) (markPaperWith map options paper log)
 
--- a map of 260 bytes by a rule, the class number of each code: its header, and a row for each code from 00 to ff
+-- n rows by a rule, the first of them that of this code
 abbrev pub tableFrom : (ℕ → ℕ) → ℕ → ℕ → Bytes
 tableFrom rule code zero = []
 tableFrom rule code (suc n) = rule code ∷ tableFrom rule (code + 1) n
 
+-- a map of 260 bytes by a rule, the class number of each code: the header, 256 rows of which the first is at 4, and a row for each
+-- code from 00 to ff
 abbrev pub mapOf : (ℕ → ℕ) → Bytes
 mapOf rule = 0x00 ∷ 0x01 ∷ 0x04 ∷ 0x00 ∷ tableFrom rule 0x00 256
 
@@ -96,7 +99,7 @@ builtInOptions = record { limit = 244; examined = false }
 -- The claims
 
 -- "Demand 3, whole, is then stated over every valid map and every limit at one go": of all bytes lent for a map and every
--- number for a limit, since what is accepted has both good
+-- number for a limit, since what is accepted has both good; and in each mode, "with its replay" (request L7)
 abbrev pub TrueWith : Bytes → Options → Bytes → ℕ → ℕ → List ℕ → Type 0
 TrueWith map options fragment main alt log =
     let m : Marked = analysisWith map options fragment main alt log in
@@ -107,16 +110,24 @@ TrueOfPaperWith map options paper log =
     let m : PaperMarked = markPaperWith map options paper log in
     m .paper .verdict .answer .number ≡ 0 → EachTrue (rulesOf map options) 0 (fragments paper) (m .verdicts) (m .log)
 
--- request L3, "Long data tells nothing", by this map and limit, also where they are bad
+-- request L3, "Long data tells nothing", by this map, limit and mode, also where map or limit is bad
 pub record TellsNothingWith (map : Bytes) (options : Options) (Related : Bytes → Bytes → Type 0) : Type 0 where
   pub fragments : (f g : Bytes) → Related f g → (main alt : ℕ) (log : List ℕ)
       → analysisWith map options f main alt log ≡ analysisWith map options g main alt log
   pub papers : (p q : Bytes) → RelatedPapers Related p q → (log : List ℕ) → markPaperWith map options p log ≡ markPaperWith map options q log
 
--- "Raising the limit under one map never turns acceptance into refusal, and peak, log and end stay equal": from one limit to
--- another. The whole verdict stays, and of a paper the verdict of each fragment too.
-pub record Raises (map : Bytes) (from to : Options) : Type 0 where
-  pub fragments : (fragment : Bytes) (main alt : ℕ) (log : List ℕ) → analysisWith map from fragment main alt log .verdict .answer .number ≡ 0
+-- to this limit or a greater one, up to 244, in the same mode or from the examined one to plain
+pub record Raised (from to : Options) : Type 0 where
+  pub limit : from .limit ≤ to .limit
+  pub most : to .limit ≤ 244
+  pub mode : to .examined ≡ true → from .examined ≡ true
+
+-- "Raising the limit under one map never turns acceptance into refusal, and peak, log and end stay equal". The whole verdict stays,
+-- and of a paper the verdict of each fragment too.
+pub record Raises (map : Bytes) : Type 0 where
+  pub fragments : (from to : Options) → Raised from to → (fragment : Bytes) (main alt : ℕ) (log : List ℕ)
+      → analysisWith map from fragment main alt log .verdict .answer .number ≡ 0
       → analysisWith map to fragment main alt log ≡ analysisWith map from fragment main alt log
-  pub papers : (paper : Bytes) (log : List ℕ) → markPaperWith map from paper log .paper .verdict .answer .number ≡ 0
+  pub papers : (from to : Options) → Raised from to → (paper : Bytes) (log : List ℕ)
+      → markPaperWith map from paper log .paper .verdict .answer .number ≡ 0
       → markPaperWith map to paper log ≡ markPaperWith map from paper log

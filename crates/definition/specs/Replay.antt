@@ -28,24 +28,25 @@ replaying results = record { fromBytes = λ l. l; toBytes = some; result = getD 
 
 -- It carries instructions out, or jumps over them: past the ENDIF, or past the ELSE if there is one (`true`). The number
 -- counts the conditionals opened since the jump began.
-pub data Mode : Type 0 where
-  running : Mode
-  jumping : (toElse : Bool) → ℕ → Mode
+pub data Going : Type 0 where
+  running : Going
+  jumping : (toElse : Bool) → ℕ → Going
 
 -- an instruction carried out: the replay goes on, has ended, or faults
 pub data Carried : Type 0 where
-  goesOn : Mode → Replay → Carried
+  goesOn : Going → Replay → Carried
   halts : Carried
   fails : Carried
 
--- On in this mode with what an operation yields. A refusal is a fault: "It faults on a missing item, no room, an unreadable or
--- negative index, a bad tag, an unmodelled opcode", which are all that Stacks can refuse.
-abbrev pub carriedOut : Outcome Bytes → Mode → List Bool → List Bytes → Carried
+-- On, running or jumping, with what an operation yields. A refusal is a fault: "It faults on a missing item, no room, an unreadable
+-- or negative index, a bad tag, an unmodelled opcode", and in the examined mode on pushing a literal above 520 bytes (request L7),
+-- which are all that Stacks can refuse.
+abbrev pub carriedOut : Outcome Bytes → Going → List Bool → List Bytes → Carried
 carriedOut o mode choices results =
     onDone o (λ r. fails) (λ s. goesOn mode (record { stacks = s; choices = choices; results = results }))
 
 -- "the next choice enters the first arm or jumps past its ELSE (past ENDIF if none)"
-abbrev pub chosen : Bool → Mode
+abbrev pub chosen : Bool → Going
 chosen true = running
 chosen false = jumping true 0
 
@@ -66,7 +67,7 @@ carry R i (plain pops pushes) r =
     carriedOut (plainStep (replaying (r .results)) (R .limit) pops pushes (r .stacks)) running (r .choices) (drop pushes (r .results))
 
 -- the mode after an instruction that is jumped over
-abbrev pub past : Class → Bool → ℕ → Mode
+abbrev pub past : Class → Bool → ℕ → Going
 past IF toElse n = jumping toElse (suc n)
 past NOTIF toElse n = jumping toElse (suc n)
 past ELSE true zero = running
@@ -88,13 +89,13 @@ pub data Trace : Type 0 where
   faulted : Trace
 
 -- on from an instruction carried out
-abbrev pub onCarried : Carried → Stacks Bytes → (Mode → Replay → Trace) → Trace
+abbrev pub onCarried : Carried → Stacks Bytes → (Going → Replay → Trace) → Trace
 onCarried (goesOn m r) s next = next m r
 onCarried halts s next = returned s
 onCarried fails s next = faulted
 
 -- the replay from the instruction at place k on
-unfoldable pub replayFrom : Rules → List Instruction → ℕ → Mode → Replay → Trace
+unfoldable pub replayFrom : Rules → List Instruction → ℕ → Going → Replay → Trace
 replayFrom R [] k m r = offEnd (r .stacks)
 replayFrom R (i ∷ is) k running r =
     visit k (r .stacks) (onCarried (carry R i (R .classFor (i .opcode)) r) (r .stacks) (λ m t. replayFrom R is (k + 1) m t))

@@ -18,7 +18,7 @@ pub record Rules : Type 0 where
   pub limit : ℕ
   pub examined : Bool
 
--- the classes of Section 2, and "Main and alt hold at most 244 items together"
+-- the classes of Section 2, and "Main and alt hold at most 244 items together", in plain mode
 abbrev pub builtIn : Rules
 builtIn = record { classFor = classOf; limit = 244; examined = false }
 

@@ -8,7 +8,7 @@ ghost use Rattle.definition.specs.Papers.{entryCount, fragments, markFrom, mark
 ghost use Rattle.definition.specs.Refusals.{answer};
 ghost use Rattle.definition.specs.Maps.{rulesBy, markPaperWith, printedWith};
 ghost use Rattle.definition.specs.Stacks.{builtIn};
-ghost use Rattle.opcodes.specs.View.{GoodRows};
+ghost use Rattle.opcodes.specs.View.{ClassRows};
 ghost use Rattle.walk.specs.Runs.{optionsOf};
 ghost use Rattle.text.specs.View.{Written};
 ghost use Rattle.lines.specs.View.{endText, lineText, Prints, linesIn, Within};
@@ -163,7 +163,7 @@ fn write_fragments(
     out: &mut [u8],
 ) -> Told
     requires { ⌜ (length (fragments (now paper)) ≤ 33) × (4096 ≤ length (now out)) ⌝ }
-    requires { ⌜ (GoodRows (now classes)) × (options .limit ≤ 244) ⌝ }
+    requires { ⌜ (ClassRows (now classes)) × (options .limit ≤ 244) ⌝ }
     ensures same { λ r.
         ⌜
         Prints
@@ -203,7 +203,7 @@ fn write_lines(
     out: &mut [u8],
 ) -> Told
     requires { ⌜ 4096 ≤ length (now out) ⌝ }
-    requires { ⌜ (GoodRows (now classes)) × (options .limit ≤ 244) ⌝ }
+    requires { ⌜ (ClassRows (now classes)) × (options .limit ≤ 244) ⌝ }
     ensures same { λ r.
         ⌜
         Prints
@@ -230,7 +230,7 @@ fn write_lines(
     }
 }
 
-// The lines of a paper by a lent map and a lent limit: 28 and then 29 before all else.
+// The lines of a paper by a lent map and a lent limit, in a mode: 28 and then 29 before all else.
 fn write_lines_with(
     paper: &[u8],
     map: &[u8],
@@ -292,7 +292,8 @@ pub fn mark_lines(paper: &[u8], log: &mut [u16]) -> Lines
     }
 }
 
-// Marks a paper by a lent map and a lent limit, and gives its lines and the verdict's number. Every input comes to its lines.
+// Marks a paper by a lent map and a lent limit, in a mode, and gives its lines and the verdict's number. Every input comes to its
+// lines.
 pub fn mark_lines_with(paper: &[u8], map: &[u8], options: Options, log: &mut [u16]) -> Lines
     ensures same { λ r.
         ⌜

@@ -5,7 +5,7 @@
 ghost use Prim.Native.Nat.{_+_, _*_, _≤_, _<_};
 ghost use lib.ListN.{length};
 ghost use Rattle.definition.specs.Maps.{Options, rulesBy};
-ghost use Rattle.opcodes.specs.View.{GoodRows};
+ghost use Rattle.opcodes.specs.View.{ClassRows};
 ghost use Rattle.log_rows.specs.Rows.{mainAt, altAt, totalOf, greatest, heading, row, rowsFrom, rows};
 ghost use Rattle.log_lines.specs.Log.{start, verdictLine};
 ghost use Rattle.log_blocks.specs.Blocks.{block};
@@ -63,7 +63,7 @@ fn put_row(
 ) -> usize
     requires { ⌜ (at ≤ 1099511627776) × (3 * j + 3 ≤ length (now log)) ⌝ }
     requires { ⌜ (1 ≤ scale) × (totalOf (mainAt (now log) j) (altAt (now log) j) ≤ scale) ⌝ }
-    requires { ⌜ GoodRows (now classes) ⌝ }
+    requires { ⌜ ClassRows (now classes) ⌝ }
     ensures same { λ r.
         ⌜
         ((options : Options)
@@ -96,7 +96,7 @@ fn put_rows(
 ) -> usize
     requires { ⌜ (at + 256 * count ≤ 1099511627776) × (3 * (from + count) ≤ length (now log)) ⌝ }
     requires { ⌜ (1 ≤ scale) × (greatest (now log) from count ≤ scale) ⌝ }
-    requires { ⌜ GoodRows (now classes) ⌝ }
+    requires { ⌜ ClassRows (now classes) ⌝ }
     ensures same { λ r.
         ⌜
         ((options : Options)
@@ -135,7 +135,7 @@ fn put_table(
     count: usize,
 ) -> usize
     requires { ⌜ (at + 256 * count + 256 ≤ 1099511627776) × (3 * (from + count) ≤ length (now log)) ⌝ }
-    requires { ⌜ GoodRows (now classes) ⌝ }
+    requires { ⌜ ClassRows (now classes) ⌝ }
     ensures same { λ r.
         ⌜
         ((options : Options)
@@ -169,7 +169,7 @@ fn put_verdict(
     t: Told,
 ) -> usize
     requires { ⌜ (at ≤ 1099511627776) × (3 * (from + t .rows) ≤ length (now log)) ⌝ }
-    requires { ⌜ GoodRows (now classes) ⌝ }
+    requires { ⌜ ClassRows (now classes) ⌝ }
     ensures same { λ r.
         ⌜
         ((options : Options)
@@ -201,7 +201,7 @@ pub fn put_block(
     t: Told,
 ) -> usize
     requires { ⌜ (at + 256 * t .rows + 1000 ≤ 1099511627776) × (3 * (from + t .rows) ≤ length (now log)) ⌝ }
-    requires { ⌜ GoodRows (now classes) ⌝ }
+    requires { ⌜ ClassRows (now classes) ⌝ }
     ensures same { λ r.
         ⌜
         ((options : Options)

@@ -7,7 +7,7 @@ ghost use Prim.Native.Nat.{_+_, _-_, _*_, _≤_};
 ghost use lib.ListN.{length};
 ghost use Rattle.definition.specs.Lines.{text};
 ghost use Rattle.definition.specs.Maps.{Options, rulesBy};
-ghost use Rattle.opcodes.specs.View.{GoodRows};
+ghost use Rattle.opcodes.specs.View.{ClassRows};
 ghost use Rattle.text.specs.View.{Written};
 ghost use Rattle.log_lines.specs.Log.{startLine, start, ending, acceptedLine, refusal, refusalLine, headerLine, dispatchLine, malformedLine};
 ghost use Rattle.log_lines.specs.Log.{opener, otherMain, arms, verdictLine};
@@ -154,7 +154,7 @@ fn write_malformed(out: &mut [u8], offset: usize, bytes: &[u8]) -> usize
 // The row of the ELSE, or where there is none the IF, of the conditional that is open behind `count` rows from row `from` on.
 fn opener(fragment: &[u8], log: &[u16], classes: &[u8], from: usize, count: usize) -> usize
     requires { ⌜ 3 * (from + count) ≤ length (now log) ⌝ }
-    requires { ⌜ GoodRows (now classes) ⌝ }
+    requires { ⌜ ClassRows (now classes) ⌝ }
     ensures same { λ r.
         ⌜
         ((options : Options)
@@ -191,7 +191,7 @@ fn opener(fragment: &[u8], log: &[u16], classes: &[u8], from: usize, count: usiz
 // The main height of the other arm.
 fn other_main(fragment: &[u8], log: &[u16], classes: &[u8], row: usize) -> u32
     requires { ⌜ 3 * row + 3 ≤ length (now log) ⌝ }
-    requires { ⌜ GoodRows (now classes) ⌝ }
+    requires { ⌜ ClassRows (now classes) ⌝ }
     ensures { λ r.
         ⌜
         ((options : Options)
@@ -219,7 +219,7 @@ fn write_arms(
     count: usize,
 ) -> usize
     requires { ⌜ (at + 120 ≤ length (now out)) × (3 * (from + count) + 3 ≤ length (now log)) ⌝ }
-    requires { ⌜ GoodRows (now classes) ⌝ }
+    requires { ⌜ ClassRows (now classes) ⌝ }
     ensures same { λ r.
         ⌜
         ((options : Options)
@@ -257,7 +257,7 @@ fn write_differ(
     second: u64,
 ) -> usize
     requires { ⌜ (256 ≤ length (now out)) × (3 * (from + count) + 3 ≤ length (now log)) ⌝ }
-    requires { ⌜ GoodRows (now classes) ⌝ }
+    requires { ⌜ ClassRows (now classes) ⌝ }
     ensures same { λ r.
         ⌜
         ((options : Options)
@@ -291,7 +291,7 @@ pub fn write_verdict(
     t: Told,
 ) -> usize
     requires { ⌜ (256 ≤ length (now out)) × (3 * (from + t .rows) ≤ length (now log)) ⌝ }
-    requires { ⌜ GoodRows (now classes) ⌝ }
+    requires { ⌜ ClassRows (now classes) ⌝ }
     ensures same { λ r.
         ⌜
         ((options : Options)

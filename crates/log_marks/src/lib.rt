@@ -6,7 +6,7 @@ ghost use Rattle.definition.specs.Maps.{rulesBy};
 ghost use Rattle.definition.specs.Papers.{fragments, markFrom, markPaper};
 ghost use Rattle.definition.specs.Refusals.{answer};
 ghost use Rattle.definition.specs.Walk.{dead};
-ghost use Rattle.opcodes.specs.View.{GoodRows};
+ghost use Rattle.opcodes.specs.View.{ClassRows};
 ghost use Rattle.walk.specs.Runs.{optionsOf};
 ghost use Rattle.log_lines.specs.Log.{toldOf};
 ghost use Rattle.log_marks.specs.View.{numbersOf, Holds};
@@ -65,7 +65,7 @@ fn refusal(number: u32, offset: usize, first: u64, second: u64, rows: usize) -> 
 // All fragments, each marked in its order with its rows in the log.
 fn mark_fragments(paper: &[u8], classes: &[u8], options: Options, log: &mut [u16]) -> Marked
     requires { ⌜ length (fragments (now paper)) ≤ 33 ⌝ }
-    requires { ⌜ (GoodRows (now classes)) × (options .limit ≤ 244) ⌝ }
+    requires { ⌜ (ClassRows (now classes)) × (options .limit ≤ 244) ⌝ }
     ensures { λ r.
         ⌜
         Holds
@@ -124,7 +124,7 @@ pub fn refused(entry: usize, number: u32, first: u64, second: u64) -> Marked
 
 // Marks a paper by the classes of lent rows: 21, 19, the dispatch check of each entry, the bodies in order, then the initialiser.
 pub fn mark_rows(paper: &[u8], classes: &[u8], options: Options, log: &mut [u16]) -> Marked
-    requires { ⌜ (GoodRows (now classes)) × (options .limit ≤ 244) ⌝ }
+    requires { ⌜ (ClassRows (now classes)) × (options .limit ≤ 244) ⌝ }
     ensures { λ r.
         ⌜
         Holds

@@ -9,7 +9,7 @@ ghost use lib.ListN.{length, take, getD, replicate};
 ghost use Rattle.definition.specs.Classes.{classAt};
 ghost use Rattle.definition.specs.Lines.{decimal};
 ghost use Rattle.definition.specs.Maps.{Options, rulesBy};
-ghost use Rattle.opcodes.specs.View.{GoodRows};
+ghost use Rattle.opcodes.specs.View.{ClassRows};
 ghost use Rattle.text.specs.View.{Written};
 ghost use Rattle.names.specs.Tables.{allLetters, startsRight};
 ghost use Rattle.log_rows.specs.Rows.{mainAt, altAt, opcodeAt, totalOf, scaleOf, column, filled, bar, hex, instruction};
@@ -348,7 +348,7 @@ fn opcode_at(fragment: &[u8], log: &[u16], j: usize) -> u8
 // The class of row j of the log, out of lent rows.
 pub fn class_of_row(fragment: &[u8], log: &[u16], classes: &[u8], j: usize) -> u8
     requires { ⌜ 3 * j + 3 ≤ length (now log) ⌝ }
-    requires { ⌜ GoodRows (now classes) ⌝ }
+    requires { ⌜ ClassRows (now classes) ⌝ }
     ensures { λ r. ⌜ r ≡ getD (now (classes .entry)) (opcodeAt (now (fragment .entry)) (now (log .entry)) j) 0 ⌝ }
 {
     opcodes::class_in(classes, opcode_at(fragment, log, j))
@@ -383,7 +383,7 @@ pub fn write_row(
 ) -> usize
     requires { ⌜ (81 ≤ length (now out)) × (3 * j + 3 ≤ length (now log)) ⌝ }
     requires { ⌜ (1 ≤ scale) × (totalOf (mainAt (now log) j) (altAt (now log) j) ≤ scale) ⌝ }
-    requires { ⌜ GoodRows (now classes) ⌝ }
+    requires { ⌜ ClassRows (now classes) ⌝ }
     ensures same { λ r.
         ⌜
         ((options : Options)

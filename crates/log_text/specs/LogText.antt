@@ -57,7 +57,7 @@ logOf R paper m =
 unfoldable pub logText : Rules → Bytes → List ℕ → Bytes
 logText R paper log = logOf R paper (markPaper R paper log)
 
--- by a lent map and limit (document 02, L6)
+-- by a lent map, limit and mode (document 02, L6 and L7)
 unfoldable pub logTextWith : Bytes → Options → Bytes → List ℕ → Bytes
 logTextWith map options paper log = logOf (rulesOf map options) paper (markPaperWith map options paper log)
 

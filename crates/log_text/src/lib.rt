@@ -1,11 +1,11 @@
-// All that `stacklog` prints of a paper, written into lent bytes; also by a lent map and limit.
+// All that `stacklog` prints of a paper, written into lent bytes; also by a lent map, limit and mode.
 ghost use mathlib.Core.List.{[]};
 ghost use mathlib.Core.Path.{_≡_};
 ghost use Prim.Native.Nat.{_+_, _*_, _≤_, _<_};
 ghost use lib.ListN.{length, take};
 ghost use Rattle.definition.specs.Maps.{rulesBy};
 ghost use Rattle.definition.specs.Maps as Maps;
-ghost use Rattle.opcodes.specs.View.{GoodRows};
+ghost use Rattle.opcodes.specs.View.{ClassRows};
 ghost use Rattle.walk.specs.Runs.{optionsOf};
 ghost use Rattle.log_lines.specs.Log.{refusalLine, headerLine, dispatchLine};
 ghost use Rattle.log_blocks.specs.View.{Put};
@@ -107,7 +107,7 @@ fn put_blocks(
 ) -> Place
     requires { ⌜ (count ≤ 33) × (rowsOf (take count told) ≤ 330000) ⌝ }
     requires { ⌜ 3 * rowsOf (take count told) ≤ length (now log) ⌝ }
-    requires { ⌜ GoodRows (now classes) ⌝ }
+    requires { ⌜ ClassRows (now classes) ⌝ }
     ensures same { λ r.
         ⌜
         ((options : Maps.Options)
@@ -148,7 +148,7 @@ fn put_refused(
     t: Told,
 ) -> usize
     requires { ⌜ (at ≤ 100000000) × ((t .rows ≤ 330000) × (3 * (from + t .rows) ≤ length (now log))) ⌝ }
-    requires { ⌜ GoodRows (now classes) ⌝ }
+    requires { ⌜ ClassRows (now classes) ⌝ }
     ensures same { λ r.
         ⌜
         ((options : Maps.Options)
@@ -178,7 +178,7 @@ fn put_refused(
 fn put_log(text: &mut [u8], go: bool, paper: &[u8], log: &[u16], classes: &[u8], m: Marked) -> usize
     requires { ⌜ (m .count ≤ 33) × (rowsOf (take (m .count) (m .told)) + m .last .rows ≤ 330000) ⌝ }
     requires { ⌜ 3 * (rowsOf (take (m .count) (m .told)) + m .last .rows) ≤ length (now log) ⌝ }
-    requires { ⌜ GoodRows (now classes) ⌝ }
+    requires { ⌜ ClassRows (now classes) ⌝ }
     ensures { λ r.
         ⌜
         ((options : Maps.Options)
@@ -206,7 +206,7 @@ fn put_log(text: &mut [u8], go: bool, paper: &[u8], log: &[u16], classes: &[u8],
 fn write_marked(paper: &[u8], log: &[u16], classes: &[u8], m: Marked, text: &mut [u8]) -> LogText
     requires { ⌜ (m .count ≤ 33) × (rowsOf (take (m .count) (m .told)) + m .last .rows ≤ 330000) ⌝ }
     requires { ⌜ 3 * (rowsOf (take (m .count) (m .told)) + m .last .rows) ≤ length (now log) ⌝ }
-    requires { ⌜ GoodRows (now classes) ⌝ }
+    requires { ⌜ ClassRows (now classes) ⌝ }
     ensures { λ r.
         ⌜
         ((options : Maps.Options)
@@ -236,7 +236,7 @@ pub fn write_log_rows(
     log: &mut [u16],
     text: &mut [u8],
 ) -> LogText
-    requires { ⌜ (GoodRows (now classes)) × (options .limit ≤ 244) ⌝ }
+    requires { ⌜ (ClassRows (now classes)) × (options .limit ≤ 244) ⌝ }
     ensures { λ r.
         ⌜
         LogsBy
@@ -271,7 +271,7 @@ pub fn write_log(paper: &[u8], log: &mut [u16], text: &mut [u8]) -> LogText
     write_log_rows(paper, &classes, options, log, text)
 }
 
-// The same by a lent map and a lent limit: 28 and then 29 before all else. Every input comes to its text. The text of 28 and 29
+// The same by a lent map and a lent limit, in a mode: 28 and then 29 before all else. Every input comes to its text. The text of 28 and 29
 // has no row, so that no class is read: the built-in table stands for the map.
 pub fn write_log_with(
     paper: &[u8],

@@ -13,7 +13,7 @@ use Rattle.definition.specs.Classes.{classNumber}
 use Rattle.definition.specs.Maps.{rowCount, firstRow, rowsOf, goodRow, goodRows, goodMap, goodLimit}
 use Rattle.opcodes.proofs.Classes.{number-below}
 use Rattle.opcodes.proofs.Every.{every, tabled}
-use Rattle.maps.specs.View.{Numbers, Judged}
+use Rattle.maps.specs.View.{Numbers, JudgedUpTo}
 
 and-assoc : (a b c : Bool) → ((a && b) && c) ≡ (a && (b && c))
 and-assoc true b c = refl
@@ -50,11 +50,11 @@ row-later : (code class : ℕ) → 0x61 ≤ code → goodRow code class ≡ (leb
 row-later code class h = rw (lt-leb code 0x60 (omega arith))
 
 module _ (rows : List ℕ) where
-  pub judged-none : Judged rows 0 true
+  pub judged-none : JudgedUpTo rows 0 true
   judged-none = record { same = refl }
 
-  judged-more : (code : ℕ) (good g t : Bool) → Judged rows code good → code < length rows → goodRow code (getD rows code 0) ≡ g → t ≡ (good && g)
-      → Judged rows (code + 1) t
+  judged-more : (code : ℕ) (good g t : Bool) → JudgedUpTo rows code good → code < length rows → goodRow code (getD rows code 0) ≡ g → t ≡ (good && g)
+      → JudgedUpTo rows (code + 1) t
   judged-more code good g t j h e is = record {
     same =
         ap (λ b. b && goodRows (code + 1) (drop (code + 1) rows)) is
@@ -64,20 +64,20 @@ module _ (rows : List ℕ) where
         ∙ j .same;
   }
 
-  pub judged-early : (code class own : ℕ) (good t : Bool) → Judged rows code good → length rows ≡ 256 → code < 0x61
-      → class ≡ getD rows code 0 → own ≡ classNumber code → t ≡ (good && eqb class own) → Judged rows (code + 1) t
+  pub judged-early : (code class own : ℕ) (good t : Bool) → JudgedUpTo rows code good → length rows ≡ 256 → code < 0x61
+      → class ≡ getD rows code 0 → own ≡ classNumber code → t ≡ (good && eqb class own) → JudgedUpTo rows (code + 1) t
   judged-early code class own good t j l h c o is =
       judged-more code good (eqb class own) t j (omega (arith, l, h)) (row-early code (getD rows code 0) h ∙ rw (c, o)) is
 
-  pub judged-later : (code class : ℕ) (good t : Bool) → Judged rows code good → length rows ≡ 256 → 0x61 ≤ code → code < 256
-      → class ≡ getD rows code 0 → t ≡ (good && (leb class 31 && not (eqb class 1))) → Judged rows (code + 1) t
+  pub judged-later : (code class : ℕ) (good t : Bool) → JudgedUpTo rows code good → length rows ≡ 256 → 0x61 ≤ code → code < 256
+      → class ≡ getD rows code 0 → t ≡ (good && (leb class 31 && not (eqb class 1))) → JudgedUpTo rows (code + 1) t
   judged-later code class good t j l from h c is =
       judged-more code good (leb class 31 && not (eqb class 1)) t j (omega (arith, l, h)) (row-later code (getD rows code 0) from ∙ rw c) is
 
-  pub judged-at : (code k : ℕ) (good : Bool) → Judged rows code good → code ≡ k → Judged rows k good
-  judged-at code k good j e = subst (λ (n : ℕ). Judged rows n good) e j
+  pub judged-at : (code k : ℕ) (good : Bool) → JudgedUpTo rows code good → code ≡ k → JudgedUpTo rows k good
+  judged-at code k good j e = subst (λ (n : ℕ). JudgedUpTo rows n good) e j
 
-  pub judged-all : (code : ℕ) (good : Bool) → Judged rows code good → length rows ≡ 256 → 256 ≤ code → good ≡ goodRows 0 rows
+  pub judged-all : (code : ℕ) (good : Bool) → JudgedUpTo rows code good → length rows ≡ 256 → 256 ≤ code → good ≡ goodRows 0 rows
   judged-all code good j l h =
       let e : drop code rows ≡ [] = drop-of-length-le rows {i = code} (omega (arith, l, h)) in
       and-right good (goodRows code (drop code rows)) (rw e) ∙ j .same

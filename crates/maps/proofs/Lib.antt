@@ -1,5 +1,5 @@
 -- What is proved of maps for this crate's functions and for callers.
 pub mod Judging
-pub mod GoodRows
+pub mod ClassRows
 pub mod Judged
 pub mod Years

@@ -15,7 +15,7 @@ pub record Numbers (rule : ℕ → ℕ) (rows : List ℕ) : Type 0 where
   pub row : (code : ℕ) → code < 256 → getD rows code 0 ≡ rule code
 
 -- the rows before this code are judged: all are good where these are and those from it on
-pub record Judged (rows : List ℕ) (code : ℕ) (good : Bool) : Type 0 where
+pub record JudgedUpTo (rows : List ℕ) (code : ℕ) (good : Bool) : Type 0 where
   pub same : (good && goodRows code (drop code rows)) ≡ goodRows 0 rows
 
 -- what is wrong with a map and a limit: 28, else 29, or 0 where both are good

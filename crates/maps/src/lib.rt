@@ -7,8 +7,8 @@ ghost use lib.ListN.{length};
 ghost use Rattle.definition.specs.Classes.{classNumber};
 ghost use Rattle.definition.specs.Maps.{firstRow, rowsOf, goodRows, goodMap, goodLimit};
 ghost use Rattle.definition.specs.Years.{classicNumber};
-ghost use Rattle.opcodes.specs.View.{GoodRows};
-ghost use Rattle.maps.specs.View.{Numbers, Judged, judgedNumber, YearRows, mapSize, mapPut};
+ghost use Rattle.opcodes.specs.View.{ClassRows};
+ghost use Rattle.maps.specs.View.{Numbers, JudgedUpTo, judgedNumber, YearRows, mapSize, mapPut};
 
 mod classic;
 
@@ -20,7 +20,7 @@ fn numbers() -> [u8; 256]
 }
 
 // What is good stays so where a row is that of the built-in table.
-fn keeps(good: bool, class: u8, own: u8) -> bool
+fn early_row_good(good: bool, class: u8, own: u8) -> bool
     ensures { λ r. ⌜ r ≡ (good && eqb class own) ⌝ }
 {
     if class != own {
@@ -30,7 +30,7 @@ fn keeps(good: bool, class: u8, own: u8) -> bool
 }
 
 // What is good stays so where a row is a class and not push.
-fn allows(good: bool, class: u8) -> bool
+fn later_row_good(good: bool, class: u8) -> bool
     ensures { λ r. ⌜ r ≡ (good && (leb class 31 && not (eqb class 1))) ⌝ }
 {
     if class == 1 {
@@ -45,13 +45,13 @@ fn allows(good: bool, class: u8) -> bool
 // Whether the rows up to 60 are those of the built-in table. Every row is looked at: one flag is carried through the loop.
 fn early_rows(rows: &[u8]) -> bool
     requires { ⌜ length (now rows) ≡ 256 ⌝ }
-    ensures { λ r. ⌜ Judged (now (rows .entry)) 0x61 r ⌝ }
+    ensures { λ r. ⌜ JudgedUpTo (now (rows .entry)) 0x61 r ⌝ }
 {
     let classes = numbers();
     let mut good = true;
     let mut code: usize = 0;
     while code < 0x61 {
-        good = keeps(good, rows[code], classes[code]);
+        good = early_row_good(good, rows[code], classes[code]);
         code += 1;
     }
     good
@@ -59,13 +59,13 @@ fn early_rows(rows: &[u8]) -> bool
 
 // Whether the rows are good, where those up to 60 are judged.
 fn later_rows(rows: &[u8], early: bool) -> bool
-    requires { ⌜ (length (now rows) ≡ 256) × (Judged (now rows) 0x61 early) ⌝ }
+    requires { ⌜ (length (now rows) ≡ 256) × (JudgedUpTo (now rows) 0x61 early) ⌝ }
     ensures { λ r. ⌜ r ≡ goodRows 0 (now (rows .entry)) ⌝ }
 {
     let mut good = early;
     let mut code: usize = 0x61;
     while code < 256 {
-        good = allows(good, rows[code]);
+        good = later_row_good(good, rows[code]);
         code += 1;
     }
     good
@@ -127,7 +127,7 @@ pub fn judge(map: &[u8], limit: u32) -> u32
 pub fn rows<'a>(map: &'a [u8]) -> &'a [u8]
     requires { ⌜ goodMap (now map) ≡ true ⌝ }
     ensures same { λ r. ⌜ now r ≡ rowsOf (now (map .entry)) ⌝ }
-    ensures good { λ r. ⌜ GoodRows (now r) ⌝ }
+    ensures good { λ r. ⌜ ClassRows (now r) ⌝ }
 {
     let at = first_row(map);
     &map[at..at + 256]

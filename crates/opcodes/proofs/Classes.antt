@@ -1,6 +1,6 @@
 -- What is proved of the class numbers, for a `match` on one.
 use Rattle.definition.specs.Stacks.{builtIn}
-use Rattle.opcodes.specs.View.{GoodRows, BuiltInRows}
+use Rattle.opcodes.specs.View.{ClassRows, BuiltInRows}
 use Rattle.definition.specs.Maps.{builtInOptions, rulesBy}
 use lib.ListN.{length, getD, List·getD-eq-default}
 use mathlib.Core.Bool.{Bool, true, false, _&&_}
@@ -76,7 +76,7 @@ module _ (rows : List ℕ) (e : length rows ≡ 256) (t : T (every (λ n. eqb (g
       by true k = tabled classNumber rows code (rw e t) (omega (arith, e, ltb→lt code 256 (rw k tt)))
       by false k = let h : 256 ≤ code = nltb→le code 256 (rw k tt) in List·getD-eq-default rows 0 (omega (arith, e, h)) ∙ sym (past-codes code h)
 
-  good-rows : GoodRows rows
+  good-rows : ClassRows rows
   good-rows = record { size = e; below = λ code. subst (λ (n : ℕ). n < 32) (sym (row-is code)) (number-below code) }
 
   rules-by : rulesBy rows builtInOptions ≡ builtIn

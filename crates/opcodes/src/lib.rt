@@ -2,7 +2,7 @@
 ghost use mathlib.Core.Path.{_≡_};
 ghost use lib.ListN.{getD};
 ghost use Rattle.definition.specs.Classes.{classNumber};
-ghost use Rattle.opcodes.specs.View.{GoodRows, BuiltInRows};
+ghost use Rattle.opcodes.specs.View.{ClassRows, BuiltInRows};
 
 // The class numbers: unmodelled, push, nothing, then the classes of one opcode each.
 pub const UNMODELLED: u8 = 0;
@@ -396,7 +396,7 @@ pub fn table() -> [u8; 256]
 
 // The class of an opcode, out of lent rows.
 pub fn class_in(rows: &[u8], opcode: u8) -> u8
-    requires { ⌜ GoodRows (now rows) ⌝ }
+    requires { ⌜ ClassRows (now rows) ⌝ }
     ensures { λ r. ⌜ r ≡ getD (now (rows .entry)) opcode 0 ⌝ }
 {
     rows[opcode as usize]

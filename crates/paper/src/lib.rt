@@ -7,7 +7,7 @@ ghost use Rattle.definition.specs.Maps.{rulesBy, rulesOf, markPaperWith};
 ghost use Rattle.definition.specs.Stacks.{builtIn};
 ghost use Rattle.definition.specs.Refusals.{answer};
 ghost use Rattle.definition.specs.Walk.{analysis, dead};
-ghost use Rattle.opcodes.specs.View.{GoodRows};
+ghost use Rattle.opcodes.specs.View.{ClassRows};
 ghost use Rattle.walk.specs.Runs.{optionsOf};
 ghost use Rattle.stack_analysis.specs.View.{summarized};
 ghost use Rattle.paper.specs.View.{fragmentMarked, paperOf};
@@ -51,7 +51,7 @@ fn mark_part(
     log: &mut [u16],
 ) -> Summary
     requires { ⌜ from ≤ length (now log) ⌝ }
-    requires { ⌜ (GoodRows (now classes)) × (options .limit ≤ 244) ⌝ }
+    requires { ⌜ (ClassRows (now classes)) × (options .limit ≤ 244) ⌝ }
     ensures { λ r.
         ⌜
         Marks
@@ -81,7 +81,7 @@ pub fn mark_fragment_rows(
     options: Options,
     log: &mut [u16],
 ) -> Summary
-    requires { ⌜ (GoodRows (now classes)) × (options .limit ≤ 244) ⌝ }
+    requires { ⌜ (ClassRows (now classes)) × (options .limit ≤ 244) ⌝ }
     ensures same { λ r.
         ⌜
         r
@@ -149,7 +149,7 @@ pub fn mark_fragment(paper: &[u8], k: usize, rows: usize, log: &mut [u16]) -> Su
 
 // All fragments, their rows one after another in the log.
 fn mark_fragments(paper: &[u8], classes: &[u8], options: Options, log: &mut [u16]) -> PaperVerdict
-    requires { ⌜ (GoodRows (now classes)) × (options .limit ≤ 244) ⌝ }
+    requires { ⌜ (ClassRows (now classes)) × (options .limit ≤ 244) ⌝ }
     ensures same { λ r.
         ⌜
         paperOf r
@@ -223,7 +223,7 @@ pub fn mark_paper_rows(
     options: Options,
     log: &mut [u16],
 ) -> PaperVerdict
-    requires { ⌜ (GoodRows (now classes)) × (options .limit ≤ 244) ⌝ }
+    requires { ⌜ (ClassRows (now classes)) × (options .limit ≤ 244) ⌝ }
     ensures same { λ r.
         ⌜ paperOf r ≡ markPaper (rulesBy (now (classes .entry)) (optionsOf options)) (now (paper .entry)) (now (log .entry)) .paper ⌝ }
     ensures logged { λ r.
@@ -275,7 +275,7 @@ pub fn mark_paper(paper: &[u8], log: &mut [u16]) -> PaperVerdict
     mark_paper_rows(paper, &classes, options, log)
 }
 
-// Marks a paper by a lent map and a lent limit: 28 and then 29 before all else. Every input comes to a verdict.
+// Marks a paper by a lent map and a lent limit, in a mode: 28 and then 29 before all else. Every input comes to a verdict.
 pub fn mark_paper_with(paper: &[u8], map: &[u8], options: Options, log: &mut [u16]) -> PaperVerdict
     ensures same { λ r.
         ⌜ paperOf r ≡ markPaperWith (now (map .entry)) (optionsOf options) (now (paper .entry)) (now (log .entry)) .paper ⌝ }

@@ -10,7 +10,7 @@ ghost use Rattle.definition.specs.Replay.{Demand3};
 ghost use Rattle.definition.specs.Walk.{dead, unknowns, begin, walk, answered, analysis, refusedVerdict};
 ghost use Rattle.definition.specs.Maps.{rulesBy, rulesOf, analysisWith};
 ghost use Rattle.stack.specs.View.{refusalOf};
-ghost use Rattle.opcodes.specs.View.{GoodRows};
+ghost use Rattle.opcodes.specs.View.{ClassRows};
 ghost use Rattle.walk.specs.Runs.{optionsOf, arm};
 ghost use Rattle.stack_analysis.specs.View.{verdictOf, packedVerdict, summarized};
 ghost use Rattle.stack_analysis.specs.Entry.{Starts, Stops, withEnd};
@@ -248,7 +248,7 @@ fn walk_all(
 ) -> Walk
     requires { ⌜ (length (now fragment) ≤ 10000) × (main + alt ≤ 244) ⌝ }
     requires { ⌜ 3 * length (instructions (decode (now fragment))) ≤ length (now log) ⌝ }
-    requires { ⌜ (GoodRows (now classes)) × (options .limit ≤ 244) ⌝ }
+    requires { ⌜ (ClassRows (now classes)) × (options .limit ≤ 244) ⌝ }
     ensures { λ r.
         ⌜
         Stops
@@ -327,7 +327,7 @@ pub fn analyze_rows(
     options: Options,
     log: &mut [u16],
 ) -> Verdict
-    requires { ⌜ (GoodRows (now classes)) × (options .limit ≤ 244) ⌝ }
+    requires { ⌜ (ClassRows (now classes)) × (options .limit ≤ 244) ⌝ }
     ensures same { λ r.
         ⌜
         r
@@ -379,7 +379,7 @@ pub fn analyze_heights_rows(
     options: Options,
     log: &mut [u16],
 ) -> Summary
-    requires { ⌜ (GoodRows (now classes)) × (options .limit ≤ 244) ⌝ }
+    requires { ⌜ (ClassRows (now classes)) × (options .limit ≤ 244) ⌝ }
     ensures same { λ r.
         ⌜
         r
@@ -453,7 +453,7 @@ pub fn analyze_heights(fragment: &[u8], main: u32, alt: u32, log: &mut [u16]) ->
     analyze_heights_rows(fragment, main, alt, &classes, options, log)
 }
 
-// The analysis of a fragment by a lent map and a lent limit: 28 and then 29 before all else.
+// The analysis of a fragment by a lent map and a lent limit, in a mode: 28 and then 29 before all else.
 pub fn analyze_with(
     fragment: &[u8],
     main: u32,

@@ -5,7 +5,7 @@ ghost use lib.ListN.{length, set};
 ghost use Rattle.stack.specs.View.{Fit};
 ghost use Rattle.definition.specs.Maps.{builtInOptions, rulesBy};
 ghost use Rattle.definition.specs.Maps as Maps;
-ghost use Rattle.opcodes.specs.View.{GoodRows};
+ghost use Rattle.opcodes.specs.View.{ClassRows};
 ghost use Rattle.walk.specs.Runs.{optionsOf, deadWalk, Room, Ready, Runs};
 use decode::Decoded;
 use decode::Value;
@@ -137,7 +137,7 @@ fn skip(
     written: usize,
 ) -> Skipped
     requires { ⌜ Room (now code) (now log) from written ⌝ }
-    requires { ⌜ GoodRows (now classes) ⌝ }
+    requires { ⌜ ClassRows (now classes) ⌝ }
     ensures { λ r.
         ⌜
         ((options : Maps.Options) (s : Stacks) (peak : ℕ)
@@ -189,7 +189,7 @@ fn skip(
 // so that the methods of the stacks are compiled into its loop.
 pub fn plain(code: &[u8], log: &mut [u16], classes: &[u8], options: Options, start: Walk) -> Walk
     requires { ⌜ (Ready (now code) (now log) start) × (start .stop ≡ Stop.Running) ⌝ }
-    requires { ⌜ (GoodRows (now classes)) × (options .limit ≤ 244) ⌝ }
+    requires { ⌜ (ClassRows (now classes)) × (options .limit ≤ 244) ⌝ }
     ensures { λ r. ⌜ Runs (rulesBy (now (classes .entry)) (optionsOf options)) (now (code .entry)) start (now (log .entry)) r (now (log .exit)) ⌝ }
 {
     let limit = options.limit;

@@ -2,8 +2,8 @@ use mathlib.Core.Path.{sym, subst}
 use Prim.Native.Nat.{_+_, _≤_}
 use lib.ListN.{length}
 use borrow.Author.Needs.{needs}
-use Rattle.opcodes.specs.View.{GoodRows}
-use Rattle.maps.proofs.GoodRows.{rows-lent, rows-within, good-rows}
+use Rattle.opcodes.specs.View.{ClassRows}
+use Rattle.maps.proofs.ClassRows.{rows-lent, rows-within, good-rows}
 use Rattle.maps.proofs.rows.Statement.{statement}
 use Rattle.maps.proofs.rows.Tie as tie
 
@@ -30,7 +30,7 @@ returns : tie.Need-returns
 returns c =
     let s = c .before .before .before in
     let e = rows-lent (s .args .map .now) _ (c .before .first-row .ensures .0) in
-    (e, subst GoodRows (sym e) (good-rows _ (s .pre)))
+    (e, subst ClassRows (sym e) (good-rows _ (s .pre)))
 
 pub rows-spec : {M : Type 1} → statement M
 rows-spec = tie.close (tie.spec first-row-requires add-result sub-result part-result-start part-result-end returns)

@@ -10,7 +10,7 @@ use lib.ListN.{length, take, drop, getD, List·getD-eq-default}
 use Rattle.definition.specs.Basics.{Bytes}
 use Rattle.definition.specs.Maps.{firstRow, rowsOf, goodMap}
 use Rattle.definition.proofs.GoodMaps.{GoodMap, goodMapRows}
-use Rattle.opcodes.specs.View.{GoodRows}
+use Rattle.opcodes.specs.View.{ClassRows}
 
 -- what a slice of 256 bytes from the first row on holds
 pub rows-lent : (map : Bytes) (at : ℕ) → at ≡ firstRow map → take (at + 256 - at) (drop at map) ≡ rowsOf map
@@ -21,7 +21,7 @@ rows-lent map at e =
 pub rows-within : (map : Bytes) (at : ℕ) → goodMap map ≡ true → at ≡ firstRow map → at + 256 ≤ length map
 rows-within map at g e = omega (arith, goodMapRows map g .within, e)
 
-pub good-rows : (map : Bytes) → goodMap map ≡ true → GoodRows (rowsOf map)
+pub good-rows : (map : Bytes) → goodMap map ≡ true → ClassRows (rowsOf map)
 good-rows map g = record { size = m .size; below = λ code. by code (ltb code 256) refl }
   where
     m : GoodMap map
