@@ -55,8 +55,8 @@ pub record ExaminedAs {X : Type 0} (Reaches : Type 0) (number : ℕ) (inPlain in
 -- paper's fragments are the same too.
 pub record Examining (map : Bytes) (limit : ℕ) : Type 0 where
   pub fragments : (fragment : Bytes) (main alt : ℕ) (log : List ℕ) →
-      let plain : Marked = analysisWith map (plainAt limit) fragment main alt log in
-      let examined : Marked = analysisWith map (examinedAt limit) fragment main alt log in
+      let plain : Marked Item = analysisWith map (plainAt limit) fragment main alt log in
+      let examined : Marked Item = analysisWith map (examinedAt limit) fragment main alt log in
       plain .verdict .answer .number ≡ 0
       → ExaminedAs (ReachesLong (rulesOf map (plainAt limit)) (instructions (decode fragment)) (unknowns main alt)) (examined .verdict .answer .number) plain examined
   pub papers : (paper : Bytes) (log : List ℕ) →

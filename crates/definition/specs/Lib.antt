@@ -5,6 +5,7 @@ pub mod Classes
 pub mod Refusals
 pub mod Stacks
 pub mod Walk
+pub mod Marks
 pub mod Replay
 pub mod Papers
 pub mod Lines

@@ -9,7 +9,7 @@ use lib.ListN.{length, take, replicate}
 use Rattle.definition.specs.Basics.{Bytes, pick}
 use Rattle.definition.specs.Refusals.{Answer}
 use Rattle.definition.specs.Stacks.{Rules, builtIn}
-use Rattle.definition.specs.Walk.{Arm, dead, live, Verdict}
+use Rattle.definition.specs.Walk.{Item, Arm, dead, live, Verdict}
 use Rattle.definition.specs.Papers.{PaperVerdict, PaperMarked, entryCount, markPaper}
 
 -- A quoted text as bytes: the code of each character; `S.[]` and `S._∷_` are [] and ∷ of texts. `\n` is the newline that ends a
@@ -33,7 +33,7 @@ abbrev pub labelled : String → ℕ → Bytes
 labelled word n = text word ++ decimal n
 
 -- "end main, end alt (`end none` if dead ..)"
-abbrev pub ending : Arm → Bytes
+abbrev pub ending : Arm Item → Bytes
 ending dead = text " end none"
 ending (live s) = labelled " end " (length (s .main)) ++ labelled " " (length (s .alt))
 
@@ -42,11 +42,11 @@ abbrev pub name : ℕ → ℕ → Bytes
 name entries k = pick (ltb k entries) (labelled "entry " k) (text "state")
 
 -- the line of an accepted fragment: "entry, peak, end main, end alt"
-unfoldable pub line : ℕ → ℕ → Verdict → Bytes
+unfoldable pub line : ℕ → ℕ → Verdict Item → Bytes
 line entries k v = name entries k ++ labelled " peak " (v .peak) ++ ending (v .end) ++ text "\n"
 
 -- the lines of the accepted fragments, the first of them fragment k
-abbrev pub lines : ℕ → ℕ → List Verdict → Bytes
+abbrev pub lines : ℕ → ℕ → List (Verdict Item) → Bytes
 lines entries k [] = []
 lines entries k (v ∷ vs) = line entries k v ++ lines entries (k + 1) vs
 

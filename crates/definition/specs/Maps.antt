@@ -10,7 +10,7 @@ use Rattle.definition.specs.Decoding.{decode, instructions}
 use Rattle.definition.specs.Classes.{classAt, classNumber}
 use Rattle.definition.specs.Refusals.{Refusal, badMap, badLimit}
 use Rattle.definition.specs.Stacks.{Rules}
-use Rattle.definition.specs.Walk.{Marked, refusedEarly, unknowns, analysis}
+use Rattle.definition.specs.Walk.{Item, Marked, refusedEarly, unknowns, analysis}
 use Rattle.definition.specs.Replay.{Demand3}
 use Rattle.definition.specs.Papers.{field, entryCount, fragments, PaperMarked, refusedPaper, markPaper, EachTrue}
 use Rattle.definition.specs.Lines.{linesOf}
@@ -68,7 +68,7 @@ judged map options stop next =
     pick (goodMap map) (pick (goodLimit (options .limit)) (next (rulesOf map options)) (stop badLimit)) (stop badMap)
 
 -- "Let the caller lend a map": the analysis of a fragment, and the marking of a paper
-unfoldable pub analysisWith : Bytes → Options → Bytes → ℕ → ℕ → List ℕ → Marked
+unfoldable pub analysisWith : Bytes → Options → Bytes → ℕ → ℕ → List ℕ → Marked Item
 analysisWith map options fragment main alt log =
     judged map options (λ r. refusedEarly 0 r log) (λ R. analysis R fragment main alt log)
 
@@ -102,7 +102,7 @@ builtInOptions = record { limit = 244; examined = false }
 -- number for a limit, since what is accepted has both good; and in each mode, "with its replay" (request L7)
 abbrev pub TrueWith : Bytes → Options → Bytes → ℕ → ℕ → List ℕ → Type 0
 TrueWith map options fragment main alt log =
-    let m : Marked = analysisWith map options fragment main alt log in
+    let m : Marked Item = analysisWith map options fragment main alt log in
     m .verdict .answer .number ≡ 0 → Demand3 (rulesOf map options) (instructions (decode fragment)) (unknowns main alt) m
 
 abbrev pub TrueOfPaperWith : Bytes → Options → Bytes → List ℕ → Type 0

@@ -10,7 +10,7 @@ use Rattle.definition.specs.Basics.{Bytes, pick}
 use Rattle.definition.specs.Decoding.{Instruction, number, Front, whole, short, front, decode, instructions, malformedAt}
 use Rattle.definition.specs.Refusals.{Refusal, Answer, accepted, refusedAt, malformedFragment, maxFragment, maxOperations, opcodeCount, scriptSize, maxPaper, badHeader, dispatchTooLarge, longPaper}
 use Rattle.definition.specs.Stacks.{Rules}
-use Rattle.definition.specs.Walk.{dead, Verdict, refusedVerdict, Marked, unknowns, analysis}
+use Rattle.definition.specs.Walk.{Item, dead, Verdict, refusedVerdict, Marked, unknowns, analysis}
 use Rattle.definition.specs.Replay.{Demand3}
 
 -- The limit check
@@ -144,12 +144,12 @@ fragments paper = bodyFragments paper (entries paper) ++ stateFragments paper
 pub record PaperVerdict : Type 0 where
   -- "entry from 0 (E for the initialiser, 0 at 19 and 21)", and 0 where the paper is accepted
   pub entry : ℕ
-  pub verdict : Verdict
+  pub verdict : Verdict Item
 
 -- with it the verdicts of the fragments accepted, in order, and the lent log afterwards
 pub record PaperMarked : Type 0 where
   pub paper : PaperVerdict
-  pub verdicts : List Verdict
+  pub verdicts : List (Verdict Item)
   pub log : List ℕ
 
 -- Section 7, "19 to 21 leave the log as lent and count 0 rows"
@@ -157,7 +157,7 @@ abbrev pub refusedPaper : ℕ → Refusal → List ℕ → PaperMarked
 refusedPaper entry r log = record { paper = record { entry = entry; verdict = refusedVerdict 0 r 0 }; verdicts = []; log = log }
 
 -- m, with v in front of its accepted verdicts
-abbrev pub after : Verdict → PaperMarked → PaperMarked
+abbrev pub after : Verdict Item → PaperMarked → PaperMarked
 after v m = record { paper = m .paper; verdicts = v ∷ m .verdicts; log = m .log }
 
 -- Marks fragment k and those after it; rows and peak are those of the fragments before. "Rows of all fragments follow one
@@ -167,8 +167,8 @@ unfoldable pub markFrom : Rules → ℕ → ℕ → ℕ → List Fragment → Li
 markFrom R k rows peak [] log =
     record { paper = record { entry = 0; verdict = record { answer = accepted; rows = rows; peak = peak; end = dead } }; verdicts = []; log = log }
 markFrom R k rows peak (f ∷ fs) log =
-    let m : Marked = analysis R (f .bytes) (f .main) (f .alt) (drop (3 * rows) log) in
-    let v : Verdict = m .verdict in
+    let m : Marked Item = analysis R (f .bytes) (f .main) (f .alt) (drop (3 * rows) log) in
+    let v : Verdict Item = m .verdict in
     let out : List ℕ = take (3 * rows) log ++ m .log in
     pick (eqb (v .answer .number) 0)
     (after v (markFrom R (k + 1) (rows + v .rows) (max peak (v .peak)) fs out))
@@ -195,12 +195,12 @@ markPaper R paper log =
 
 -- demand 3 of each of these fragments, from its start heights: of its verdict, one to a fragment, and of its rows in this log,
 -- the first of them at row `rows`
-unfoldable pub EachTrue : Rules → ℕ → List Fragment → List Verdict → List ℕ → Type 0
+unfoldable pub EachTrue : Rules → ℕ → List Fragment → List (Verdict Item) → List ℕ → Type 0
 EachTrue R rows [] [] log = Unit {0}
 EachTrue R rows [] (v ∷ vs) log = ⊥
 EachTrue R rows (f ∷ fs) [] log = ⊥
 EachTrue R rows (f ∷ fs) (v ∷ vs) log =
-    let m : Marked = record { verdict = v; log = drop (3 * rows) log } in
+    let m : Marked Item = record { verdict = v; log = drop (3 * rows) log } in
     (Demand3 R (instructions (decode (f .bytes))) (unknowns (f .main) (f .alt)) m) × (EachTrue R (rows + v .rows) fs vs log)
 
 -- demand 3 as one claim about a paper: where it is accepted, its verdicts and its log, as they are in the end, are true of every

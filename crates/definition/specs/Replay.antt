@@ -10,14 +10,14 @@ use Rattle.definition.specs.Basics.{Bytes}
 use Rattle.definition.specs.Decoding.{Instruction, instructions, decode}
 use Rattle.definition.specs.Classes.{Class, IF, NOTIF, ELSE, ENDIF, RETURN, ordinary, plain}
 use Rattle.definition.specs.Stacks.{Rules, Stacks, Outcome, ItemOps, total, stackHeights, onDone, dropItems, step, plainStep}
-use Rattle.definition.specs.Walk.{Item, unknown, exact, Arm, dead, live, heightsOf, Marked, unknowns, analysis}
+use Rattle.definition.specs.Walk.{Item, unknown, exact, Arm, dead, live, Marked, unknowns, analysis}
 
 -- The replay
 
--- What a replay has between two steps: its stacks, and what is left of the choices and of the given byte strings. "Items are byte
--- strings of any length."
-pub record Replay : Type 0 where
-  pub stacks : Stacks Bytes
+-- What a replay has between two steps: its stacks, and what is left of the choices and of the given byte strings. Its items are of a
+-- type B: "byte strings of any length", or, for request L9, byte strings with where they came from.
+pub record Replay (B : Type 0) : Type 0 where
+  pub stacks : Stacks B
   pub choices : List Bool
   pub results : List Bytes
 
@@ -26,6 +26,14 @@ pub record Replay : Type 0 where
 abbrev pub replaying : List Bytes → ItemOps Bytes
 replaying results = record { fromBytes = λ l. l; toBytes = some; result = getD results 0 [] }
 
+-- what a replay asks of its items: what the instruction at an offset does with them, these byte strings being left
+pub record Runs (B : Type 0) : Type 0 where
+  pub opsAt : ℕ → List Bytes → ItemOps B
+
+-- the items of document 01
+abbrev pub byBytes : Runs Bytes
+byBytes = record { opsAt = λ offset results. replaying results }
+
 -- It carries instructions out, or jumps over them: past the ENDIF, or past the ELSE if there is one (`true`). The number
 -- counts the conditionals opened since the jump began.
 pub data Going : Type 0 where
@@ -33,40 +41,41 @@ pub data Going : Type 0 where
   jumping : (toElse : Bool) → ℕ → Going
 
 -- an instruction carried out: the replay goes on, has ended, or faults
-pub data Carried : Type 0 where
-  goesOn : Going → Replay → Carried
-  halts : Carried
-  fails : Carried
-
--- On, running or jumping, with what an operation yields. A refusal is a fault: "It faults on a missing item, no room, an unreadable
--- or negative index, a bad tag, an unmodelled opcode", and in the examined mode on pushing a literal above 520 bytes (request L7),
--- which are all that Stacks can refuse.
-abbrev pub carriedOut : Outcome Bytes → Going → List Bool → List Bytes → Carried
-carriedOut o mode choices results =
-    onDone o (λ r. fails) (λ s. goesOn mode (record { stacks = s; choices = choices; results = results }))
+pub data Carried (B : Type 0) : Type 0 where
+  goesOn : Going → Replay B → Carried B
+  halts : Carried B
+  fails : Carried B
 
 -- "the next choice enters the first arm or jumps past its ELSE (past ENDIF if none)"
 abbrev pub chosen : Bool → Going
 chosen true = running
 chosen false = jumping true 0
 
--- "IF and NOTIF pop, then the next choice"
-abbrev pub branches : Replay → Carried
-branches r = carriedOut (dropItems 1 (r .stacks)) (chosen (getD (r .choices) 0 true)) (drop 1 (r .choices)) (r .results)
+module _ {B : Type 0} where
+  -- On, running or jumping, with what an operation yields. A refusal is a fault: "It faults on a missing item, no room, an unreadable
+  -- or negative index, a bad tag, an unmodelled opcode", and in the examined mode on pushing a literal above 520 bytes (request L7),
+  -- which are all that Stacks can refuse.
+  abbrev pub carriedOut : Outcome B → Going → List Bool → List Bytes → Carried B
+  carriedOut o going choices results =
+      onDone o (λ r. fails) (λ s. goesOn going (record { stacks = s; choices = choices; results = results }))
+
+  -- "IF and NOTIF pop, then the next choice"
+  abbrev pub branches : Replay B → Carried B
+  branches r = carriedOut (dropItems 1 (r .stacks)) (chosen (getD (r .choices) 0 true)) (drop 1 (r .choices)) (r .results)
 
 -- One instruction carried out, by its class. "A replay that meets ELSE jumps past the ENDIF; ENDIF itself does nothing. RETURN
 -- ends it." A plain class that pushes uses up one byte string.
-abbrev pub carry : Rules → Instruction → Class → Replay → Carried
-carry R i IF r = branches r
-carry R i NOTIF r = branches r
-carry R i ELSE r = goesOn (jumping false 0) r
-carry R i ENDIF r = goesOn running r
-carry R i RETURN r = halts
-carry R i (ordinary o) r = carriedOut (step (replaying (r .results)) R i o (r .stacks)) running (r .choices) (r .results)
-carry R i (plain pops pushes) r =
-    carriedOut (plainStep (replaying (r .results)) (R .limit) pops pushes (r .stacks)) running (r .choices) (drop pushes (r .results))
+abbrev pub carry : {B : Type 0} → Runs B → Rules → Instruction → Class → Replay B → Carried B
+carry J R i IF r = branches r
+carry J R i NOTIF r = branches r
+carry J R i ELSE r = goesOn (jumping false 0) r
+carry J R i ENDIF r = goesOn running r
+carry J R i RETURN r = halts
+carry J R i (ordinary o) r = carriedOut (step (J .opsAt (i .offset) (r .results)) R i o (r .stacks)) running (r .choices) (r .results)
+carry J R i (plain pops pushes) r =
+    carriedOut (plainStep (J .opsAt (i .offset) (r .results)) (R .limit) pops pushes (r .stacks)) running (r .choices) (drop pushes (r .results))
 
--- the mode after an instruction that is jumped over
+-- what an instruction that is jumped over leaves
 abbrev pub past : Class → Bool → ℕ → Going
 past IF toElse n = jumping toElse (suc n)
 past NOTIF toElse n = jumping toElse (suc n)
@@ -82,40 +91,40 @@ past (plain pops pushes) toElse n = jumping toElse n
 -- What a replay did: the instructions that it reached, each by its place in the fragment, counted from 0, with the stacks
 -- just before it, and how it ended: past the last instruction, at RETURN, or with a fault. "A replay reaches an instruction that
 -- it carries out or faults on, not one that it jumps over."
-pub data Trace : Type 0 where
-  visit : ℕ → Stacks Bytes → Trace → Trace
-  offEnd : Stacks Bytes → Trace
-  returned : Stacks Bytes → Trace
-  faulted : Trace
+pub data Trace (B : Type 0) : Type 0 where
+  visit : ℕ → Stacks B → Trace B → Trace B
+  offEnd : Stacks B → Trace B
+  returned : Stacks B → Trace B
+  faulted : Trace B
 
 -- on from an instruction carried out
-abbrev pub onCarried : Carried → Stacks Bytes → (Going → Replay → Trace) → Trace
+abbrev pub onCarried : {B : Type 0} → Carried B → Stacks B → (Going → Replay B → Trace B) → Trace B
 onCarried (goesOn m r) s next = next m r
 onCarried halts s next = returned s
 onCarried fails s next = faulted
 
 -- the replay from the instruction at place k on
-unfoldable pub replayFrom : Rules → List Instruction → ℕ → Going → Replay → Trace
-replayFrom R [] k m r = offEnd (r .stacks)
-replayFrom R (i ∷ is) k running r =
-    visit k (r .stacks) (onCarried (carry R i (R .classFor (i .opcode)) r) (r .stacks) (λ m t. replayFrom R is (k + 1) m t))
-replayFrom R (i ∷ is) k (jumping toElse n) r = replayFrom R is (k + 1) (past (R .classFor (i .opcode)) toElse n) r
+unfoldable pub replayFrom : {B : Type 0} → Runs B → Rules → List Instruction → ℕ → Going → Replay B → Trace B
+replayFrom J R [] k m r = offEnd (r .stacks)
+replayFrom J R (i ∷ is) k running r =
+    visit k (r .stacks) (onCarried (carry J R i (R .classFor (i .opcode)) r) (r .stacks) (λ m t. replayFrom J R is (k + 1) m t))
+replayFrom J R (i ∷ is) k (jumping toElse n) r = replayFrom J R is (k + 1) (past (R .classFor (i .opcode)) toElse n) r
 
 -- the whole replay
-abbrev pub wholeReplay : Rules → List Instruction → Replay → Trace
-wholeReplay R is r = replayFrom R is 0 running r
+abbrev pub wholeReplay : {B : Type 0} → Runs B → Rules → List Instruction → Replay B → Trace B
+wholeReplay J R is r = replayFrom J R is 0 running r
 
 -- What is said of a trace
 
 -- it reaches the instruction at place k, with these stacks just before it
-abbrev pub ReachedAt : ℕ → Stacks Bytes → Trace → Type 0
+abbrev pub ReachedAt : {B : Type 0} → ℕ → Stacks B → Trace B → Type 0
 ReachedAt k s (visit j u t) = ((j ≡ k) × (u ≡ s)) ⊎ ReachedAt k s t
 ReachedAt k s (offEnd u) = ⊥
 ReachedAt k s (returned u) = ⊥
 ReachedAt k s faulted = ⊥
 
 -- it faults
-abbrev pub EndsInFault : Trace → Type 0
+abbrev pub EndsInFault : {B : Type 0} → Trace B → Type 0
 EndsInFault (visit j u t) = EndsInFault t
 EndsInFault (offEnd u) = ⊥
 EndsInFault (returned u) = ⊥
@@ -123,21 +132,21 @@ EndsInFault faulted = Unit {0}
 
 -- it runs off the end, with these stacks: "when it comes past the last instruction, never at RETURN, at once on the empty
 -- fragment"
-abbrev pub RunsOffWith : Stacks Bytes → Trace → Type 0
+abbrev pub RunsOffWith : {B : Type 0} → Stacks B → Trace B → Type 0
 RunsOffWith s (visit j u t) = RunsOffWith s t
 RunsOffWith s (offEnd u) = u ≡ s
 RunsOffWith s (returned u) = ⊥
 RunsOffWith s faulted = ⊥
 
 -- n is one of its totals: "Totals are taken at the start and after each step"
-abbrev pub HasTotal : ℕ → Trace → Type 0
+abbrev pub HasTotal : {B : Type 0} → ℕ → Trace B → Type 0
 HasTotal n (visit j u t) = (total u ≡ n) ⊎ HasTotal n t
 HasTotal n (offEnd u) = total u ≡ n
 HasTotal n (returned u) = total u ≡ n
 HasTotal n faulted = ⊥
 
 -- none of its totals is over this
-abbrev pub TotalsWithin : ℕ → Trace → Type 0
+abbrev pub TotalsWithin : {B : Type 0} → ℕ → Trace B → Type 0
 TotalsWithin most t = (n : ℕ) → HasTotal n t → n ≤ most
 
 -- What the marker knows, and what a replay holds
@@ -160,7 +169,7 @@ pub record ShowsStacks (s : Stacks Item) (t : Stacks Bytes) : Type 0 where
   pub alt : ShowsAll (s .alt) (t .alt)
 
 -- a live arm that shows these stacks
-abbrev pub ShowsArm : Arm → Stacks Bytes → Type 0
+abbrev pub ShowsArm : Arm Item → Stacks Bytes → Type 0
 ShowsArm dead t = ⊥
 ShowsArm (live s) t = ShowsStacks s t
 
@@ -176,7 +185,7 @@ AreStrings (b ∷ l) = AreBytes b × AreStrings l
 
 -- A replay of these instructions from stacks that s shows. "Choices and byte strings are two lists, each at least as long as
 -- the fragment has instructions; what is left over goes unused."
-pub record ReplayOf (is : List Instruction) (s : Stacks Item) (r : Replay) : Type 0 where
+pub record ReplayOf (is : List Instruction) (s : Stacks Item) (r : Replay Bytes) : Type 0 where
   pub start : ShowsStacks s (r .stacks)
   pub main : AreStrings (r .stacks .main)
   pub alt : AreStrings (r .stacks .alt)
@@ -185,12 +194,12 @@ pub record ReplayOf (is : List Instruction) (s : Stacks Item) (r : Replay) : Typ
   pub enoughResults : length is ≤ length (r .results)
 
 -- what every replay does is as P says
-abbrev pub EveryReplay : Rules → List Instruction → Stacks Item → (Trace → Type 0) → Type 0
-EveryReplay R is s P = (r : Replay) → ReplayOf is s r → P (wholeReplay R is r)
+abbrev pub EveryReplay : Rules → List Instruction → Stacks Item → (Trace Bytes → Type 0) → Type 0
+EveryReplay R is s P = (r : Replay Bytes) → ReplayOf is s r → P (wholeReplay byBytes R is r)
 
 -- some replay does as P says
-abbrev pub SomeReplay : Rules → List Instruction → Stacks Item → (Trace → Type 0) → Type 0
-SomeReplay R is s P = (r : Replay) × (ReplayOf is s r) × (P (wholeReplay R is r))
+abbrev pub SomeReplay : Rules → List Instruction → Stacks Item → (Trace Bytes → Type 0) → Type 0
+SomeReplay R is s P = (r : Replay Bytes) × (ReplayOf is s r) × (P (wholeReplay byBytes R is r))
 
 -- Demand 3
 
@@ -201,14 +210,14 @@ heightsAt k log = take 2 (drop (3 * k + 1) log)
 
 -- the row of place k is live, not 65,535 twice
 abbrev pub LiveRow : ℕ → List ℕ → Type 0
-LiveRow k log = heightsAt k log ≡ heightsOf dead → ⊥
+LiveRow k log = heightsAt k log ≡ (65535 ∷ 65535 ∷ []) → ⊥
 
 -- some replay comes to place k
 abbrev pub SomeReplayReaches : Rules → List Instruction → Stacks Item → ℕ → Type 0
 SomeReplayReaches R is s k = SomeReplay R is s (λ t. (u : Stacks Bytes) × (ReachedAt k u t))
 
 -- what the marker answered for these instructions from the stacks s is true of every replay
-pub record Demand3 (R : Rules) (is : List Instruction) (s : Stacks Item) (m : Marked) : Type 0 where
+pub record Demand3 (R : Rules) (is : List Instruction) (s : Stacks Item) (m : Marked Item) : Type 0 where
   -- no replay faults
   pub noFault : EveryReplay R is s (λ t. EndsInFault t → ⊥)
   -- none ever holds more items than the limit, 244 or the lent one (request L6)
