@@ -1,8 +1,9 @@
 -- The stack operations and `step` keep what the marker shows of a replay's stacks: where the marker's outcome is done, so is
--- the replay's, and the stacks still agree. Beside it, for items of any type, `step` keeps the stacks within the limit.
+-- the replay's, and the stacks still agree. It is one law for all kinds of items: for a relation of the marker's items, of type A, to
+-- those of a replay, of type B. Beside it, for items of any type, `step` keeps the stacks within the limit.
 use mathlib.Core.Bool.{Bool, true, false, _&&_}
 use mathlib.Core.List.{List, [], _∷_, _++_}
-use mathlib.Core.Option.{some}
+use mathlib.Core.Option.{Option, none, some}
 use mathlib.Core.Path.{_≡_, refl, ap}
 use Prim.Native.Nat.{ℕ, zero, suc, _+_, _-_, _≤_}
 use native.Mathlib.Omega.{arith}
@@ -17,206 +18,230 @@ use Rattle.definition.specs.Stacks.{Rules, Stacks, Outcome, done, refuse
 use Rattle.definition.specs.Walk.{Item, unknown, exact, known, bytesKnown, marking}
 use Rattle.definition.specs.Replay.{replaying, Shows, ShowsAll, ShowsStacks}
 
--- Lists of items
+-- Lists of items, pair by pair
 
--- `ShowsAll` as pairs of items, one made after the other
-pub data Paired : List Item → List Bytes → Type 0 where
-  bottom : Paired [] []
-  above : {x : Item} {b : Bytes} {l : List Item} {m : List Bytes} → Shows x b → Paired l m → Paired (x ∷ l) (b ∷ m)
+pub data Paired {A B : Type 0} (Rel : A → B → Type 0) : List A → List B → Type 0 where
+  bottom : Paired Rel [] []
+  above : {x : A} {b : B} {l : List A} {m : List B} → Rel x b → Paired Rel l m → Paired Rel (x ∷ l) (b ∷ m)
 
-pub paired : (l : List Item) (m : List Bytes) → ShowsAll l m → Paired l m
+pub record PairedStacks {A B : Type 0} (Rel : A → B → Type 0) (s : Stacks A) (t : Stacks B) : Type 0 where
+  pub main : Paired Rel (s .main) (t .main)
+  pub alt : Paired Rel (s .alt) (t .alt)
+
+-- where the marker's outcome is done, the replay's is, and the stacks agree
+pub data Agree {A B : Type 0} (Rel : A → B → Type 0) : Outcome A → Outcome B → Type 0 where
+  agree : {s : Stacks A} {t : Stacks B} → PairedStacks Rel s t → Agree Rel (done s) (done t)
+  stops : {r : Refusal} {p : Outcome B} → Agree Rel (refused r) p
+
+-- what the marker knows of an item's bytes the replay knows too
+abbrev pub Told : Option Bytes → Option Bytes → Type 0
+Told none q = Unit {0}
+Told (some l) q = q ≡ some l
+
+-- what an instruction makes, of the marker's items and of a replay's: the relation holds of a literal, of a result, and of the length
+-- of an item of which the marker knows nothing
+pub record Makes {A B : Type 0} (Rel : A → B → Type 0) (I : ItemOps A) (J : ItemOps B) : Type 0 where
+  pub literal : (l : Bytes) → Rel (I .fromBytes l) (J .fromBytes l)
+  pub result : Rel (I .result) (J .result)
+  pub measured : (l : Bytes) → Rel (I .result) (J .fromBytes l)
+  pub bytes : (x : A) (b : B) → Rel x b → Told (I .toBytes x) (J .toBytes b)
+
+module _ {A B : Type 0} {Rel : A → B → Type 0} where
+  pub paired-length : {l : List A} {m : List B} → Paired Rel l m → length l ≡ length m
+  paired-length bottom = refl
+  paired-length (above r h) = ap suc (paired-length h)
+
+  paired-drop : (k : ℕ) {l : List A} {m : List B} → Paired Rel l m → Paired Rel (drop k l) (drop k m)
+  paired-drop zero h = h
+  paired-drop (suc k) bottom = bottom
+  paired-drop (suc k) (above r h) = paired-drop k h
+
+  paired-take : (k : ℕ) {l : List A} {m : List B} → Paired Rel l m → Paired Rel (take k l) (take k m)
+  paired-take zero h = bottom
+  paired-take (suc k) bottom = bottom
+  paired-take (suc k) (above r h) = above r (paired-take k h)
+
+  paired-append : {l : List A} {m : List B} {l′ : List A} {m′ : List B} → Paired Rel l m → Paired Rel l′ m′ → Paired Rel (l ++ l′) (m ++ m′)
+  paired-append bottom g = g
+  paired-append (above r h) g = above r (paired-append h g)
+
+  pub paired-total : {s : Stacks A} {t : Stacks B} → PairedStacks Rel s t → total s ≡ total t
+  paired-total h = rw (paired-length (h .main), paired-length (h .alt))
+
+  picks : (b : Bool) {o : Outcome A} {p : Outcome B} {o′ : Outcome A} {p′ : Outcome B} → Agree Rel o p → Agree Rel o′ p′ → Agree Rel (pick b o o′) (pick b p p′)
+  picks true h g = h
+  picks false h g = g
+
+  module _ {s : Stacks A} {t : Stacks B} (h : PairedStacks Rel s t) where
+    needs-agrees : (k : ℕ) {o : Outcome A} {p : Outcome B} → Agree Rel o p → Agree Rel (needs k s o) (needs k t p)
+    needs-agrees k g = rw (paired-length (h .main)) (picks (leb k (length (t .main))) g stops)
+
+    room-agrees : (limit k : ℕ) {o : Outcome A} {p : Outcome B} → Agree Rel o p → Agree Rel (room limit k s o) (room limit k t p)
+    room-agrees limit k g = rw (paired-length (h .main), paired-length (h .alt)) (picks (leb (total t + k) limit) g stops)
+
+    pushItem-agrees : (limit : ℕ) (x : A) (b : B) → Rel x b → Agree Rel (pushItem limit x s) (pushItem limit b t)
+    unfolding pushItem
+    pushItem-agrees limit x b r = room-agrees limit 1 (agree (record { main = above r (h .main); alt = h .alt }))
+
+    pub dropItems-agrees : (k : ℕ) → Agree Rel (dropItems k s) (dropItems k t)
+    unfolding dropItems
+    dropItems-agrees k = needs-agrees k (agree (record { main = paired-drop k (h .main); alt = h .alt }))
+
+    copyItems-agrees : (limit depth count : ℕ) → Agree Rel (copyItems limit depth count s) (copyItems limit depth count t)
+    unfolding copyItems
+    copyItems-agrees limit depth count =
+        needs-agrees depth (room-agrees limit count (agree (record {
+          main = paired-append (paired-drop (depth - count) (paired-take depth (h .main))) (h .main);
+          alt = h .alt;
+        })))
+
+    rotateItems-agrees : (count shift : ℕ) → Agree Rel (rotateItems count shift s) (rotateItems count shift t)
+    unfolding rotateItems
+    rotateItems-agrees count shift = needs-agrees count (agree (record {
+      main = paired-append (paired-append (paired-drop (count - shift) (paired-take count (h .main))) (paired-take (count - shift) (h .main)))
+          (paired-drop count (h .main));
+      alt = h .alt;
+    }))
+
+    tuckTop-agrees : (limit : ℕ) → Agree Rel (tuckTop limit s) (tuckTop limit t)
+    unfolding tuckTop
+    tuckTop-agrees limit = needs-agrees 1 (needs-agrees 2 (room-agrees limit 1 (agree (record {
+      main = paired-append (paired-append (paired-take 2 (h .main)) (paired-take 1 (h .main))) (paired-drop 2 (h .main));
+      alt = h .alt;
+    }))))
+
+    nipSecond-agrees : Agree Rel (nipSecond s) (nipSecond t)
+    unfolding nipSecond
+    nipSecond-agrees = needs-agrees 2 (agree (record { main = paired-append (paired-take 1 (h .main)) (paired-drop 2 (h .main)); alt = h .alt }))
+
+    moveToAlt-agrees : Agree Rel (moveToAlt s) (moveToAlt t)
+    unfolding moveToAlt
+    moveToAlt-agrees = needs-agrees 1 (agree (record { main = paired-drop 1 (h .main); alt = paired-append (paired-take 1 (h .main)) (h .alt) }))
+
+    moveFromAlt-agrees : Agree Rel (moveFromAlt s) (moveFromAlt t)
+    unfolding moveFromAlt
+    moveFromAlt-agrees = rw (paired-length (h .alt)) (picks (leb 1 (length (t .alt))) (agree (record {
+      main = paired-append (paired-take 1 (h .alt)) (h .main);
+      alt = paired-drop 1 (h .alt);
+    })) stops)
+
+  -- Operations one after the other
+
+  onDone-agrees : {o : Outcome A} {p : Outcome B} (f : Stacks A → Outcome A) (g : Stacks B → Outcome B)
+      → Agree Rel o p → ((s : Stacks A) (t : Stacks B) → PairedStacks Rel s t → Agree Rel (f s) (g t)) → Agree Rel (onDone o refused f) (onDone p refused g)
+  onDone-agrees f g (agree h) n = n _ _ h
+  onDone-agrees f g stops n = stops
+
+  popFrom-agrees : {l : List A} {m : List B} {a : List A} {c : List B} (f : A → Stacks A → Outcome A) (g : B → Stacks B → Outcome B)
+      → Paired Rel l m → Paired Rel a c → ((x : A) (b : B) (s : Stacks A) (t : Stacks B) → Rel x b → PairedStacks Rel s t → Agree Rel (f x s) (g b t))
+      → Agree Rel (popFrom l a f) (popFrom m c g)
+  popFrom-agrees f g bottom k n = stops
+  popFrom-agrees f g (above {x = x} {b = b} r h) k n = n x b _ _ r (record { main = h; alt = k })
+
+  module _ {I : ItemOps A} {J : ItemOps B} (makes : Makes Rel I J) where
+    -- an index that the marker reads is the one that the replay reads
+    readable-agrees : (p q : Option Bytes) → Told p q → (f : ℕ → Outcome A) (g : ℕ → Outcome B) → ((n : ℕ) → Agree Rel (f n) (g n))
+        → Agree Rel (readable I (indexOf p) f) (readable J (indexOf q) g)
+    readable-agrees none q r f g n = stops
+    readable-agrees (some l) q r f g n = rw r (same (indexOf (some l)))
+      where
+        same : (i : Index) → Agree Rel (readable I i f) (readable J i g)
+        same notKnown = stops
+        same noNumber = stops
+        same negative = stops
+        same (index k) = n k
+
+    popIndex-agrees : {s : Stacks A} {t : Stacks B} (f : ℕ → Stacks A → Outcome A) (g : ℕ → Stacks B → Outcome B) → PairedStacks Rel s t
+        → ((n : ℕ) (s′ : Stacks A) (t′ : Stacks B) → PairedStacks Rel s′ t′ → Agree Rel (f n s′) (g n t′)) → Agree Rel (popIndex I s f) (popIndex J t g)
+    popIndex-agrees f g h n =
+        popFrom-agrees _ _ (h .main) (h .alt) (λ x b s t r k. readable-agrees (I .toBytes x) (J .toBytes b) (makes .bytes x b r) _ _ (λ i. n i s t k))
+
+    -- SIZE: the length of an exact item is the real one
+    size-agrees : (p q : Option Bytes) → Told p q → Rel (sizeItem I p) (sizeItem J q)
+    size-agrees none none r = makes .result
+    size-agrees none (some l) r = makes .measured _
+    size-agrees (some l) q r = rw r (makes .literal _)
+
+    zkDrop-agrees : (limit n : ℕ) {s : Stacks A} {t : Stacks B} → PairedStacks Rel s t → Agree Rel (zkDrop I limit n s) (zkDrop J limit n t)
+    zkDrop-agrees limit n h = onDone-agrees _ _ (dropItems-agrees h n) (λ s t k. pushItem-agrees k limit _ _ (makes .literal (serialize (plus 1))))
+
+    -- a tag that the marker reads is the one that the replay reads
+    zkBy-agrees : (limit : ℕ) (p q : Option Bytes) {s : Stacks A} {t : Stacks B} → Told p q → PairedStacks Rel s t
+        → Agree Rel (zkBy I limit (tagOf p) s) (zkBy J limit (tagOf q) t)
+    zkBy-agrees limit none q r h = stops
+    zkBy-agrees limit (some l) q r h = rw r (same (tagOf (some l)) h)
+      where
+        same : (k : Tag) {s : Stacks A} {t : Stacks B} → PairedStacks Rel s t → Agree Rel (zkBy I limit k s) (zkBy J limit k t)
+        same noTag h = stops
+        same groth16 h =
+            popFrom-agrees _ _ (h .main) (h .alt) (λ key b s t r k.
+            popFrom-agrees _ _ (k .main) (k .alt) (λ proof b s t r k.
+            popIndex-agrees _ _ k (λ n s t k. zkDrop-agrees limit n k)))
+        same r0Succinct h = zkDrop-agrees limit 8 h
+
+    -- whatever an ordinary instruction does, a replay follows the marker
+    pub step-agrees : (R : Rules) (i : Instruction) (o : Ordinary) {s : Stacks A} {t : Stacks B} → PairedStacks Rel s t
+        → Agree Rel (step I R i o s) (step J R i o t)
+    unfolding step
+    step-agrees R i unmodelled h = stops
+    step-agrees R i push h = picks (R .examined && ltb maxElement (length (i .literal))) stops (pushItem-agrees h (R .limit) _ _ (makes .literal (i .literal)))
+    step-agrees R i nothing h = agree h
+    step-agrees R i TOALT h = moveToAlt-agrees h
+    step-agrees R i FROMALT h = moveFromAlt-agrees h
+    step-agrees R i DEPTH {s} {t} h = rw (paired-length (h .main)) (pushItem-agrees h (R .limit) _ _ (makes .literal (serialize (plus (length (t .main))))))
+    step-agrees R i SIZE h =
+        popFrom-agrees _ _ (h .main) (h .alt) (λ x b s t r k. pushItem-agrees h (R .limit) _ _ (size-agrees (I .toBytes x) (J .toBytes b) (makes .bytes x b r)))
+    step-agrees R i NIP h = nipSecond-agrees h
+    step-agrees R i TUCK h = tuckTop-agrees h (R .limit)
+    step-agrees R i PICK h = popIndex-agrees _ _ h (λ n s t k. copyItems-agrees k (R .limit) _ 1)
+    step-agrees R i ROLL h = popIndex-agrees _ _ h (λ n s t k. rotateItems-agrees k _ 1)
+    step-agrees R i ZK h =
+        popFrom-agrees _ _ (h .main) (h .alt) (λ x b s t r k. zkBy-agrees (R .limit) (I .toBytes x) (J .toBytes b) (makes .bytes x b r) k)
+    step-agrees R i (copies depth count) h = copyItems-agrees h (R .limit) depth count
+    step-agrees R i (rotates count shift) h = rotateItems-agrees h count shift
+
+    -- and whatever an instruction of a plain class does
+    pub plainStep-agrees : (limit pops pushes : ℕ) {s : Stacks A} {t : Stacks B} → PairedStacks Rel s t
+        → Agree Rel (plainStep I limit pops pushes s) (plainStep J limit pops pushes t)
+    unfolding plainStep
+    plainStep-agrees limit pops pushes h = onDone-agrees _ _ (dropItems-agrees h pops) (λ s t g. results pushes g)
+      where
+        results : (n : ℕ) {s : Stacks A} {t : Stacks B} → PairedStacks Rel s t → Agree Rel (pushResults I limit n s) (pushResults J limit n t)
+        results zero g = agree g
+        results (suc n) g = pushItem-agrees g limit _ _ (makes .result)
+
+-- The items of document 01: `ShowsAll` as pairs
+
+pub paired : (l : List Item) (m : List Bytes) → ShowsAll l m → Paired Shows l m
 paired [] [] h = bottom
 paired [] (b ∷ m) h = absurd h
 paired (x ∷ l) [] h = absurd h
 paired (x ∷ l) (b ∷ m) h = above (h .0) (paired l m (h .1))
 
-pub shown : {l : List Item} {m : List Bytes} → Paired l m → ShowsAll l m
+pub shown : {l : List Item} {m : List Bytes} → Paired Shows l m → ShowsAll l m
 shown bottom = tt
 shown (above r h) = (r, shown h)
 
-pub paired-length : {l : List Item} {m : List Bytes} → Paired l m → length l ≡ length m
-paired-length bottom = refl
-paired-length (above r h) = ap suc (paired-length h)
-
-paired-drop : (k : ℕ) {l : List Item} {m : List Bytes} → Paired l m → Paired (drop k l) (drop k m)
-paired-drop zero h = h
-paired-drop (suc k) bottom = bottom
-paired-drop (suc k) (above r h) = paired-drop k h
-
-paired-take : (k : ℕ) {l : List Item} {m : List Bytes} → Paired l m → Paired (take k l) (take k m)
-paired-take zero h = bottom
-paired-take (suc k) bottom = bottom
-paired-take (suc k) (above r h) = above r (paired-take k h)
-
-paired-append : {l : List Item} {m : List Bytes} {l′ : List Item} {m′ : List Bytes} → Paired l m → Paired l′ m′ → Paired (l ++ l′) (m ++ m′)
-paired-append bottom g = g
-paired-append (above r h) g = above r (paired-append h g)
-
-pub record PairedStacks (s : Stacks Item) (t : Stacks Bytes) : Type 0 where
-  pub main : Paired (s .main) (t .main)
-  pub alt : Paired (s .alt) (t .alt)
-
-pub pairedStacks : {s : Stacks Item} {t : Stacks Bytes} → ShowsStacks s t → PairedStacks s t
+pub pairedStacks : {s : Stacks Item} {t : Stacks Bytes} → ShowsStacks s t → PairedStacks Shows s t
 pairedStacks {s} {t} h = record { main = paired (s .main) (t .main) (h .main); alt = paired (s .alt) (t .alt) (h .alt) }
 
-pub shownStacks : {s : Stacks Item} {t : Stacks Bytes} → PairedStacks s t → ShowsStacks s t
+pub shownStacks : {s : Stacks Item} {t : Stacks Bytes} → PairedStacks Shows s t → ShowsStacks s t
 shownStacks h = record { main = shown (h .main); alt = shown (h .alt) }
-
-pub paired-total : {s : Stacks Item} {t : Stacks Bytes} → PairedStacks s t → total s ≡ total t
-paired-total h = rw (paired-length (h .main), paired-length (h .alt))
 
 -- what the marker keeps of a literal is true of it
 shows-picked : (b : Bool) (l : Bytes) → Shows (pick b (exact l) unknown) l
 shows-picked true l = refl
 shows-picked false l = tt
 
-shows-known : (l : Bytes) → Shows (known l) l
+pub shows-known : (l : Bytes) → Shows (known l) l
 shows-known l = search shows-picked
 
--- Outcomes
+shows-bytes : (x : Item) (b : Bytes) → Shows x b → Told (bytesKnown x) (some b)
+shows-bytes unknown b r = tt
+shows-bytes (exact l) b r = rw r
 
--- where the marker's outcome is done, the replay's is, and the stacks agree
-pub data Agree : Outcome Item → Outcome Bytes → Type 0 where
-  agree : {s : Stacks Item} {t : Stacks Bytes} → PairedStacks s t → Agree (done s) (done t)
-  stops : {r : Refusal} {p : Outcome Bytes} → Agree (refused r) p
-
-picks : (b : Bool) {o : Outcome Item} {p : Outcome Bytes} {o′ : Outcome Item} {p′ : Outcome Bytes} → Agree o p → Agree o′ p′ → Agree (pick b o o′) (pick b p p′)
-picks true h g = h
-picks false h g = g
-
-module _ {s : Stacks Item} {t : Stacks Bytes} (h : PairedStacks s t) where
-  needs-agrees : (k : ℕ) {o : Outcome Item} {p : Outcome Bytes} → Agree o p → Agree (needs k s o) (needs k t p)
-  needs-agrees k g = rw (paired-length (h .main)) (picks (leb k (length (t .main))) g stops)
-
-  room-agrees : (limit k : ℕ) {o : Outcome Item} {p : Outcome Bytes} → Agree o p → Agree (room limit k s o) (room limit k t p)
-  room-agrees limit k g = rw (paired-length (h .main), paired-length (h .alt)) (picks (leb (total t + k) limit) g stops)
-
-  pushItem-agrees : (limit : ℕ) (x : Item) (b : Bytes) → Shows x b → Agree (pushItem limit x s) (pushItem limit b t)
-  unfolding pushItem
-  pushItem-agrees limit x b r = room-agrees limit 1 (agree (record { main = above r (h .main); alt = h .alt }))
-
-  pub dropItems-agrees : (k : ℕ) → Agree (dropItems k s) (dropItems k t)
-  unfolding dropItems
-  dropItems-agrees k = needs-agrees k (agree (record { main = paired-drop k (h .main); alt = h .alt }))
-
-  copyItems-agrees : (limit depth count : ℕ) → Agree (copyItems limit depth count s) (copyItems limit depth count t)
-  unfolding copyItems
-  copyItems-agrees limit depth count =
-      needs-agrees depth (room-agrees limit count (agree (record {
-        main = paired-append (paired-drop (depth - count) (paired-take depth (h .main))) (h .main);
-        alt = h .alt;
-      })))
-
-  rotateItems-agrees : (count shift : ℕ) → Agree (rotateItems count shift s) (rotateItems count shift t)
-  unfolding rotateItems
-  rotateItems-agrees count shift = needs-agrees count (agree (record {
-    main = paired-append (paired-append (paired-drop (count - shift) (paired-take count (h .main))) (paired-take (count - shift) (h .main)))
-        (paired-drop count (h .main));
-    alt = h .alt;
-  }))
-
-  tuckTop-agrees : (limit : ℕ) → Agree (tuckTop limit s) (tuckTop limit t)
-  unfolding tuckTop
-  tuckTop-agrees limit = needs-agrees 1 (needs-agrees 2 (room-agrees limit 1 (agree (record {
-    main = paired-append (paired-append (paired-take 2 (h .main)) (paired-take 1 (h .main))) (paired-drop 2 (h .main));
-    alt = h .alt;
-  }))))
-
-  nipSecond-agrees : Agree (nipSecond s) (nipSecond t)
-  unfolding nipSecond
-  nipSecond-agrees = needs-agrees 2 (agree (record { main = paired-append (paired-take 1 (h .main)) (paired-drop 2 (h .main)); alt = h .alt }))
-
-  moveToAlt-agrees : Agree (moveToAlt s) (moveToAlt t)
-  unfolding moveToAlt
-  moveToAlt-agrees = needs-agrees 1 (agree (record { main = paired-drop 1 (h .main); alt = paired-append (paired-take 1 (h .main)) (h .alt) }))
-
-  moveFromAlt-agrees : Agree (moveFromAlt s) (moveFromAlt t)
-  unfolding moveFromAlt
-  moveFromAlt-agrees = rw (paired-length (h .alt)) (picks (leb 1 (length (t .alt))) (agree (record {
-    main = paired-append (paired-take 1 (h .alt)) (h .main);
-    alt = paired-drop 1 (h .alt);
-  })) stops)
-
--- Operations one after the other
-
-onDone-agrees : {o : Outcome Item} {p : Outcome Bytes} (f : Stacks Item → Outcome Item) (g : Stacks Bytes → Outcome Bytes)
-    → Agree o p → ((s : Stacks Item) (t : Stacks Bytes) → PairedStacks s t → Agree (f s) (g t)) → Agree (onDone o refused f) (onDone p refused g)
-onDone-agrees f g (agree h) n = n _ _ h
-onDone-agrees f g stops n = stops
-
-popFrom-agrees : {l : List Item} {m : List Bytes} {a : List Item} {c : List Bytes} (f : Item → Stacks Item → Outcome Item) (g : Bytes → Stacks Bytes → Outcome Bytes)
-    → Paired l m → Paired a c → ((x : Item) (b : Bytes) (s : Stacks Item) (t : Stacks Bytes) → Shows x b → PairedStacks s t → Agree (f x s) (g b t))
-    → Agree (popFrom l a f) (popFrom m c g)
-popFrom-agrees f g bottom k n = stops
-popFrom-agrees f g (above {x = x} {b = b} r h) k n = n x b _ _ r (record { main = h; alt = k })
-
--- an index that the marker reads is the one that the replay reads
-readable-agrees : (v : List Bytes) (x : Item) (b : Bytes) (f : ℕ → Outcome Item) (g : ℕ → Outcome Bytes) → Shows x b → ((n : ℕ) → Agree (f n) (g n))
-    → Agree (readable marking (indexOf (bytesKnown x)) f) (readable (replaying v) (indexOf (some b)) g)
-readable-agrees v unknown b f g r n = stops
-readable-agrees v (exact l) b f g r n = rw r (same (indexOf (some b)))
-  where
-    same : (i : Index) → Agree (readable marking i f) (readable (replaying v) i g)
-    same notKnown = stops
-    same noNumber = stops
-    same negative = stops
-    same (index k) = n k
-
-popIndex-agrees : (v : List Bytes) {s : Stacks Item} {t : Stacks Bytes} (f : ℕ → Stacks Item → Outcome Item) (g : ℕ → Stacks Bytes → Outcome Bytes) → PairedStacks s t
-    → ((n : ℕ) (s′ : Stacks Item) (t′ : Stacks Bytes) → PairedStacks s′ t′ → Agree (f n s′) (g n t′)) → Agree (popIndex marking s f) (popIndex (replaying v) t g)
-popIndex-agrees v f g h n = popFrom-agrees _ _ (h .main) (h .alt) (λ x b s t r k. readable-agrees v x b _ _ r (λ i. n i s t k))
-
--- SIZE: the length of an exact item is the real one
-size-shows : (v : List Bytes) (x : Item) (b : Bytes) → Shows x b → Shows (sizeItem marking (bytesKnown x)) (sizeItem (replaying v) (some b))
-size-shows v unknown b r = tt
-size-shows v (exact l) b r = rw r (shows-known (serialize (plus (length b))))
-
-zkDrop-agrees : (v : List Bytes) (limit n : ℕ) {s : Stacks Item} {t : Stacks Bytes} → PairedStacks s t → Agree (zkDrop marking limit n s) (zkDrop (replaying v) limit n t)
-zkDrop-agrees v limit n h = onDone-agrees _ _ (dropItems-agrees h n) (λ s t k. pushItem-agrees k limit _ _ (shows-known (serialize (plus 1))))
-
--- a tag that the marker reads is the one that the replay reads
-zkBy-agrees : (v : List Bytes) (limit : ℕ) (x : Item) (b : Bytes) {s : Stacks Item} {t : Stacks Bytes} → Shows x b → PairedStacks s t
-    → Agree (zkBy marking limit (tagOf (bytesKnown x)) s) (zkBy (replaying v) limit (tagOf (some b)) t)
-zkBy-agrees v limit unknown b r h = stops
-zkBy-agrees v limit (exact l) b r h = rw r (same (tagOf (some b)) h)
-  where
-    same : (k : Tag) {s : Stacks Item} {t : Stacks Bytes} → PairedStacks s t → Agree (zkBy marking limit k s) (zkBy (replaying v) limit k t)
-    same noTag h = stops
-    same groth16 h =
-        popFrom-agrees _ _ (h .main) (h .alt) (λ key b s t r k.
-        popFrom-agrees _ _ (k .main) (k .alt) (λ proof b s t r k.
-        popIndex-agrees v _ _ k (λ n s t k. zkDrop-agrees v limit n k)))
-    same r0Succinct h = zkDrop-agrees v limit 8 h
-
--- whatever an ordinary instruction does, a replay follows the marker
-pub step-agrees : (v : List Bytes) (R : Rules) (i : Instruction) (o : Ordinary) {s : Stacks Item} {t : Stacks Bytes} → PairedStacks s t
-    → Agree (step marking R i o s) (step (replaying v) R i o t)
-unfolding step
-step-agrees v R i unmodelled h = stops
-step-agrees v R i push h = picks (R .examined && ltb maxElement (length (i .literal))) stops (pushItem-agrees h (R .limit) _ _ (shows-known (i .literal)))
-step-agrees v R i nothing h = agree h
-step-agrees v R i TOALT h = moveToAlt-agrees h
-step-agrees v R i FROMALT h = moveFromAlt-agrees h
-step-agrees v R i DEPTH {s} {t} h = rw (paired-length (h .main)) (pushItem-agrees h (R .limit) _ _ (shows-known (serialize (plus (length (t .main))))))
-step-agrees v R i SIZE h = popFrom-agrees _ _ (h .main) (h .alt) (λ x b s t r k. pushItem-agrees h (R .limit) _ _ (size-shows v x b r))
-step-agrees v R i NIP h = nipSecond-agrees h
-step-agrees v R i TUCK h = tuckTop-agrees h (R .limit)
-step-agrees v R i PICK h = popIndex-agrees v _ _ h (λ n s t k. copyItems-agrees k (R .limit) _ 1)
-step-agrees v R i ROLL h = popIndex-agrees v _ _ h (λ n s t k. rotateItems-agrees k _ 1)
-step-agrees v R i ZK h = popFrom-agrees _ _ (h .main) (h .alt) (λ x b s t r k. zkBy-agrees v (R .limit) x b r k)
-step-agrees v R i (copies depth count) h = copyItems-agrees h (R .limit) depth count
-step-agrees v R i (rotates count shift) h = rotateItems-agrees h count shift
-
--- and whatever an instruction of a plain class does
-pub plainStep-agrees : (v : List Bytes) (limit pops pushes : ℕ) {s : Stacks Item} {t : Stacks Bytes} → PairedStacks s t
-    → Agree (plainStep marking limit pops pushes s) (plainStep (replaying v) limit pops pushes t)
-unfolding plainStep
-plainStep-agrees v limit pops pushes h = onDone-agrees _ _ (dropItems-agrees h pops) (λ s t g. results pushes g)
-  where
-    results : (n : ℕ) {s : Stacks Item} {t : Stacks Bytes} → PairedStacks s t
-        → Agree (pushResults marking limit n s) (pushResults (replaying v) limit n t)
-    results zero g = agree g
-    results (suc n) g = pushItem-agrees g limit _ _ tt
+pub shows-makes : (v : List Bytes) → Makes Shows marking (replaying v)
+shows-makes v = record { literal = shows-known; result = tt; measured = λ l. tt; bytes = shows-bytes }
 
 -- The limit
 
