@@ -18,7 +18,7 @@ use Rattle.definition.specs.Decoding.{Instruction, Code, decode, instruc
 use Rattle.definition.specs.Classes.{Class, IF, NOTIF, ELSE, ENDIF, RETURN, ordinary, plain, Ordinary, unmodelled, push, nothing, TOALT, FROMALT, DEPTH, SIZE, NIP, TUCK, PICK, ROLL, ZK, copies, rotates}
 use Rattle.definition.specs.Refusals.{Refusal, maxFragment, maxElement, longElement, longFragment, startTooLarge, shortLog, stacksFull, mainDry}
 use Rattle.definition.specs.Stacks.{Rules, Stacks, Outcome, done, refused, ItemOps, Tag, noTag, groth16, r0Succinct, tagOf, total, withMain, needs, room, onDone, pushItem, popFrom, dropItems, copyItems, tuckTop, readable, popIndex, zkDrop, zkBy, pushLiteral, step, pushResults, plainStep}
-use Rattle.definition.specs.Walk.{Item, marking, Arm, dead, live, Frame, Move, moves, refuses, onOutcome, effect, State, met, totalOf, onward, WalkEnd, passed, stopped, follow, walk, Marked, refusedEarly, answered, begin, tested, analysisOf, unknowns, analysis}
+use Rattle.definition.specs.Walk.{unmarked, Item, marking, Arm, dead, live, Frame, Move, moves, refuses, onOutcome, effect, State, met, totalOf, onward, WalkEnd, passed, stopped, follow, walk, Marked, refusedEarly, answered, begin, tested, analysisOf, unknowns, analysis}
 use Rattle.definition.specs.Allows.{Models, keeps, gainsOrdinary, gainsPlain}
 use Rattle.definition.proofs.Arms.{goes-on, peak-grows}
 use Rattle.definition.proofs.TrueOfEveryReplay.{refused-number, ofCode}
@@ -170,18 +170,18 @@ pub record Covers (R S : Rules) : Type 0 where
   pub classFor : (code : ℕ) → Models (R .classFor code) (S .classFor code)
   pub examined : Examines R S
 
-data FitsMove (l m : ℕ) (P : Type 0) : Move → Move → Type 0 where
-  alikeMove : (mv : Move) → FitsMove l m P mv mv
-  fullMove : (c : Arm) (fs : List Frame) (n : ℕ) → m < n → n ≤ l → (P → n ≤ totalOf c) → FitsMove l m P (moves c fs) (refuses (stacksFull n m))
-  neverMove : (r : Refusal) (mv : Move) → FitsMove l m P (refuses r) mv
+data FitsMove (l m : ℕ) (P : Type 0) : Move Item → Move Item → Type 0 where
+  alikeMove : (mv : Move Item) → FitsMove l m P mv mv
+  fullMove : (c : Arm Item) (fs : List (Frame Item)) (n : ℕ) → m < n → n ≤ l → (P → n ≤ totalOf c) → FitsMove l m P (moves c fs) (refuses (stacksFull n m))
+  neverMove : (r : Refusal) (mv : Move Item) → FitsMove l m P (refuses r) mv
 
-outcome-fits : {l m : ℕ} {P : Type 0} {o p : Outcome Item} (fs : List Frame) → Fits l m P o p → FitsMove l m P (onOutcome o fs) (onOutcome p fs)
+outcome-fits : {l m : ℕ} {P : Type 0} {o p : Outcome Item} (fs : List (Frame Item)) → Fits l m P o p → FitsMove l m P (onOutcome o fs) (onOutcome p fs)
 outcome-fits fs (alike o) = alikeMove _
 outcome-fits fs (full t n g h f) = fullMove (live t) fs n g h f
 outcome-fits fs (never r p) = neverMove r _
 
 module _ (R S : Rules) (m : Examines R S) (i : Instruction) where
-  class-fits : (k : Class) (c : Arm) (fs : List Frame) → FitsMove (R .limit) (S .limit) (Modest k) (effect R i k c fs) (effect S i k c fs)
+  class-fits : (k : Class) (c : Arm Item) (fs : List (Frame Item)) → FitsMove (R .limit) (S .limit) (Modest k) (effect unmarked R i k c fs) (effect unmarked S i k c fs)
   class-fits IF c fs = alikeMove _
   class-fits NOTIF c fs = alikeMove _
   class-fits ELSE c [] = alikeMove _
@@ -195,7 +195,7 @@ module _ (R S : Rules) (m : Examines R S) (i : Instruction) where
   class-fits (plain pops pushes) (live s) fs = outcome-fits fs (plainStep-fits marking pops pushes s)
 
   -- an opcode that R leaves unmodelled is refused by R in live code, and skipped by both in dead code
-  effect-fits : {k j : Class} → Models k j → (c : Arm) (fs : List Frame) → FitsMove (R .limit) (S .limit) (Modest k) (effect R i k c fs) (effect S i j c fs)
+  effect-fits : {k j : Class} → Models k j → (c : Arm Item) (fs : List (Frame Item)) → FitsMove (R .limit) (S .limit) (Modest k) (effect unmarked R i k c fs) (effect unmarked S i j c fs)
   unfolding step
   effect-fits (keeps k) c fs = class-fits k c fs
   effect-fits (gainsOrdinary o) dead fs = alikeMove _
@@ -206,9 +206,9 @@ module _ (R S : Rules) (m : Examines R S) (i : Instruction) where
 -- The walk
 
 -- a walk that wants more room than m, and no more than l; with modest copies, no more than the peak
-pub record Full (l m : ℕ) (P : Type 0) (peak : ℕ) (w : WalkEnd) : Type 0 where
+pub record Full (l m : ℕ) (P : Type 0) (peak : ℕ) (w : WalkEnd Item) : Type 0 where
   pub wanted : ℕ
-  pub at : State
+  pub at : State Item
   pub over : m < wanted
   pub within : wanted ≤ l
   pub inPeak : P → wanted ≤ peak
@@ -217,24 +217,24 @@ pub record Full (l m : ℕ) (P : Type 0) (peak : ℕ) (w : WalkEnd) : Type 0 whe
 abbrev pub AllModest : Rules → Type 0
 AllModest R = (code : ℕ) → Modest (R .classFor code)
 
-moved : (d : Arm) (gs : List Frame) (c : Arm) (fs : List Frame) → moves d gs ≡ moves c fs → totalOf d ≡ totalOf c
+moved : (d : Arm Item) (gs : List (Frame Item)) (c : Arm Item) (fs : List (Frame Item)) → moves d gs ≡ moves c fs → totalOf d ≡ totalOf c
 moved d gs c fs e = let z : d ≡ c = cc in ap totalOf z
 
-module _ (R S : Rules) (covers : Covers R S) (t : State) where
-  abbrev WalkFits : WalkEnd → Type 0
+module _ (R S : Rules) (covers : Covers R S) (t : State Item) where
+  abbrev WalkFits : WalkEnd Item → Type 0
   WalkFits w = (w ≡ passed t) ⊎ (Full (R .limit) (S .limit) (AllModest R) (t .peak) w)
 
-  pub walk-fits : (is : List Instruction) (s : State) → walk R is s ≡ passed t → WalkFits (walk S is s)
+  pub walk-fits : (is : List Instruction) (s : State Item) → walk unmarked R is s ≡ passed t → WalkFits (walk unmarked S is s)
   unfolding walk
   walk-fits [] s h = inl h
-  walk-fits (i ∷ is) s h = goes-on R t i is s h (λ c fs e g.
-      by c fs (walk-fits is (onward c fs (met i s)) g) (peak-grows R t is (onward c fs (met i s)) g)
+  walk-fits (i ∷ is) s h = goes-on unmarked R t i is s h (λ c fs e g.
+      by c fs (walk-fits is (onward c fs (met i s)) g) (peak-grows unmarked R t is (onward c fs (met i s)) g)
       (effect-fits R S (covers .examined) i (covers .classFor (i .opcode)) (s .arm) (s .frames)) e)
     where
-      by : (c : Arm) (fs : List Frame) → WalkFits (walk S is (onward c fs (met i s))) → max (s .peak) (totalOf c) ≤ t .peak
-          → {mv nv : Move} → FitsMove (R .limit) (S .limit) (Modest (R .classFor (i .opcode))) mv nv → mv ≡ moves c fs
-          → WalkFits (follow nv (met i s) (λ u. walk S is u))
-      by c fs rest q (alikeMove mv) e = subst (λ mv. WalkFits (follow mv (met i s) (λ u. walk S is u))) (sym e) rest
+      by : (c : Arm Item) (fs : List (Frame Item)) → WalkFits (walk unmarked S is (onward c fs (met i s))) → max (s .peak) (totalOf c) ≤ t .peak
+          → {mv nv : Move Item} → FitsMove (R .limit) (S .limit) (Modest (R .classFor (i .opcode))) mv nv → mv ≡ moves c fs
+          → WalkFits (follow nv (met i s) (λ u. walk unmarked S is u))
+      by c fs rest q (alikeMove mv) e = subst (λ mv. WalkFits (follow mv (met i s) (λ u. walk unmarked S is u))) (sym e) rest
       by c fs rest q (fullMove d gs n over within f) e = inr (record {
         wanted = n;
         at = met i s;
@@ -249,21 +249,21 @@ module _ (R S : Rules) (covers : Covers R S) (t : State) where
 
 -- An analysis from so many items that is short of room at the limit m, which is below l: 2 or 6. With modest copies, the peak
 -- is above m.
-pub record Short (l m : ℕ) (P : Type 0) (start peak : ℕ) (n : Marked) : Type 0 where
+pub record Short (l m : ℕ) (P : Type 0) (start peak : ℕ) (n : Marked Item) : Type 0 where
   pub number : ((m < start) × (n .verdict .answer .number ≡ 2)) ⊎ ((start ≤ m) × (n .verdict .answer .number ≡ 6))
   pub lower : m < l
   pub overPeak : P → m < peak
 
 module _ (R S : Rules) (covers : Covers R S) where
-  abbrev pub AnalysisFits : ℕ → Marked → Marked → Type 0
+  abbrev pub AnalysisFits : ℕ → Marked Item → Marked Item → Type 0
   AnalysisFits start m n =
       m .verdict .answer .number ≡ 0 → (n ≡ m) ⊎ (Short (R .limit) (S .limit) (AllModest R) start (m .verdict .peak) n)
 
   walked-fits : (is : List Instruction) (s : Stacks Item) (log : List ℕ) → total s ≤ S .limit
-      → AnalysisFits (total s) (answered (walk R is (begin s log))) (answered (walk S is (begin s log)))
-  walked-fits is s log start h = by (walk R is (begin s log)) refl h
+      → AnalysisFits (total s) (answered (walk unmarked R is (begin s log))) (answered (walk unmarked S is (begin s log)))
+  walked-fits is s log start h = by (walk unmarked R is (begin s log)) refl h
     where
-      by : (w : WalkEnd) → walk R is (begin s log) ≡ w → AnalysisFits (total s) (answered w) (answered (walk S is (begin s log)))
+      by : (w : WalkEnd Item) → walk unmarked R is (begin s log) ≡ w → AnalysisFits (total s) (answered w) (answered (walk unmarked S is (begin s log)))
       by (passed t) e h =
           ⊎-elim (λ g. inl (ap answered g))
           (λ f. inr (record {
@@ -276,7 +276,7 @@ module _ (R S : Rules) (covers : Covers R S) where
 
   -- of decoded code, from any stacks within the limit
   pub code-fits : (code : Code) (s : Stacks Item) (log : List ℕ) → total s ≤ S .limit
-      → AnalysisFits (total s) (analysisOf R code s log) (analysisOf S code s log)
+      → AnalysisFits (total s) (analysisOf unmarked R code s log) (analysisOf unmarked S code s log)
   unfolding analysisOf
   code-fits code s log start = by (malformedAt code)
     where
@@ -284,12 +284,12 @@ module _ (R S : Rules) (covers : Covers R S) where
       is = instructions code
 
       lent : (b : Bool) → AnalysisFits (total s)
-          (pick b (answered (walk R is (begin s log))) (refusedEarly 0 (shortLog (3 * length is) (length log)) log))
-          (pick b (answered (walk S is (begin s log))) (refusedEarly 0 (shortLog (3 * length is) (length log)) log))
+          (pick b (answered (walk unmarked R is (begin s log))) (refusedEarly 0 (shortLog (3 * length is) (length log)) log))
+          (pick b (answered (walk unmarked S is (begin s log))) (refusedEarly 0 (shortLog (3 * length is) (length log)) log))
       lent true h = walked-fits is s log start h
       lent false h = absurd (omega (arith, h))
 
-      by : (o : Option ℕ) → AnalysisFits (total s) (tested R o is s log) (tested S o is s log)
+      by : (o : Option ℕ) → AnalysisFits (total s) (tested unmarked R o is s log) (tested unmarked S o is s log)
       by (some offset) h = absurd (omega (arith, h))
       by none h = lent (leb (3 * length is) (length log)) h
 
@@ -305,12 +305,12 @@ module _ (R S : Rules) (covers : Covers R S) where
       started : total s ≡ main + alt
       started = simp length-replicate refl
 
-      peaked : analysisOf R (decode fragment) s log .verdict .answer .number ≡ 0 → total s ≤ analysisOf R (decode fragment) s log .verdict .peak
-      peaked h = ofCode R (λ m. total s ≤ m .verdict .peak) (decode fragment) s log (λ t l e. peak-grows R t (instructions (decode fragment)) (begin s log) e) h
+      peaked : analysisOf unmarked R (decode fragment) s log .verdict .answer .number ≡ 0 → total s ≤ analysisOf unmarked R (decode fragment) s log .verdict .peak
+      peaked h = ofCode R (λ m. total s ≤ m .verdict .peak) (decode fragment) s log (λ t l e. peak-grows unmarked R t (instructions (decode fragment)) (begin s log) e) h
 
       large : (b c : Bool) → ltb (R .limit) (main + alt) ≡ b → ltb (S .limit) (main + alt) ≡ c → AnalysisFits (main + alt)
-          (pick b (refusedEarly 0 (startTooLarge (main + alt) (R .limit)) log) (analysisOf R (decode fragment) s log))
-          (pick c (refusedEarly 0 (startTooLarge (main + alt) (S .limit)) log) (analysisOf S (decode fragment) s log))
+          (pick b (refusedEarly 0 (startTooLarge (main + alt) (R .limit)) log) (analysisOf unmarked R (decode fragment) s log))
+          (pick c (refusedEarly 0 (startTooLarge (main + alt) (S .limit)) log) (analysisOf unmarked S (decode fragment) s log))
       large true c e f h = absurd (omega (arith, h))
       large false true e f h =
           let over = ltb-true (S .limit) (main + alt) f in
@@ -320,13 +320,13 @@ module _ (R S : Rules) (covers : Covers R S) where
             overPeak = λ p. omega (arith, over, peaked h, started);
           })
       large false false e f h =
-          subst (λ n. AnalysisFits n (analysisOf R (decode fragment) s log) (analysisOf S (decode fragment) s log)) started
+          subst (λ n. AnalysisFits n (analysisOf unmarked R (decode fragment) s log) (analysisOf unmarked S (decode fragment) s log)) started
           (code-fits (decode fragment) s log (omega (arith, ltb-false (S .limit) (main + alt) f, started))) h
 
       long : (b : Bool) → AnalysisFits (main + alt)
           (pick b (refusedEarly 0 (longFragment (length fragment)) log)
-          (pick (ltb (R .limit) (main + alt)) (refusedEarly 0 (startTooLarge (main + alt) (R .limit)) log) (analysisOf R (decode fragment) s log)))
+          (pick (ltb (R .limit) (main + alt)) (refusedEarly 0 (startTooLarge (main + alt) (R .limit)) log) (analysisOf unmarked R (decode fragment) s log)))
           (pick b (refusedEarly 0 (longFragment (length fragment)) log)
-          (pick (ltb (S .limit) (main + alt)) (refusedEarly 0 (startTooLarge (main + alt) (S .limit)) log) (analysisOf S (decode fragment) s log)))
+          (pick (ltb (S .limit) (main + alt)) (refusedEarly 0 (startTooLarge (main + alt) (S .limit)) log) (analysisOf unmarked S (decode fragment) s log)))
       long true h = absurd (omega (arith, h))
       long false h = large (ltb (R .limit) (main + alt)) (ltb (S .limit) (main + alt)) refl refl h

@@ -12,7 +12,7 @@ use lib.ListN.{length, take, drop}
 use Rattle.definition.specs.Basics.{Bytes, pick}
 use Rattle.definition.specs.Refusals.{maxPaper, longPaper, badHeader, dispatchTooLarge}
 use Rattle.definition.specs.Stacks.{Rules}
-use Rattle.definition.specs.Walk.{dead, Verdict, Marked, analysis}
+use Rattle.definition.specs.Walk.{Item, dead, Verdict, Marked, analysis}
 use Rattle.definition.specs.Papers.{Entry, entriesAt, entryCount, stateFields, initialiser, entries, goodHeader, Fragment, bytesOf, bodyFragments, mostParameters, stateFragments, fragments, PaperMarked, refusedPaper, after, markFrom, dispatch, markPaper}
 use Rattle.definition.specs.Allows.{Allows, Follows}
 use Rattle.definition.proofs.Sound.{and-true}
@@ -42,7 +42,7 @@ module _ (R : Rules) where
   from-grows k rows peak [] log h = omega arith
   from-grows k rows peak (f ∷ fs) log h = by _ (λ rows p log. from-grows (k + 1) rows p fs log) (eqb (v .answer .number) 0) refl h
     where
-      v : Verdict
+      v : Verdict Item
       v = analysis R (f .bytes) (f .main) (f .alt) (drop (3 * rows) log) .verdict
 
       by : (out : List ℕ) → ((rows p : ℕ) (log : List ℕ) → Grows p (markFrom R (k + 1) rows p fs log)) → (b : Bool) → eqb (v .answer .number) 0 ≡ b
@@ -57,7 +57,7 @@ module _ (R : Rules) where
 
 -- on from the answer for fragment k by these rules, as `markFrom` goes
 module _ (k rows peak : ℕ) (fs : List Fragment) (log : List ℕ) where
-  unfoldable pub next : Rules → Marked → Bool → PaperMarked
+  unfoldable pub next : Rules → Marked Item → Bool → PaperMarked
   next T a b =
       pick b (after (a .verdict) (markFrom T (k + 1) (rows + a .verdict .rows) (max peak (a .verdict .peak)) fs (take (3 * rows) log ++ a .log)))
       (record {
@@ -73,7 +73,7 @@ module _ (R S : Rules) (covers : Covers R S) where
       → (n ≡ m) ⊎ (ShortFrom (R .limit) (S .limit) (AllModest R) Starts (m .paper .verdict .peak) n)
 
   module _ (k rows peak : ℕ) (fs : List Fragment) (log : List ℕ) where
-    module _ (start : ℕ) (Starts : Type 0) (m n : Marked) (fits : AnalysisFits R S covers start m n)
+    module _ (start : ℕ) (Starts : Type 0) (m n : Marked Item) (fits : AnalysisFits R S covers start m n)
         (onward : (rows p : ℕ) (log : List ℕ) → FromFits Starts (markFrom R (k + 1) rows p fs log) (markFrom S (k + 1) rows p fs log)) where
       abbrev NextFits : PaperMarked → Type 0
       NextFits q = (q ≡ next k rows peak fs log R m true) ⊎ (ShortFrom (R .limit) (S .limit) (AllModest R) ((start ≤ S .limit) × Starts) (next k rows peak fs log R m true .paper .verdict .peak) q)

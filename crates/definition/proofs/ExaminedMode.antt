@@ -18,7 +18,7 @@ use Rattle.definition.specs.Decoding.{Instruction, decode, instructions,
 use Rattle.definition.specs.Classes.{Class, IF, NOTIF, ELSE, ENDIF, RETURN, ordinary, plain, Ordinary, unmodelled, push, nothing, TOALT, FROMALT, DEPTH, SIZE, NIP, TUCK, PICK, ROLL, ZK, copies, rotates}
 use Rattle.definition.specs.Refusals.{maxFragment, maxElement, maxPaper, longFragment, longElement, startTooLarge, shortLog, longPaper, badHeader, dispatchTooLarge}
 use Rattle.definition.specs.Stacks.{Rules, Stacks, refused, total, pushItem, step}
-use Rattle.definition.specs.Walk.{Item, known, marking, Arm, dead, live, Frame, Move, moves, refuses, onOutcome, effect, State, met, onward, WalkEnd, passed, stopped, follow, walk, Marked, refusedEarly, answered, begin, tested, analysisOf, unknowns, analysis}
+use Rattle.definition.specs.Walk.{unmarked, Item, known, marking, Arm, dead, live, Frame, Move, moves, refuses, onOutcome, effect, State, met, onward, WalkEnd, passed, stopped, follow, walk, Marked, refusedEarly, answered, begin, tested, analysisOf, unknowns, analysis}
 use Rattle.definition.specs.Papers.{Entry, stateFields, entries, goodHeader, Fragment, fragments, PaperMarked, refusedPaper, markFrom, dispatch, markPaper, after}
 use Rattle.definition.specs.Maps.{rulesOf, analysisWith, markPaperWith}
 use Rattle.definition.specs.Examined.{plainAt, examinedAt, LongPushAt, ReachesLong, SomeReachesLong, ExaminedAs, Examining}
@@ -73,15 +73,15 @@ module _ (classFor : ℕ → Class) (limit : ℕ) where
   Long i k = (k ≡ ordinary push) × (maxElement < length (i .literal))
 
   -- what it does in both modes: the same, or, in a live arm, 30
-  data Moved (i : Instruction) (k : Class) (c : Arm) : Move → Move → Type 0 where
-    sameMove : (m : Move) → (Long i k → Alive c → ⊥) → Moved i k c m m
-    longMove : (m : Move) → Long i k → Alive c → Moved i k c m (refuses (longElement (length (i .literal))))
+  data Moved (i : Instruction) (k : Class) (c : Arm Item) : Move Item → Move Item → Type 0 where
+    sameMove : (m : Move Item) → (Long i k → Alive c → ⊥) → Moved i k c m m
+    longMove : (m : Move Item) → Long i k → Alive c → Moved i k c m (refuses (longElement (length (i .literal))))
 
-  no-push : (i : Instruction) (k : Class) → isPush k ≡ 0 → (c : Arm) → Long i k → Alive c → ⊥
+  no-push : (i : Instruction) (k : Class) → isPush k ≡ 0 → (c : Arm Item) → Long i k → Alive c → ⊥
   unfolding isPush
   no-push i k z c l a = omega (arith, z, ap isPush (l .0))
 
-  effect-moved : (i : Instruction) (k : Class) (c : Arm) (fs : List Frame) → Moved i k c (effect R i k c fs) (effect S i k c fs)
+  effect-moved : (i : Instruction) (k : Class) (c : Arm Item) (fs : List (Frame Item)) → Moved i k c (effect unmarked R i k c fs) (effect unmarked S i k c fs)
   unfolding step isPush
   effect-moved i IF c fs = sameMove _ (no-push i IF refl c)
   effect-moved i NOTIF c fs = sameMove _ (no-push i NOTIF refl c)
@@ -117,39 +117,39 @@ module _ (classFor : ℕ → Class) (limit : ℕ) where
   -- The walk
 
   -- the examined walk stops with 30
-  abbrev StopsLong : WalkEnd → Type 0
-  StopsLong w = (n : ℕ) × (u : State) × (w ≡ stopped (longElement n) u)
+  abbrev StopsLong : WalkEnd Item → Type 0
+  StopsLong w = (n : ℕ) × (u : State Item) × (w ≡ stopped (longElement n) u)
 
   -- in the arms of this walk, the long push at place j is live
-  abbrev LiveLong : List Instruction → Arm → List Frame → ℕ → Type 0
-  LiveLong is c fs j = (LongPushAt R is j) × (Alive (armAt R is c fs j))
+  abbrev LiveLong : List Instruction → Arm Item → List (Frame Item) → ℕ → Type 0
+  LiveLong is c fs j = (LongPushAt R is j) × (Alive (armAt unmarked R is c fs j))
 
   -- no long push is live and the walk is that of plain mode, or one is and it stops there
-  abbrev WalkExamined : List Instruction → Arm → List Frame → State → WalkEnd → Type 0
+  abbrev WalkExamined : List Instruction → Arm Item → List (Frame Item) → State Item → WalkEnd Item → Type 0
   WalkExamined is c fs t w = ((w ≡ passed t) × ((j : ℕ) → LiveLong is c fs j → ⊥)) ⊎ (((j : ℕ) × (LiveLong is c fs j)) × (StopsLong w))
 
   -- of an instruction with this move, and of those behind it
-  abbrev LiveFrom : Instruction → List Instruction → Arm → Move → ℕ → Type 0
+  abbrev LiveFrom : Instruction → List Instruction → Arm Item → Move Item → ℕ → Type 0
   LiveFrom i is c mv zero = (Long i (classFor (i .opcode))) × (Alive c)
-  LiveFrom i is c mv (suc j) = (LongPushAt R is j) × (Alive (Arms.after mv (λ c fs. armAt R is c fs j)))
+  LiveFrom i is c mv (suc j) = (LongPushAt R is j) × (Alive (Arms.after mv (λ c fs. armAt unmarked R is c fs j)))
 
-  abbrev MoveExamined : Instruction → List Instruction → Arm → Move → State → WalkEnd → Type 0
+  abbrev MoveExamined : Instruction → List Instruction → Arm Item → Move Item → State Item → WalkEnd Item → Type 0
   MoveExamined i is c mv t w = ((w ≡ passed t) × ((j : ℕ) → LiveFrom i is c mv j → ⊥)) ⊎ (((j : ℕ) × (LiveFrom i is c mv j)) × (StopsLong w))
 
-  module _ (i : Instruction) (is : List Instruction) (c : Arm) (fs : List Frame) where
-    live-from : (j : ℕ) → LiveLong (i ∷ is) c fs j → LiveFrom i is c (effect R i (classFor (i .opcode)) c fs) j
+  module _ (i : Instruction) (is : List Instruction) (c : Arm Item) (fs : List (Frame Item)) where
+    live-from : (j : ℕ) → LiveLong (i ∷ is) c fs j → LiveFrom i is c (effect unmarked R i (classFor (i .opcode)) c fs) j
     live-from zero h = h
     live-from (suc j) h = h
 
-    from-live : (j : ℕ) → LiveFrom i is c (effect R i (classFor (i .opcode)) c fs) j → LiveLong (i ∷ is) c fs j
+    from-live : (j : ℕ) → LiveFrom i is c (effect unmarked R i (classFor (i .opcode)) c fs) j → LiveLong (i ∷ is) c fs j
     from-live zero h = h
     from-live (suc j) h = h
 
-  module _ (t : State) where
-    moved : (i : Instruction) (is : List Instruction) (s : State) (c : Arm) (fs : List Frame) {mv nv : Move}
-        → Moved i (classFor (i .opcode)) (s .arm) mv nv → mv ≡ moves c fs → WalkExamined is c fs t (walk S is (onward c fs (met i s)))
-        → MoveExamined i is (s .arm) mv t (follow nv (met i s) (λ u. walk S is u))
-    moved i is s c fs (sameMove mv never) e w = subst (λ mv. MoveExamined i is (s .arm) mv t (follow mv (met i s) (λ u. walk S is u))) (sym e) (⊎-elim
+  module _ (t : State Item) where
+    moved : (i : Instruction) (is : List Instruction) (s : State Item) (c : Arm Item) (fs : List (Frame Item)) {mv nv : Move Item}
+        → Moved i (classFor (i .opcode)) (s .arm) mv nv → mv ≡ moves c fs → WalkExamined is c fs t (walk unmarked S is (onward c fs (met i s)))
+        → MoveExamined i is (s .arm) mv t (follow nv (met i s) (λ u. walk unmarked S is u))
+    moved i is s c fs (sameMove mv never) e w = subst (λ mv. MoveExamined i is (s .arm) mv t (follow mv (met i s) (λ u. walk unmarked S is u))) (sym e) (⊎-elim
         (λ q. inl (q .0, λ j. none (q .1) j)) (λ q. inr ((suc (q .0 .0), q .0 .1), q .1)) w)
       where
         none : ((j : ℕ) → LiveLong is c fs j → ⊥) → (j : ℕ) → LiveFrom i is (s .arm) (moves c fs) j → ⊥
@@ -157,10 +157,10 @@ module _ (classFor : ℕ → Class) (limit : ℕ) where
         none f (suc j) h = f j h
     moved i is s c fs (longMove mv l a) e w = inr ((0, (l, a)), (length (i .literal), met i s, refl))
 
-    walk-examined : (is : List Instruction) (s : State) → walk R is s ≡ passed t → WalkExamined is (s .arm) (s .frames) t (walk S is s)
+    walk-examined : (is : List Instruction) (s : State Item) → walk unmarked R is s ≡ passed t → WalkExamined is (s .arm) (s .frames) t (walk unmarked S is s)
     unfolding walk
     walk-examined [] s h = inl (h, λ j l. l .0)
-    walk-examined (i ∷ is) s h = goes-on R t i is s h (λ c fs e g. ⊎-elim
+    walk-examined (i ∷ is) s h = goes-on unmarked R t i is s h (λ c fs e g. ⊎-elim
         (λ q. inl (q .0, λ j l. q .1 j (live-from i is (s .arm) (s .frames) j l)))
         (λ q. inr ((q .0 .0, from-live i is (s .arm) (s .frames) (q .0 .0) (q .0 .1)), q .1))
         (moved i is s c fs (effect-moved i (classFor (i .opcode)) (s .arm) (s .frames)) e (walk-examined is (onward c fs (met i s)) g)))
@@ -173,11 +173,11 @@ module _ (classFor : ℕ → Class) (limit : ℕ) where
 
   module _ (small : limit < 65535) where
     walked-examined : (is : List Instruction) (s : Stacks Item) (log : List ℕ) → total s ≤ limit → ExactBytes s → 3 * length is ≤ length log
-        → Examined (ReachesLong R is s) (λ m. m .verdict .answer .number) (answered (walk R is (begin s log))) (answered (walk S is (begin s log)))
-    walked-examined is s log start exacts enough h = by (walk R is (begin s log)) refl h
+        → Examined (ReachesLong R is s) (λ m. m .verdict .answer .number) (answered (walk unmarked R is (begin s log))) (answered (walk unmarked S is (begin s log)))
+    walked-examined is s log start exacts enough h = by (walk unmarked R is (begin s log)) refl h
       where
-        by : (w : WalkEnd) → walk R is (begin s log) ≡ w
-            → Examined (ReachesLong R is s) (λ m. m .verdict .answer .number) (answered w) (answered (walk S is (begin s log)))
+        by : (w : WalkEnd Item) → walk unmarked R is (begin s log) ≡ w
+            → Examined (ReachesLong R is s) (λ m. m .verdict .answer .number) (answered w) (answered (walk unmarked S is (begin s log)))
         by (passed t) e h = ⊎-elim
             (λ q. inl (ap answered (q .0), λ r. q .1 (r .0) (r .1, reached-alive R is s log t small start exacts enough e (r .0) (r .2))))
             (λ q. inr (
@@ -199,30 +199,30 @@ module _ (classFor : ℕ → Class) (limit : ℕ) where
         s : Stacks Item
         s = unknowns main alt
 
-        Both : Marked → Marked → Type 0
+        Both : Marked Item → Marked Item → Type 0
         Both m n = Examined (ReachesLong R is s) (λ m. m .verdict .answer .number) m n
 
         lent : main + alt ≤ limit → (b : Bool) → leb (3 * length is) (length log) ≡ b → Both
-            (pick b (answered (walk R is (begin s log))) (refusedEarly 0 (shortLog (3 * length is) (length log)) log))
-            (pick b (answered (walk S is (begin s log))) (refusedEarly 0 (shortLog (3 * length is) (length log)) log))
+            (pick b (answered (walk unmarked R is (begin s log))) (refusedEarly 0 (shortLog (3 * length is) (length log)) log))
+            (pick b (answered (walk unmarked S is (begin s log))) (refusedEarly 0 (shortLog (3 * length is) (length log)) log))
         lent l true e h = walked-examined is s log (simp length-replicate l) (unknown-exacts main alt) (leb-true (3 * length is) (length log) e) h
         lent l false e h = absurd (omega (arith, h))
 
-        whole : main + alt ≤ limit → (o : Option ℕ) → Both (tested R o is s log) (tested S o is s log)
+        whole : main + alt ≤ limit → (o : Option ℕ) → Both (tested unmarked R o is s log) (tested unmarked S o is s log)
         whole l (some offset) h = absurd (omega (arith, h))
         whole l none h = lent l (leb (3 * length is) (length log)) refl h
 
         large : (b : Bool) → ltb limit (main + alt) ≡ b → Both
-            (pick b (refusedEarly 0 (startTooLarge (main + alt) limit) log) (tested R (malformedAt (decode fragment)) is s log))
-            (pick b (refusedEarly 0 (startTooLarge (main + alt) limit) log) (tested S (malformedAt (decode fragment)) is s log))
+            (pick b (refusedEarly 0 (startTooLarge (main + alt) limit) log) (tested unmarked R (malformedAt (decode fragment)) is s log))
+            (pick b (refusedEarly 0 (startTooLarge (main + alt) limit) log) (tested unmarked S (malformedAt (decode fragment)) is s log))
         large true e h = absurd (omega (arith, h))
         large false e h = whole (ltb-false limit (main + alt) e) (malformedAt (decode fragment)) h
 
         long : (b : Bool) → Both
             (pick b (refusedEarly 0 (longFragment (length fragment)) log)
-            (pick (ltb limit (main + alt)) (refusedEarly 0 (startTooLarge (main + alt) limit) log) (tested R (malformedAt (decode fragment)) is s log)))
+            (pick (ltb limit (main + alt)) (refusedEarly 0 (startTooLarge (main + alt) limit) log) (tested unmarked R (malformedAt (decode fragment)) is s log)))
             (pick b (refusedEarly 0 (longFragment (length fragment)) log)
-            (pick (ltb limit (main + alt)) (refusedEarly 0 (startTooLarge (main + alt) limit) log) (tested S (malformedAt (decode fragment)) is s log)))
+            (pick (ltb limit (main + alt)) (refusedEarly 0 (startTooLarge (main + alt) limit) log) (tested unmarked S (malformedAt (decode fragment)) is s log)))
         long true h = absurd (omega (arith, h))
         long false h = large (ltb limit (main + alt)) refl h
 
@@ -231,7 +231,7 @@ module _ (classFor : ℕ → Class) (limit : ℕ) where
     abbrev paperNumber : PaperMarked → ℕ
     paperNumber m = m .paper .verdict .answer .number
 
-    module _ (k rows peak : ℕ) (fs : List Fragment) (log : List ℕ) (Here : Type 0) (m n : Marked)
+    module _ (k rows peak : ℕ) (fs : List Fragment) (log : List ℕ) (Here : Type 0) (m n : Marked Item)
         (fits : Examined Here (λ m. m .verdict .answer .number) m n)
         (onward : (rows p : ℕ) (log : List ℕ) → Examined (SomeReachesLong R fs) paperNumber (markFrom R (k + 1) rows p fs log) (markFrom S (k + 1) rows p fs log)) where
       abbrev NextExamined : PaperMarked → Type 0
@@ -323,7 +323,7 @@ examining map limit = record {
       let b = acceptedIsGood map (plainAt limit) fragment main alt log h in
       let here = analysis-good map (plainAt limit) fragment main alt log (b .0) (b .1) in
       let there = analysis-good map (examinedAt limit) fragment main alt log (b .0) (b .1) in
-      rw (here, there) (as-said (λ (m : Marked). m .verdict .answer .number) _ _ (rw here at h)
+      rw (here, there) (as-said (λ (m : Marked Item). m .verdict .answer .number) _ _ (rw here at h)
       (analysis-examined _ limit (omega (arith, limit-within limit (b .1) .1)) fragment main alt log (rw here at h)));
   papers = λ paper log h.
       let b = acceptedPaperIsGood map (plainAt limit) paper log h in

@@ -10,7 +10,7 @@ use Rattle.definition.specs.Classes.{classNumber, classOf}
 use Rattle.definition.specs.Refusals.{accepted, answer}
 use Rattle.definition.specs.Stacks.{Rules, builtIn, pushItem, dropItems, copyItems, step, plainStep}
 use Rattle.definition.specs.Walk.{dead, joinStacks, logRow, walk, analysisOf, analysis}
-use Rattle.definition.specs.Replay.{Trace, visit, offEnd, faulted, replayFrom, wholeReplay}
+use Rattle.definition.specs.Replay.{byBytes, Trace, visit, offEnd, faulted, replayFrom, wholeReplay}
 use Rattle.definition.specs.Maps.{goodMap, analysisWith, markPaperWith, builtInMap}
 use Rattle.definition.specs.Papers.{goodHeader, fragments, markFrom, dispatch, markPaper}
 use Rattle.definition.specs.Examined.{plainAt, examinedAt}
@@ -54,11 +54,11 @@ examinedRules = record { classFor = classOf; limit = 244; examined = true }
 
 -- a replay faults on the same push, and runs off the end in plain mode; with an item of 521 bytes it does not fault on SIZE, on a
 -- copy or on a result
-pub replays : (wholeReplay examinedRules (instructions (decode tooLong)) (record { stacks = record { main = []; alt = [] }; choices = []; results = [] })
+pub replays : (wholeReplay byBytes examinedRules (instructions (decode tooLong)) (record { stacks = record { main = []; alt = [] }; choices = []; results = [] })
     ≡ visit 0 (record { main = []; alt = [] }) faulted)
-    × ((wholeReplay builtIn (instructions (decode tooLong)) (record { stacks = record { main = []; alt = [] }; choices = []; results = [] })
+    × ((wholeReplay byBytes builtIn (instructions (decode tooLong)) (record { stacks = record { main = []; alt = [] }; choices = []; results = [] })
     ≡ visit 0 (record { main = []; alt = [] }) (offEnd (record { main = replicate 521 0x07 ∷ []; alt = [] })))
-    × (wholeReplay examinedRules (instructions (decode (0x82 ∷ 0x78 ∷ 0x7e ∷ [])))
+    × (wholeReplay byBytes examinedRules (instructions (decode (0x82 ∷ 0x78 ∷ 0x7e ∷ [])))
     (record { stacks = record { main = replicate 521 0x07 ∷ []; alt = [] }; choices = []; results = replicate 522 0x07 ∷ [] })
     ≡ visit 0 (record { main = replicate 521 0x07 ∷ []; alt = [] })
     (visit 1 (record { main = (0x09 ∷ 0x02 ∷ []) ∷ replicate 521 0x07 ∷ []; alt = [] })

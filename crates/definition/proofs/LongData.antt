@@ -15,7 +15,7 @@ use Rattle.definition.specs.Decoding.{Instruction, number, Code, decode,
 use Rattle.definition.specs.Classes.{Class, IF, NOTIF, ELSE, ENDIF, RETURN, ordinary, plain, Ordinary, unmodelled, push, nothing, TOALT, FROMALT, DEPTH, SIZE, NIP, TUCK, PICK, ROLL, ZK, copies, rotates}
 use Rattle.definition.specs.Refusals.{unmodelledOpcode, longElement, maxElement}
 use Rattle.definition.specs.Stacks.{Rules, Stacks, refused, pushItem, step}
-use Rattle.definition.specs.Walk.{Item, unknown, known, marking, Arm, dead, live, Frame, Move, moves, refuses, onOutcome, effect, State, met, WalkEnd, follow, walk, begin, tested, analysisOf, unknowns, analysis}
+use Rattle.definition.specs.Walk.{unmarked, Item, unknown, known, marking, Arm, dead, live, Frame, Move, moves, refuses, onOutcome, effect, State, met, WalkEnd, follow, walk, begin, tested, analysisOf, unknowns, analysis}
 use Rattle.definition.specs.Papers.{field, Entry, entriesAt, entryCount, stateFields, initialiser, entries, headerSize, bodies, goodHeader, Fragment, bodyFragments, stateFragments, fragments, markFrom, dispatch, markPaper}
 use Rattle.definition.specs.Blank.{long, AlikeInstructions, AlikeCode, bothEnd, bothMalformed, bothThen, Alike, EachPart, RelatedPapers, TellsNothing}
 use Rattle.definition.proofs.TrueOfPaper.{within-front}
@@ -55,7 +55,7 @@ step-alike R i j a ZK s = refl
 step-alike R i j a (copies depth count) s = refl
 step-alike R i j a (rotates count shift) s = refl
 
-effect-alike : (R : Rules) (i j : Instruction) → AlikeInstructions i j → (k : Class) (c : Arm) (fs : List Frame) → effect R i k c fs ≡ effect R j k c fs
+effect-alike : (R : Rules) (i j : Instruction) → AlikeInstructions i j → (k : Class) (c : Arm Item) (fs : List (Frame Item)) → effect unmarked R i k c fs ≡ effect unmarked R j k c fs
 effect-alike R i j a IF c fs = refl
 effect-alike R i j a NOTIF c fs = refl
 effect-alike R i j a ELSE c [] = refl
@@ -70,17 +70,17 @@ effect-alike R i j a (plain pops pushes) (live s) fs = refl
 
 -- The walk
 
-follow-alike : (m : Move) (s : State) (f g : State → WalkEnd) → ((t : State) → f t ≡ g t) → follow m s f ≡ follow m s g
+follow-alike : (m : Move Item) (s : State Item) (f g : State Item → WalkEnd Item) → ((t : State Item) → f t ≡ g t) → follow m s f ≡ follow m s g
 follow-alike (moves c fs) s f g e = e _
 follow-alike (refuses r) s f g e = refl
 
-pub walk-alike : (R : Rules) {c d : Code} → AlikeCode c d → (s : State) → walk R (instructions c) s ≡ walk R (instructions d) s
+pub walk-alike : (R : Rules) {c d : Code} → AlikeCode c d → (s : State Item) → walk unmarked R (instructions c) s ≡ walk unmarked R (instructions d) s
 unfolding walk
 walk-alike R bothEnd s = refl
 walk-alike R (bothMalformed offset) s = refl
 walk-alike R (bothThen {i = i} {j = j} {c = c} {d = d} a h) s =
-    ap (λ m. follow m (met i s) (λ t. walk R (instructions c) t)) (effect-alike R i j a (R .classFor (i .opcode)) (s .arm) (s .frames))
-    ∙ rw (a .opcode, a .offset) (follow-alike (effect R j (R .classFor (j .opcode)) (s .arm) (s .frames)) (met j s) _ _ (λ t. walk-alike R h t))
+    ap (λ m. follow m (met i s) (λ t. walk unmarked R (instructions c) t)) (effect-alike R i j a (R .classFor (i .opcode)) (s .arm) (s .frames))
+    ∙ rw (a .opcode, a .offset) (follow-alike (effect unmarked R j (R .classFor (j .opcode)) (s .arm) (s .frames)) (met j s) _ _ (λ t. walk-alike R h t))
 
 -- The analysis
 
@@ -96,11 +96,11 @@ count-alike (bothMalformed offset) = refl
 count-alike (bothThen a h) = ap suc (count-alike h)
 
 -- from any stacks
-pub code-alike : (R : Rules) (c d : Code) → AlikeCode c d → (s : Stacks Item) (log : List ℕ) → analysisOf R c s log ≡ analysisOf R d s log
+pub code-alike : (R : Rules) (c d : Code) → AlikeCode c d → (s : Stacks Item) (log : List ℕ) → analysisOf unmarked R c s log ≡ analysisOf unmarked R d s log
 unfolding analysisOf
 code-alike R c d h s log = rw (malformed-alike h) (from (malformedAt d))
   where
-    from : (m : Option ℕ) → tested R m (instructions c) s log ≡ tested R m (instructions d) s log
+    from : (m : Option ℕ) → tested unmarked R m (instructions c) s log ≡ tested unmarked R m (instructions d) s log
     from (some offset) = refl
     from none = rw (count-alike h, walk-alike R h (begin s log))
 

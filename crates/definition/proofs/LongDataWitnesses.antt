@@ -10,7 +10,7 @@ use Rattle.definition.specs.Decoding.{front, decode, serialize, deserial
 use Rattle.definition.specs.Classes.{classNumber, classOf}
 use Rattle.definition.specs.Refusals.{accepted, answer}
 use Rattle.definition.specs.Stacks.{builtIn, pushItem, dropItems, copyItems, step, plainStep}
-use Rattle.definition.specs.Walk.{live, dead, unknown, logRow, walk, analysisOf, Marked, analysis}
+use Rattle.definition.specs.Walk.{Item, live, dead, unknown, logRow, walk, analysisOf, Marked, analysis}
 use Rattle.definition.specs.Papers.{PaperMarked, goodHeader, fragments, markFrom, dispatch, markPaper}
 use Rattle.definition.specs.Blank.{blank, Blanked, bothMalformed, Alike, RelatedPapers}
 
@@ -26,7 +26,7 @@ unfolding blank
 signedBlank = refl
 
 -- it is accepted, as it is and blanked, with the same rows
-abbrev SignedMarked : Marked → Type 0
+abbrev SignedMarked : Marked Item → Type 0
 SignedMarked m = m ≡ record {
   verdict = record { answer = accepted; rows = 3; peak = 2; end = live (record { main = unknown ∷ []; alt = [] }) };
   log = 0 ∷ 0 ∷ 0 ∷ 65 ∷ 1 ∷ 0 ∷ 98 ∷ 2 ∷ 0 ∷ [];

@@ -10,7 +10,7 @@ use Rattle.definition.specs.Decoding.{front, decode, serialize, deserial
 use Rattle.definition.specs.Classes.{classNumber, classOf}
 use Rattle.definition.specs.Refusals.{accepted, answer}
 use Rattle.definition.specs.Stacks.{builtIn, pushItem, dropItems, copyItems, step, plainStep}
-use Rattle.definition.specs.Walk.{live, dead, joinStacks, logRow, walk, analysisOf, analysis, unknowns, Verdict}
+use Rattle.definition.specs.Walk.{Item, live, dead, joinStacks, logRow, walk, analysisOf, analysis, unknowns, Verdict}
 use Rattle.definition.specs.Papers.{goodHeader, fragments, markFrom, dispatch, markPaper}
 use Rattle.definition.specs.Maps.{Options, goodMap, analysisWith, markPaperWith, builtInMap}
 use Rattle.definition.proofs.MarkedPapers.{samplePaper}
@@ -24,7 +24,7 @@ abbrev at : ℕ → Options
 at limit = record { limit = limit; examined = false }
 
 -- an accepted verdict that ends with so many unknown items on main and none on alt
-abbrev accepts : ℕ → ℕ → ℕ → Verdict
+abbrev accepts : ℕ → ℕ → ℕ → Verdict Item
 accepts rows peak main = record { answer = accepted; rows = rows; peak = peak; end = live (unknowns main 0) }
 
 -- several codes may be IF, or none: ff is IF too, and no code is ELSE

@@ -8,7 +8,7 @@ use Rattle.definition.specs.Basics.{Bytes}
 use Rattle.definition.specs.Decoding.{front, decode, serialize, deserialize}
 use Rattle.definition.specs.Classes.{classNumber, classOf}
 use Rattle.definition.specs.Stacks.{builtIn, pushItem, dropItems, copyItems, rotateItems, tuckTop, nipSecond, moveToAlt, moveFromAlt, step, plainStep}
-use Rattle.definition.specs.Walk.{Arm, dead, live, Verdict, joinStacks, logRow, walk, analysisOf, analysis}
+use Rattle.definition.specs.Walk.{Item, Arm, dead, live, Verdict, joinStacks, logRow, walk, analysisOf, analysis}
 use Rattle.definition.specs.Papers.{PaperMarked, goodHeader, fragments, markFrom, dispatch, markPaper}
 
 -- a marked paper: a fragment, its start heights, and what is to be said of it
@@ -22,11 +22,11 @@ abbrev pub paper : Bytes → ℕ → ℕ → List ℕ → Paper
 paper fragment main alt says = record { fragment = fragment; main = main; alt = alt; says = says }
 
 -- how a verdict is written down here: number, offset, two figures; where it is accepted, the peak, and the end heights or none
-abbrev ending : Arm → List ℕ
+abbrev ending : Arm Item → List ℕ
 ending dead = []
 ending (live s) = length (s .main) ∷ length (s .alt) ∷ []
 
-abbrev written : Verdict → List ℕ
+abbrev written : Verdict Item → List ℕ
 written v = v .answer .number ∷ v .answer .offset ∷ v .answer .first ∷ v .answer .second ∷ v .peak ∷ ending (v .end)
 
 abbrev pub accepts : ℕ → List ℕ → List ℕ

@@ -14,7 +14,7 @@ use Rattle.definition.specs.Basics.{Bytes, pick}
 use Rattle.definition.specs.Classes.{Class, ordinary, unmodelled, classes}
 use Rattle.definition.specs.Refusals.{maxPaper, longPaper, badHeader, dispatchTooLarge}
 use Rattle.definition.specs.Stacks.{Rules}
-use Rattle.definition.specs.Walk.{dead, Verdict, Marked, analysis}
+use Rattle.definition.specs.Walk.{Item, dead, Verdict, Marked, analysis}
 use Rattle.definition.specs.Papers.{Entry, stateFields, entries, goodHeader, Fragment, fragments, PaperMarked, refusedPaper, after, markFrom, dispatch, markPaper}
 use Rattle.definition.specs.Allows.{keeps, Follows}
 use Rattle.definition.specs.Maps.{Options, goodLimit, rowsOf, rulesOf, analysisWith, markPaperWith, Raised, Raises}
@@ -83,7 +83,7 @@ module _ (R : Rules) (small : R .limit < 65535) where
   from-within k rows peak [] log p h = p
   from-within k rows peak (f ∷ fs) log p h = by _ (λ rows q log l. from-within (k + 1) rows q fs log l) (eqb (v .answer .number) 0) refl h
     where
-      v : Verdict
+      v : Verdict Item
       v = analysis R (f .bytes) (f .main) (f .alt) (drop (3 * rows) log) .verdict
 
       by : (out : List ℕ) → ((rows q : ℕ) (log : List ℕ) → q ≤ R .limit → PeakWithin (markFrom R (k + 1) rows q fs log)) → (b : Bool) → eqb (v .answer .number) 0 ≡ b
@@ -130,7 +130,7 @@ module _ (R : Rules) (small : R .limit < 65535) where
         long false h = header (goodHeader paper) h
 
 -- accepted exactly when the limit is at least the peak, and otherwise 2 or 6
-pub record ExactlyAt (limit peak : ℕ) (m : Marked) : Type 0 where
+pub record ExactlyAt (limit peak : ℕ) (m : Marked Item) : Type 0 where
   pub exactly : (m .verdict .answer .number ≡ 0) ↔ (peak ≤ limit)
   pub otherwise : (limit < peak) → (m .verdict .answer .number ≡ 2) ⊎ (m .verdict .answer .number ≡ 6)
 

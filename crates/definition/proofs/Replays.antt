@@ -8,7 +8,7 @@ use Rattle.definition.specs.Basics.{Bytes}
 use Rattle.definition.specs.Decoding.{front, decode, serialize, deserialize, instructions}
 use Rattle.definition.specs.Classes.{classNumber, classOf}
 use Rattle.definition.specs.Stacks.{builtIn, pushItem, dropItems, copyItems, rotateItems, tuckTop, nipSecond, moveToAlt, moveFromAlt, step, plainStep}
-use Rattle.definition.specs.Replay.{Trace, visit, offEnd, returned, faulted, replayFrom, wholeReplay}
+use Rattle.definition.specs.Replay.{byBytes, Trace, visit, offEnd, returned, faulted, replayFrom, wholeReplay}
 
 -- a fragment, the start items of main (top first), the choices, the given byte strings
 pub record Run : Type 0 where
@@ -21,14 +21,14 @@ abbrev run : Bytes → List Bytes → List Bool → List Bytes → Run
 run fragment main choices results = record { fragment = fragment; main = main; choices = choices; results = results }
 
 -- the places reached, each a list of one number; then 100 (off the end), 101 (RETURN) or 102 (a fault); then main
-abbrev told : Trace → List Bytes
+abbrev told : Trace Bytes → List Bytes
 told (visit k s t) = (k ∷ []) ∷ told t
 told (offEnd s) = (100 ∷ []) ∷ s .main
 told (returned s) = (101 ∷ []) ∷ s .main
 told faulted = (102 ∷ []) ∷ []
 
 abbrev ran : Run → List Bytes
-ran r = told (wholeReplay builtIn (instructions (decode (r .fragment))) (record { stacks = record { main = r .main; alt = [] }; choices = r .choices; results = r .results }))
+ran r = told (wholeReplay byBytes builtIn (instructions (decode (r .fragment))) (record { stacks = record { main = r .main; alt = [] }; choices = r .choices; results = r .results }))
 
 pub runs : List Run
 runs =

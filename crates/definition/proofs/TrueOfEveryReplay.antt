@@ -14,28 +14,28 @@ use Rattle.definition.specs.Basics.{Bytes, pick}
 use Rattle.definition.specs.Decoding.{Instruction, Code, decode, instructions, malformedAt}
 use Rattle.definition.specs.Refusals.{Refusal, malformedFragment, nesting, altDry, badIndex, badTag, armsDiffer, strayElse, secondElse, strayEndif, openIf, badHeader, tallyFull, badSitting, crookedNumber, negativeIndex, strangeWord, outputShort, badMap, badLimit, longFragment, unmodelledOpcode, opcodeCount, scriptSize, longPaper, longElement, startTooLarge, shortLog, stacksFull, mainDry, dispatchTooLarge, maxFragment, refusedAt}
 use Rattle.definition.specs.Stacks.{Rules, builtIn, Stacks, total, stackHeights}
-use Rattle.definition.specs.Walk.{Item, unknown, Arm, dead, live, heightsOf, State, totalOf, WalkEnd, passed, stopped, walk, Marked, refusedEarly, answered, begin, tested, analysisOf, unknowns, analysis}
-use Rattle.definition.specs.Replay.{Replay, running, Trace, visit, offEnd, returned, faulted, replayFrom, wholeReplay, ReachedAt, RunsOffWith, HasTotal, TotalsWithin, ShowsArm, AreStrings, ReplayOf, EveryReplay, SomeReplay, heightsAt, LiveRow, SomeReplayReaches, Demand3, TrueOfEveryReplay}
+use Rattle.definition.specs.Walk.{unmarked, Item, unknown, Arm, dead, live, heightsOf, State, totalOf, WalkEnd, passed, stopped, walk, Marked, refusedEarly, answered, begin, tested, analysisOf, unknowns, analysis}
+use Rattle.definition.specs.Replay.{byBytes, Replay, running, Trace, visit, offEnd, returned, faulted, replayFrom, wholeReplay, ReachedAt, RunsOffWith, HasTotal, TotalsWithin, ShowsArm, AreStrings, ReplayOf, EveryReplay, SomeReplay, heightsAt, LiveRow, SomeReplayReaches, Demand3, TrueOfEveryReplay}
 use Rattle.definition.proofs.Related.{pairedStacks, shownStacks, paired-length, paired-total}
 use Rattle.definition.proofs.Arms.{Accepts, armAt, Alive, mainHeight, altHeight, both-heights, Row, Tops, accepts, end-at, log-length, row-at, peak-over, peak-at}
-use Rattle.definition.proofs.Sound.{LiveAs, Good, sound, good-faults, good-reaches, good-runsOff, good-total, stays-within}
+use Rattle.definition.proofs.Sound.{shows-simulates, LiveAs, Good, sound, good-faults, good-reaches, good-runsOff, good-total, stays-within}
 use Rattle.definition.proofs.Complete.{stringsFor, ExactBytes, comes}
 
 -- A live arm
 
-live-heights : (c : Arm) (u : Stacks Bytes) → LiveAs c u → (heightsOf c ≡ stackHeights u) × (totalOf c ≡ total u)
+live-heights : (c : Arm Item) (u : Stacks Bytes) → LiveAs shows-simulates c u → (heightsOf c ≡ stackHeights u) × (totalOf c ≡ total u)
 live-heights dead u h = absurd h
 live-heights (live s) u h = (rw (paired-length (h .main), paired-length (h .alt)), paired-total h)
 
-live-shows : (c : Arm) (u : Stacks Bytes) → LiveAs c u → ShowsArm c u
+live-shows : (c : Arm Item) (u : Stacks Bytes) → LiveAs shows-simulates c u → ShowsArm c u
 live-shows dead u h = h
 live-shows (live s) u h = shownStacks h
 
-live-alive : (c : Arm) (u : Stacks Bytes) → LiveAs c u → Alive c
+live-alive : (c : Arm Item) (u : Stacks Bytes) → LiveAs shows-simulates c u → Alive c
 live-alive dead u h = h
 live-alive (live s) u h = tt
 
-dead-or-alive : (c : Arm) → (c ≡ dead) ⊎ (Alive c)
+dead-or-alive : (c : Arm Item) → (c ≡ dead) ⊎ (Alive c)
 dead-or-alive dead = inl refl
 dead-or-alive (live s) = inr tt
 
@@ -55,71 +55,71 @@ heights-there log k h = two-at log (3 * k + 1) (3 * k + 2) (omega arith) h
 two-same : (a b c d : ℕ) → (a ∷ b ∷ []) ≡ (c ∷ d ∷ []) → (a ≡ c) × (b ≡ d)
 two-same a b c d e = (ap (λ (l : List ℕ). getD l 0 0) e, ap (λ (l : List ℕ). getD l 1 0) e)
 
-row-heights : (log : List ℕ) (k : ℕ) (c : Arm) → 3 * k + 2 < length log → Row log k c → heightsAt k log ≡ heightsOf c
+row-heights : (log : List ℕ) (k : ℕ) (c : Arm Item) → 3 * k + 2 < length log → Row log k c → heightsAt k log ≡ heightsOf c
 row-heights log k c h r = rw (heights-there log k h, r .0, r .1) (sym (both-heights c))
 
-logged-alive : (log : List ℕ) (k : ℕ) (c : Arm) → heightsAt k log ≡ heightsOf c → LiveRow k log → Alive c
+logged-alive : (log : List ℕ) (k : ℕ) (c : Arm Item) → heightsAt k log ≡ heightsOf c → LiveRow k log → Alive c
 logged-alive log k dead h n = absurd (n h)
 logged-alive log k (live s) h n = tt
 
 -- A running replay reaches the next instruction, or runs off the end; either way its total is counted.
 
-reaches-total : (k : ℕ) (u : Stacks Bytes) (t : Trace) → ReachedAt k u t → HasTotal (total u) t
+reaches-total : (k : ℕ) (u : Stacks Bytes) (t : Trace Bytes) → ReachedAt k u t → HasTotal (total u) t
 reaches-total k u (visit j v t) h = ⊎-elim (λ e. inl (ap (λ (w : Stacks Bytes). total w) (e .1))) (λ l. inr (reaches-total k u t l)) h
 reaches-total k u (offEnd v) h = absurd h
 reaches-total k u (returned v) h = absurd h
 reaches-total k u faulted h = absurd h
 
-module _ (R : Rules) (k : ℕ) (r : Replay) where
-  first-reached : (is : List Instruction) → 0 < length is → ReachedAt k (r .stacks) (replayFrom R is k running r)
+module _ (R : Rules) (k : ℕ) (r : Replay Bytes) where
+  first-reached : (is : List Instruction) → 0 < length is → ReachedAt k (r .stacks) (replayFrom byBytes R is k running r)
   unfolding replayFrom
   first-reached [] h = absurd (omega arith)
   first-reached (i ∷ is) h = inl (refl, refl)
 
-  nothing-left : (is : List Instruction) → length is ≡ 0 → RunsOffWith (r .stacks) (replayFrom R is k running r)
+  nothing-left : (is : List Instruction) → length is ≡ 0 → RunsOffWith (r .stacks) (replayFrom byBytes R is k running r)
   unfolding replayFrom
   nothing-left [] h = refl
   nothing-left (i ∷ is) h = absurd (omega arith)
 
-  total-here : (is : List Instruction) → HasTotal (total (r .stacks)) (replayFrom R is k running r)
+  total-here : (is : List Instruction) → HasTotal (total (r .stacks)) (replayFrom byBytes R is k running r)
   unfolding replayFrom
   total-here [] = refl
   total-here (i ∷ is) = inl refl
 
 -- The general form, of an accepted walk. The log's numbers have 16 bits, and 65,535 says dead: so the limit is below it.
 
-module _ (R : Rules) (is : List Instruction) (s : Stacks Item) (log : List ℕ) (t : State) (small : R .limit < 65535)
-    (start : total s ≤ R .limit) (exacts : ExactBytes s) (enough : 3 * length is ≤ length log) (accepted : walk R is (begin s log) ≡ passed t) where
+module _ (R : Rules) (is : List Instruction) (s : Stacks Item) (log : List ℕ) (t : State Item) (small : R .limit < 65535)
+    (start : total s ≤ R .limit) (exacts : ExactBytes s) (enough : 3 * length is ≤ length log) (accepted : walk unmarked R is (begin s log) ≡ passed t) where
   -- the marker's arm at each place, and past the last instruction
-  abbrev A : ℕ → Arm
-  A j = armAt R is (live s) [] j
+  abbrev A : ℕ → Arm Item
+  A j = armAt unmarked R is (live s) [] j
 
-  moves-on : Accepts R is (live s) []
-  moves-on = accepts R t is (begin s log) accepted
+  moves-on : Accepts unmarked R is (live s) []
+  moves-on = accepts unmarked R t is (begin s log) accepted
 
   -- every replay follows these arms
-  follows : (r : Replay) → ReplayOf is s r → Good R A (length is) (wholeReplay R is r)
-  follows r p = sound R A (length is) is 0 (live s) [] running r (λ j. let e : 0 + j ≡ j = omega arith in ap A e) (omega arith) moves-on (pairedStacks (p .start))
+  follows : (r : Replay Bytes) → ReplayOf is s r → Good shows-simulates R A (length is) (wholeReplay byBytes R is r)
+  follows r p = sound shows-simulates R A (length is) is 0 (live s) [] running r (λ j. let e : 0 + j ≡ j = omega arith in ap A e) (omega arith) moves-on (pairedStacks (p .start))
 
   -- and the log tells of them
   row : (k : ℕ) → k < length is → heightsAt k (t .log) ≡ heightsOf (A k)
   row k h =
-      row-heights (t .log) k (A k) (omega (arith, log-length R t is (begin s log) accepted))
-      (subst (λ j. Row (t .log) j (A k)) (omega arith) (row-at R t is (begin s log) accepted (omega arith) k h))
+      row-heights (t .log) k (A k) (omega (arith, log-length unmarked R t is (begin s log) accepted))
+      (subst (λ j. Row (t .log) j (A k)) (omega arith) (row-at unmarked R t is (begin s log) accepted (omega arith) k h))
 
   -- withinLimit
   within : EveryReplay R is s (λ z. TotalsWithin (R .limit) z)
-  within r p n h = stays-within R n is 0 running r (rw (← paired-total (pairedStacks (p .start))) start) h
+  within r p n h = stays-within shows-simulates R n is 0 running r (rw (← paired-total (pairedStacks (p .start))) start) h
 
   -- heights
   logged : EveryReplay R is s (λ z. (k : ℕ) (u : Stacks Bytes) → ReachedAt k u z → heightsAt k (t .log) ≡ stackHeights u)
   logged r p k u h =
-      let g = good-reaches R A (length is) (wholeReplay R is r) (follows r p) k u h in
+      let g = good-reaches shows-simulates R A (length is) (wholeReplay byBytes R is r) (follows r p) k u h in
       row k (g .0) ∙ live-heights (A k) u (g .1) .0
 
   -- ending
-  end-live : EveryReplay R is s (λ z. (u : Stacks Bytes) → RunsOffWith u z → LiveAs (t .arm) u)
-  end-live r p u h = subst (λ c. LiveAs c u) (sym (end-at R t is (begin s log) accepted)) (good-runsOff R A (length is) (wholeReplay R is r) (follows r p) u h)
+  end-live : EveryReplay R is s (λ z. (u : Stacks Bytes) → RunsOffWith u z → LiveAs shows-simulates (t .arm) u)
+  end-live r p u h = subst (λ c. LiveAs shows-simulates c u) (sym (end-at unmarked R t is (begin s log) accepted)) (good-runsOff shows-simulates R A (length is) (wholeReplay byBytes R is r) (follows r p) u h)
 
   -- where the arm before an instruction is live, some replay reaches it, and only there
   pub alive-reached : (k : ℕ) → k < length is → Alive (A k) → SomeReplayReaches R is s k
@@ -130,7 +130,7 @@ module _ (R : Rules) (is : List Instruction) (s : Stacks Item) (log : List ℕ) 
   pub reached-alive : (k : ℕ) → SomeReplayReaches R is s k → Alive (A k)
   reached-alive k q =
       let u = q .2 in
-      live-alive (A k) (u .0) (good-reaches R A (length is) (wholeReplay R is (q .0)) (follows (q .0) (q .1)) k (u .0) (u .1) .1)
+      live-alive (A k) (u .0) (good-reaches shows-simulates R A (length is) (wholeReplay byBytes R is (q .0)) (follows (q .0) (q .1)) k (u .0) (u .1) .1)
 
   -- liveness: a row that is not dead is reached ..
   reached : (k : ℕ) → k < length is → LiveRow k (t .log) → SomeReplayReaches R is s k
@@ -141,26 +141,26 @@ module _ (R : Rules) (is : List Instruction) (s : Stacks Item) (log : List ℕ) 
   not-dead k q d =
       let u = q .2 in
       let e = logged (q .0) (q .1) k (u .0) (u .1) in
-      let l = within (q .0) (q .1) (total (u .0)) (reaches-total k (u .0) (wholeReplay R is (q .0)) (u .1)) in
+      let l = within (q .0) (q .1) (total (u .0)) (reaches-total k (u .0) (wholeReplay byBytes R is (q .0)) (u .1)) in
       omega (arith, two-same _ _ _ _ (sym e ∙ d) .0)
 
   -- noEnd: where the end is live, some replay runs off the end
   runs-off : Alive (t .arm) → EveryReplay R is s (λ z. (u : Stacks Bytes) → RunsOffWith u z → ⊥) → ⊥
   runs-off a f =
-      let c = comes R is s exacts moves-on (length is) (subst Alive (end-at R t is (begin s log) accepted) a) (λ z. (u : Stacks Bytes) × (RunsOffWith u z)) (λ j v z q. q)
+      let c = comes R is s exacts moves-on (length is) (subst Alive (end-at unmarked R t is (begin s log) accepted) a) (λ z. (u : Stacks Bytes) × (RunsOffWith u z)) (λ j v z q. q)
       (λ r l. (r .stacks, nothing-left R (length is) r (drop (length is) is) (rw length-drop (omega arith)))) in
       f (c .0) (c .1) (c .2 .0) (c .2 .1)
 
   -- the peak is the total of some live arm
   peak-place : (j : ℕ) × (Tops (t .peak) (A j))
-  peak-place = ⊎-elim (λ e. (0, (tt, e))) (λ q. (q .0, q .2)) (peak-at R t is (begin s log) accepted)
+  peak-place = ⊎-elim (λ e. (0, (tt, e))) (λ q. (q .0, q .2)) (peak-at unmarked R t is (begin s log) accepted)
 
   -- peakBounds
   bounded : EveryReplay R is s (λ z. TotalsWithin (t .peak) z)
   bounded r p n h =
-      let g = good-total R A (length is) (wholeReplay R is r) (follows r p) n h in
+      let g = good-total shows-simulates R A (length is) (wholeReplay byBytes R is r) (follows r p) n h in
       let e = live-heights (A (g .0)) (g .1) (g .3) in
-      let q = peak-over R t is (begin s log) accepted (omega arith) (g .0) (g .2) in
+      let q = peak-over unmarked R t is (begin s log) accepted (omega arith) (g .0) (g .2) in
       omega (arith, e .1, g .4)
 
   -- peakReached: a replay comes to that arm's place, and there its total is counted
@@ -168,17 +168,17 @@ module _ (R : Rules) (is : List Instruction) (s : Stacks Item) (log : List ℕ) 
   peaked =
       let p = peak-place in
       comes R is s exacts moves-on (p .0) (p .1 .0) (λ z. HasTotal (t .peak) z) (λ j v z q. inr q)
-      (λ r l. subst (λ n. HasTotal n (replayFrom R (drop (p .0) is) (p .0) running r)) (sym (live-heights (A (p .0)) (r .stacks) l .1) ∙ sym (p .1 .1))
+      (λ r l. subst (λ n. HasTotal n (replayFrom byBytes R (drop (p .0) is) (p .0) running r)) (sym (live-heights (A (p .0)) (r .stacks) l .1) ∙ sym (p .1 .1))
       (total-here R (p .0) r (drop (p .0) is)))
 
   pub trueOfWalk : Demand3 R is s (answered (passed t))
   trueOfWalk = record {
-    noFault = λ r p h. good-faults R A (length is) (wholeReplay R is r) (follows r p) h;
+    noFault = λ r p h. good-faults shows-simulates R A (length is) (wholeReplay byBytes R is r) (follows r p) h;
     withinLimit = within;
     heights = logged;
     ending = λ r p u h. live-shows (t .arm) u (end-live r p u h);
     liveness = λ k lt. (reached k lt, not-dead k);
-    noEnd = ((λ e r p u h. subst (λ c. LiveAs c u) e (end-live r p u h)), (λ f. ⊎-elim (λ e. e) (λ a. absurd (runs-off a f)) (dead-or-alive (t .arm))));
+    noEnd = ((λ e r p u h. subst (λ c. LiveAs shows-simulates c u) e (end-live r p u h)), (λ f. ⊎-elim (λ e. e) (λ a. absurd (runs-off a f)) (dead-or-alive (t .arm))));
     peakBounds = bounded;
     peakReached = peaked;
   }
@@ -219,47 +219,47 @@ refused-number at (mainDry n m) h = omega (arith, h)
 refused-number at (dispatchTooLarge n m) h = omega (arith, h)
 
 -- what holds wherever the walk passes with room in the log holds of an accepted analysis
-module _ (R : Rules) (P : Marked → Type 0) where
+module _ (R : Rules) (P : Marked Item → Type 0) where
   pub ofCode : (code : Code) (s : Stacks Item) (log : List ℕ)
-      → ((t : State) → 3 * length (instructions code) ≤ length log → walk R (instructions code) (begin s log) ≡ passed t
+      → ((t : State Item) → 3 * length (instructions code) ≤ length log → walk unmarked R (instructions code) (begin s log) ≡ passed t
       → P (answered (passed t)))
-      → analysisOf R code s log .verdict .answer .number ≡ 0 → P (analysisOf R code s log)
+      → analysisOf unmarked R code s log .verdict .answer .number ≡ 0 → P (analysisOf unmarked R code s log)
   unfolding analysisOf
   ofCode code s log f h = whole (malformedAt code) h
     where
       is : List Instruction
       is = instructions code
 
-      ended : 3 * length is ≤ length log → (w : WalkEnd) → walk R is (begin s log) ≡ w → answered w .verdict .answer .number ≡ 0
+      ended : 3 * length is ≤ length log → (w : WalkEnd Item) → walk unmarked R is (begin s log) ≡ w → answered w .verdict .answer .number ≡ 0
           → P (answered w)
       ended l (passed t) e h = f t l e
       ended l (stopped r t) e h = absurd (refused-number (t .offset) r h)
 
       lent : (b : Bool) → leb (3 * length is) (length log) ≡ b
-          → pick b (answered (walk R is (begin s log))) (refusedEarly 0 (shortLog (3 * length is) (length log)) log) .verdict .answer .number ≡ 0
-          → P (pick b (answered (walk R is (begin s log))) (refusedEarly 0 (shortLog (3 * length is) (length log)) log))
-      lent true e h = ended (leb-true (3 * length is) (length log) e) (walk R is (begin s log)) refl h
+          → pick b (answered (walk unmarked R is (begin s log))) (refusedEarly 0 (shortLog (3 * length is) (length log)) log) .verdict .answer .number ≡ 0
+          → P (pick b (answered (walk unmarked R is (begin s log))) (refusedEarly 0 (shortLog (3 * length is) (length log)) log))
+      lent true e h = ended (leb-true (3 * length is) (length log) e) (walk unmarked R is (begin s log)) refl h
       lent false e h = absurd (omega (arith, h))
 
-      whole : (m : Option ℕ) → tested R m is s log .verdict .answer .number ≡ 0 → P (tested R m is s log)
+      whole : (m : Option ℕ) → tested unmarked R m is s log .verdict .answer .number ≡ 0 → P (tested unmarked R m is s log)
       whole (some offset) h = absurd (omega (arith, h))
       whole none h = lent (leb (3 * length is) (length log)) refl h
 
   pub ofAnalysis : (fragment : Bytes) (main alt : ℕ) (log : List ℕ)
-      → (main + alt ≤ R .limit → (t : State) → 3 * length (instructions (decode fragment)) ≤ length log
-      → walk R (instructions (decode fragment)) (begin (unknowns main alt) log) ≡ passed t → P (answered (passed t)))
+      → (main + alt ≤ R .limit → (t : State Item) → 3 * length (instructions (decode fragment)) ≤ length log
+      → walk unmarked R (instructions (decode fragment)) (begin (unknowns main alt) log) ≡ passed t → P (answered (passed t)))
       → analysis R fragment main alt log .verdict .answer .number ≡ 0 → P (analysis R fragment main alt log)
   unfolding analysis
   ofAnalysis fragment main alt log f h = long (ltb maxFragment (length fragment)) h
     where
       large : (b : Bool) → ltb (R .limit) (main + alt) ≡ b
-          → pick b (refusedEarly 0 (startTooLarge (main + alt) (R .limit)) log) (analysisOf R (decode fragment) (unknowns main alt) log) .verdict .answer .number ≡ 0
-          → P (pick b (refusedEarly 0 (startTooLarge (main + alt) (R .limit)) log) (analysisOf R (decode fragment) (unknowns main alt) log))
+          → pick b (refusedEarly 0 (startTooLarge (main + alt) (R .limit)) log) (analysisOf unmarked R (decode fragment) (unknowns main alt) log) .verdict .answer .number ≡ 0
+          → P (pick b (refusedEarly 0 (startTooLarge (main + alt) (R .limit)) log) (analysisOf unmarked R (decode fragment) (unknowns main alt) log))
       large true e h = absurd (omega (arith, h))
       large false e h = ofCode (decode fragment) (unknowns main alt) log (f (ltb-false (R .limit) (main + alt) e)) h
 
-      rest : Marked
-      rest = pick (ltb (R .limit) (main + alt)) (refusedEarly 0 (startTooLarge (main + alt) (R .limit)) log) (analysisOf R (decode fragment) (unknowns main alt) log)
+      rest : Marked Item
+      rest = pick (ltb (R .limit) (main + alt)) (refusedEarly 0 (startTooLarge (main + alt) (R .limit)) log) (analysisOf unmarked R (decode fragment) (unknowns main alt) log)
 
       long : (b : Bool) → pick b (refusedEarly 0 (longFragment (length fragment)) log) rest .verdict .answer .number ≡ 0
           → P (pick b (refusedEarly 0 (longFragment (length fragment)) log) rest)
@@ -276,7 +276,7 @@ unknown-exacts main alt = record { main = unknown-strings main; alt = unknown-st
 module _ (R : Rules) (small : R .limit < 65535) where
   -- of decoded code, from any stacks within the limit whose exact items are byte strings
   pub trueOfCode : (code : Code) (s : Stacks Item) (log : List ℕ) → total s ≤ R .limit → ExactBytes s
-      → analysisOf R code s log .verdict .answer .number ≡ 0 → Demand3 R (instructions code) s (analysisOf R code s log)
+      → analysisOf unmarked R code s log .verdict .answer .number ≡ 0 → Demand3 R (instructions code) s (analysisOf unmarked R code s log)
   trueOfCode code s log start exacts h =
       ofCode R (Demand3 R (instructions code) s) code s log
       (λ t l e. trueOfWalk R (instructions code) s log t small start exacts l e) h

@@ -14,8 +14,8 @@ use Rattle.definition.specs.Basics.{Bytes, pick}
 use Rattle.definition.specs.Decoding.{Instruction, decode, instructions}
 use Rattle.definition.specs.Refusals.{maxPaper, badHeader, dispatchTooLarge, longPaper}
 use Rattle.definition.specs.Stacks.{Rules, Stacks, builtIn}
-use Rattle.definition.specs.Walk.{Item, dead, Verdict, Marked, begin, unknowns, analysis}
-use Rattle.definition.specs.Replay.{Replay, Going, running, jumping, Carried, goesOn, halts, fails, carry, past, Trace, onCarried, replayFrom, ReachedAt, heightsAt, Demand3}
+use Rattle.definition.specs.Walk.{unmarked, Item, dead, Verdict, Marked, begin, unknowns, analysis}
+use Rattle.definition.specs.Replay.{byBytes, Replay, Going, running, jumping, Carried, goesOn, halts, fails, carry, past, Trace, onCarried, replayFrom, ReachedAt, heightsAt, Demand3}
 use Rattle.definition.specs.Papers.{Entry, Fragment, PaperMarked, after, markFrom, dispatch, refusedPaper, markPaper, goodHeader, stateFields, entries, fragments, EachTrue, TrueOfPaper}
 use Rattle.definition.proofs.Arms.{rows-all, log-length}
 use Rattle.definition.proofs.TrueOfEveryReplay.{ofAnalysis, trueOfAnalysis}
@@ -24,23 +24,23 @@ use Rattle.definition.proofs.TrueOfEveryReplay.{ofAnalysis, trueOfAnaly
 
 -- a replay reaches places below the number of instructions
 module _ (R : Rules) (k : ℕ) (u : Stacks Bytes) where
-  traced-below : (n : ℕ) (a : Carried) (s : Stacks Bytes) (next : Going → Replay → Trace)
-      → ((m : Going) (r : Replay) → ReachedAt k u (next m r) → k < n) → ReachedAt k u (onCarried a s next) → k < n
+  traced-below : (n : ℕ) (a : Carried Bytes) (s : Stacks Bytes) (next : Going → Replay Bytes → Trace Bytes)
+      → ((m : Going) (r : Replay Bytes) → ReachedAt k u (next m r) → k < n) → ReachedAt k u (onCarried a s next) → k < n
   traced-below n (goesOn m r) s next f h = f m r h
   traced-below n halts s next f h = absurd h
   traced-below n fails s next f h = absurd h
 
-  reached-below : (is : List Instruction) (j : ℕ) (m : Going) (r : Replay) → ReachedAt k u (replayFrom R is j m r) → k < j + length is
+  reached-below : (is : List Instruction) (j : ℕ) (m : Going) (r : Replay Bytes) → ReachedAt k u (replayFrom byBytes R is j m r) → k < j + length is
   unfolding replayFrom
   reached-below [] j m r h = absurd h
   reached-below (i ∷ is) j running r h =
       ⊎-elim (λ e. omega (arith, e .0))
-      (λ q. traced-below (j + suc (length is)) (carry R i (R .classFor (i .opcode)) r) (r .stacks) (λ m t. replayFrom R is (j + 1) m t)
+      (λ q. traced-below (j + suc (length is)) (carry byBytes R i (R .classFor (i .opcode)) r) (r .stacks) (λ m t. replayFrom byBytes R is (j + 1) m t)
       (λ m t g. omega (arith, reached-below is (j + 1) m t g)) q) h
   reached-below (i ∷ is) j (jumping toElse n) r h = omega (arith, reached-below is (j + 1) (past (R .classFor (i .opcode)) toElse n) r h)
 
 -- demand 3 holds of any log with the same heights for each instruction
-other-log : (R : Rules) (is : List Instruction) (s : Stacks Item) (m : Marked) (log : List ℕ)
+other-log : (R : Rules) (is : List Instruction) (s : Stacks Item) (m : Marked Item) (log : List ℕ)
     → ((k : ℕ) → k < length is → heightsAt k (m .log) ≡ heightsAt k log) → Demand3 R is s m
     → Demand3 R is s (record { verdict = m .verdict; log = log })
 other-log R is s m log e d = record {
@@ -57,7 +57,7 @@ other-log R is s m log e d = record {
 -- The rows of an accepted analysis
 
 -- one for every instruction, with room in the log, which keeps its length
-record Rows (is : List Instruction) (log : List ℕ) (m : Marked) : Type 0 where
+record Rows (is : List Instruction) (log : List ℕ) (m : Marked Item) : Type 0 where
   pub all : m .verdict .rows ≡ length is
   pub room : 3 * length is ≤ length log
   pub kept : length (m .log) ≡ length log
@@ -69,9 +69,9 @@ analysis-rows R fragment main alt log h =
     let is : List Instruction = instructions (decode fragment) in
     ofAnalysis R (Rows is log) fragment main alt log
     (λ start t l e. record {
-      all = rows-all R t is (begin (unknowns main alt) log) e ∙ omega arith;
+      all = rows-all unmarked R t is (begin (unknowns main alt) log) e ∙ omega arith;
       room = l;
-      kept = log-length R t is (begin (unknowns main alt) log) e;
+      kept = log-length unmarked R t is (begin (unknowns main alt) log) e;
     }) h
 
 -- The rows of a fragment in the paper's log
@@ -91,7 +91,7 @@ same-heights from n a b e k h = two a ∙ ap (λ l. take 2 (drop (from + (3 * k 
     two l = ap (λ r. take 2 r) (drop-drop (3 * k + 1) from l) ∙ sym (within-front (from + (3 * k + 1)) 2 n l (omega arith))
 
 -- a log with the rows before it as they were and then what the analysis left, and a last log that keeps all rows so far
-module _ (rows : ℕ) (log out : List ℕ) (is : List Instruction) (m : Marked) (lent : 3 * rows ≤ length log)
+module _ (rows : ℕ) (log out : List ℕ) (is : List Instruction) (m : Marked Item) (lent : 3 * rows ≤ length log)
     (r : Rows is (drop (3 * rows) log) m) (front : take (3 * rows) out ≡ take (3 * rows) log)
     (behind : drop (3 * rows) out ≡ m .log) where
   still-lent : 3 * (rows + m .verdict .rows) ≤ length out
@@ -131,10 +131,10 @@ module _ (R : Rules) (small : R .limit < 65535) where
       is : List Instruction
       is = instructions (decode (f .bytes))
 
-      m : Marked
+      m : Marked Item
       m = analysis R (f .bytes) (f .main) (f .alt) (drop (3 * rows) log)
 
-      v : Verdict
+      v : Verdict Item
       v = m .verdict
 
       rest : List ℕ → PaperMarked

@@ -12,7 +12,7 @@ use Rattle.definition.specs.Basics.{Bytes, pick}
 use Rattle.definition.specs.Decoding.{decode, instructions}
 use Rattle.definition.specs.Refusals.{Refusal, badMap, badLimit}
 use Rattle.definition.specs.Stacks.{Rules, builtIn}
-use Rattle.definition.specs.Walk.{Marked, refusedEarly, unknowns, analysis}
+use Rattle.definition.specs.Walk.{Item, Marked, refusedEarly, unknowns, analysis}
 use Rattle.definition.specs.Replay.{Demand3}
 use Rattle.definition.specs.Papers.{PaperMarked, refusedPaper, fragments, markPaper, EachTrue}
 use Rattle.definition.specs.Blank.{Blanked, Alike, TellsNothing}
@@ -43,7 +43,7 @@ byJudging {X = X} P map options stop next m l f = first (goodMap map) refl
     first false e = m
 
 module _ (map : Bytes) (options : Options) (fragment : Bytes) (main alt : ℕ) (log : List ℕ) where
-  pub ofAnalysisWith : (P : Marked → Type 0) → P (refusedEarly 0 badMap log) → P (refusedEarly 0 badLimit log)
+  pub ofAnalysisWith : (P : Marked Item → Type 0) → P (refusedEarly 0 badMap log) → P (refusedEarly 0 badLimit log)
       → (goodMap map ≡ true → goodLimit (options .limit) ≡ true → P (analysis (rulesOf map options) fragment main alt log))
       → P (analysisWith map options fragment main alt log)
   unfolding analysisWith

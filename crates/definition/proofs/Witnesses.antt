@@ -12,7 +12,7 @@ use Rattle.definition.specs.Classes.{classNumber, classOf}
 use Rattle.definition.specs.Refusals.{accepted, answer}
 use Rattle.definition.specs.Stacks.{builtIn, Stacks, pushItem, dropItems, copyItems, step, plainStep}
 use Rattle.definition.specs.Walk.{live, unknown, joinStacks, logRow, walk, analysisOf, unknowns, analysis}
-use Rattle.definition.specs.Replay.{Replay, visit, offEnd, returned, faulted, replayFrom, wholeReplay, EndsInFault, ShowsAll, ReplayOf, Demand3}
+use Rattle.definition.specs.Replay.{byBytes, Replay, visit, offEnd, returned, faulted, replayFrom, wholeReplay, EndsInFault, ShowsAll, ReplayOf, Demand3}
 use Rattle.definition.proofs.Complete.{no-bytes}
 use Rattle.definition.proofs.TrueOfEveryReplay.{trueOfEveryReplay}
 
@@ -21,7 +21,7 @@ abbrev on : {A : Type 0} → List A → Stacks A
 on l = record { main = l; alt = [] }
 
 -- from these items, with these choices, and a result without bytes for each of 14 instructions
-abbrev from : List Bytes → List Bool → Replay
+abbrev from : List Bytes → List Bool → Replay Bytes
 from l choices = record { stacks = on l; choices = choices; results = replicate 14 [] }
 
 -- 51 63 63 00 67 52 6a ff 68 67 75 00 68 79 from (2, 0): the first arm holds a conditional whose second arm returns
@@ -61,7 +61,7 @@ nestedReplay choices h = record {
 
 -- into both first arms: it meets each ELSE, and jumps past each ENDIF
 pub inner : (ReplayOf (instructions (decode nested)) (unknowns 2 0) (from items (replicate 14 true)))
-    × (wholeReplay builtIn (instructions (decode nested)) (from items (replicate 14 true))
+    × (wholeReplay byBytes builtIn (instructions (decode nested)) (from items (replicate 14 true))
     ≡ visit 0 (on items) (visit 1 (on ((1 ∷ []) ∷ items)) (visit 2 (on items) (visit 3 (on ((8 ∷ 9 ∷ []) ∷ []))
     (visit 4 (on ([] ∷ (8 ∷ 9 ∷ []) ∷ [])) (visit 9 (on ([] ∷ (8 ∷ 9 ∷ []) ∷ [])) (visit 13 (on ([] ∷ (8 ∷ 9 ∷ []) ∷ []))
     (offEnd (on ((8 ∷ 9 ∷ []) ∷ (8 ∷ 9 ∷ []) ∷ []))))))))))
@@ -70,7 +70,7 @@ inner = (nestedReplay (replicate 14 true) refl, refl)
 
 -- past the outer ELSE, over the inner conditional: it meets the outer ENDIF
 pub outer : (ReplayOf (instructions (decode nested)) (unknowns 2 0) (from items (false ∷ replicate 13 true)))
-    × (wholeReplay builtIn (instructions (decode nested)) (from items (false ∷ replicate 13 true))
+    × (wholeReplay byBytes builtIn (instructions (decode nested)) (from items (false ∷ replicate 13 true))
     ≡ visit 0 (on items) (visit 1 (on ((1 ∷ []) ∷ items)) (visit 10 (on items) (visit 11 (on ((8 ∷ 9 ∷ []) ∷ []))
     (visit 12 (on ([] ∷ (8 ∷ 9 ∷ []) ∷ [])) (visit 13 (on ([] ∷ (8 ∷ 9 ∷ []) ∷ []))
     (offEnd (on ((8 ∷ 9 ∷ []) ∷ (8 ∷ 9 ∷ []) ∷ [])))))))))
@@ -79,7 +79,7 @@ outer = (nestedReplay (false ∷ replicate 13 true) refl, refl)
 
 -- into the outer first arm and past the inner ELSE: it ends at RETURN
 pub returns : (ReplayOf (instructions (decode nested)) (unknowns 2 0) (from items (true ∷ false ∷ replicate 12 true)))
-    × (wholeReplay builtIn (instructions (decode nested)) (from items (true ∷ false ∷ replicate 12 true))
+    × (wholeReplay byBytes builtIn (instructions (decode nested)) (from items (true ∷ false ∷ replicate 12 true))
     ≡ visit 0 (on items) (visit 1 (on ((1 ∷ []) ∷ items)) (visit 2 (on items) (visit 5 (on ((8 ∷ 9 ∷ []) ∷ []))
     (visit 6 (on ((2 ∷ []) ∷ (8 ∷ 9 ∷ []) ∷ [])) (returned (on ((2 ∷ []) ∷ (8 ∷ 9 ∷ []) ∷ []))))))))
 unfolding nested replayFrom step plainStep pushItem dropItems copyItems classOf classNumber decode front serialize deserialize
@@ -95,7 +95,7 @@ dryMarked = refl
 
 -- and the replay that enters its arm faults there
 pub faulty : (ReplayOf (instructions (decode dry)) (unknowns 1 0) (from ([] ∷ []) (replicate 4 true)))
-    × (wholeReplay builtIn (instructions (decode dry)) (from ([] ∷ []) (replicate 4 true))
+    × (wholeReplay byBytes builtIn (instructions (decode dry)) (from ([] ∷ []) (replicate 4 true))
     ≡ visit 0 (on ([] ∷ [])) (visit 1 (on []) (visit 2 (on ((1 ∷ []) ∷ [])) faulted)))
 unfolding dry replayFrom step plainStep pushItem dropItems copyItems classOf classNumber decode front serialize deserialize
 faulty = (
@@ -120,7 +120,7 @@ cautiousMarked = refl
 
 -- .. and no replay of it faults: PICK finds its item at 1 and at 2
 picks : (main alt : List Bytes) (choices : List Bool) (results : List Bytes) → ShowsAll (replicate 3 unknown) main → ShowsAll [] alt
-    → EndsInFault (wholeReplay builtIn (instructions (decode cautious)) (record { stacks = record { main = main; alt = alt }; choices = choices; results = results })) → ⊥
+    → EndsInFault (wholeReplay byBytes builtIn (instructions (decode cautious)) (record { stacks = record { main = main; alt = alt }; choices = choices; results = results })) → ⊥
 unfolding cautious replayFrom step plainStep pushItem dropItems copyItems classOf classNumber decode front serialize deserialize
 picks [] alt choices results m a h = m
 picks (x ∷ []) alt choices results m a h = m .1
@@ -131,5 +131,5 @@ picks (x ∷ y ∷ z ∷ []) [] (false ∷ choices) results m a h = h
 picks (x ∷ y ∷ z ∷ []) (b ∷ alt) choices results m a h = a
 picks (x ∷ y ∷ z ∷ w ∷ l) alt choices results m a h = m .1 .1 .1
 
-pub noneFaults : (r : Replay) → ReplayOf (instructions (decode cautious)) (unknowns 3 0) r → EndsInFault (wholeReplay builtIn (instructions (decode cautious)) r) → ⊥
+pub noneFaults : (r : Replay Bytes) → ReplayOf (instructions (decode cautious)) (unknowns 3 0) r → EndsInFault (wholeReplay byBytes builtIn (instructions (decode cautious)) r) → ⊥
 noneFaults r p h = picks (r .stacks .main) (r .stacks .alt) (r .choices) (r .results) (p .start .main) (p .start .alt) h
