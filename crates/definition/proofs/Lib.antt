@@ -9,6 +9,7 @@ pub mod Related
 pub mod Arms
 pub mod Sound
 pub mod Complete
+pub mod Origins
 pub mod TrueOfEveryReplay
 pub mod TrueOfPaper
 pub mod LongData

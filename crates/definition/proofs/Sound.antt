@@ -33,7 +33,7 @@ same-bytes [] (b ∷ m) h = let z : false ≡ true = h in cc
 same-bytes (a ∷ l) [] h = let z : false ≡ true = h in cc
 same-bytes (a ∷ l) (b ∷ m) h = let e = and-true (eqb a b) (sameBytes l m) h in rw (eqb-true a b (e .0), same-bytes l m (e .1))
 
-joinItem-left : (x y : Item) (b : Bytes) → Shows x b → Shows (joinItem x y) b
+pub joinItem-left : (x y : Item) (b : Bytes) → Shows x b → Shows (joinItem x y) b
 joinItem-left unknown y b h = tt
 joinItem-left (exact l) unknown b h = tt
 joinItem-left (exact l) (exact m) b h = either (sameBytes l m)
@@ -42,7 +42,7 @@ joinItem-left (exact l) (exact m) b h = either (sameBytes l m)
     either true = h
     either false = tt
 
-joinItem-right : (x y : Item) (b : Bytes) → Shows y b → Shows (joinItem x y) b
+pub joinItem-right : (x y : Item) (b : Bytes) → Shows y b → Shows (joinItem x y) b
 joinItem-right unknown y b h = tt
 joinItem-right (exact l) unknown b h = tt
 joinItem-right (exact l) (exact m) b h = either (sameBytes l m) refl
