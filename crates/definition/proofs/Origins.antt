@@ -15,17 +15,13 @@ use Rattle.definition.specs.Stacks.{Rules, Stacks}
 use Rattle.definition.specs.Walk.{Item, unknown, exact, known, bytesKnown, Arm, dead, live, State, passed, walk, begin}
 use Rattle.definition.specs.Replay.{Shows, running, Replay, wholeReplay, RunsOffWith}
 use Rattle.definition.specs.Marks.{MarkedItem, marksAt, joinMarks, marked, startItem, startItems, Maker, start, instructionAt, Made, madeAt, byMakers, fromStart, Given, RunsOffGiven, MadeAs, EachMadeAs}
-use Rattle.definition.proofs.Related.{Paired, bottom, above, PairedStacks, Told, Makes, shows-known}
+use Rattle.definition.proofs.Related.{Paired, bottom, above, PairedStacks, shows-known, shows-bytes}
 use Rattle.definition.proofs.Arms.{Accepts, armAt, accepts, end-at}
 use Rattle.definition.proofs.Sound.{Simulates, joinItem-left, joinItem-right, LiveAs, Good, sound, good-runsOff}
 
 -- an item of the marker shows the bytes of a replay's item, and its mark their maker
 abbrev pub Tells : MarkedItem → Made → Type 0
 Tells x y = (Shows (x .item) (y .bytes)) × (MadeAs (x .mark) (y .maker))
-
-tells-bytes : (x : Item) (b : Bytes) → Shows x b → Told (bytesKnown x) (some b)
-tells-bytes unknown b r = tt
-tells-bytes (exact l) b r = rw r
 
 -- a joined mark tells what both sides' marks tell
 lost : (m : Maker) → MadeAs 65534 m
@@ -51,8 +47,8 @@ tells-simulates = record {
   makes = λ offset v. record {
     literal = λ l. (shows-known l, inl refl);
     result = (tt, inl refl);
-    measured = λ l. (tt, inl refl);
-    bytes = λ x y r. tells-bytes (x .item) (y .bytes) (r .0);
+    measured = λ x y l r e f. (tt, inl refl);
+    bytes = λ x y r. shows-bytes Made (x .item) (y .bytes) (r .0);
   };
   left = λ x y b r. (joinItem-left (x .item) (y .item) (b .bytes) (r .0), mark-left (x .mark) (y .mark) (b .maker) (r .1));
   right = λ x y b r. (joinItem-right (x .item) (y .item) (b .bytes) (r .0), mark-right (x .mark) (y .mark) (b .maker) (r .1));

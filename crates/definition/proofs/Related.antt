@@ -3,6 +3,7 @@
 -- those of a replay, of type B. Beside it, for items of any type, `step` keeps the stacks within the limit.
 use mathlib.Core.Bool.{Bool, true, false, _&&_}
 use mathlib.Core.List.{List, [], _∷_, _++_}
+use mathlib.Core.Logic.{_⊎_, inl, inr, ⊎-elim}
 use mathlib.Core.Option.{Option, none, some}
 use mathlib.Core.Path.{_≡_, refl, ap}
 use Prim.Native.Nat.{ℕ, zero, suc, _+_, _-_, _≤_}
@@ -28,23 +29,43 @@ pub record PairedStacks {A B : Type 0} (Rel : A → B → Type 0) (s : Stacks A)
   pub main : Paired Rel (s .main) (t .main)
   pub alt : Paired Rel (s .alt) (t .alt)
 
--- where the marker's outcome is done, the replay's is, and the stacks agree
-pub data Agree {A B : Type 0} (Rel : A → B → Type 0) : Outcome A → Outcome B → Type 0 where
-  agree : {s : Stacks A} {t : Stacks B} → PairedStacks Rel s t → Agree Rel (done s) (done t)
-  stops : {r : Refusal} {p : Outcome B} → Agree Rel (refused r) p
+-- Where the first outcome is done, the second is, and the stacks agree; where the first is a refusal, the second is as E says:
+-- anything, or the same refusal.
+pub data Agree {A B : Type 0} (Rel : A → B → Type 0) (E : Refusal → Outcome B → Type 0) : Outcome A → Outcome B → Type 0 where
+  agree : {s : Stacks A} {t : Stacks B} → PairedStacks Rel s t → Agree Rel E (done s) (done t)
+  stops : {r : Refusal} {p : Outcome B} → E r p → Agree Rel E (refused r) p
 
--- what the marker knows of an item's bytes the replay knows too
-abbrev pub Told : Option Bytes → Option Bytes → Type 0
-Told none q = Unit {0}
-Told (some l) q = q ≡ some l
+-- E takes the same refusal, and goes past what would follow
+pub record Refuses {B : Type 0} (E : Refusal → Outcome B → Type 0) : Type 0 where
+  pub same : (r : Refusal) → E r (refused r)
+  pub on : (r : Refusal) (p : Outcome B) (g : Stacks B → Outcome B) → E r p → E r (onDone p refused g)
+
+-- anything, and the same refusal
+abbrev pub Anything : {B : Type 0} → Refusal → Outcome B → Type 0
+Anything r p = Unit {0}
+
+abbrev pub TheSame : {B : Type 0} → Refusal → Outcome B → Type 0
+TheSame r p = p ≡ refused r
+
+pub anything : {B : Type 0} → Refuses {B = B} Anything
+anything = record { same = λ r. tt; on = λ r p g e. tt }
+
+pub the-same : {B : Type 0} → Refuses {B = B} TheSame
+the-same = record { same = λ r. refl; on = λ r p g e. ap (λ q. onDone q refused g) e }
+
+-- what is known of an item's bytes on the first side is known on the second; what is not known there may be known here only where a
+-- refusal says nothing
+abbrev pub Told : {B : Type 0} → (Refusal → Outcome B → Type 0) → Option Bytes → Option Bytes → Type 0
+Told {B = B} E none q = (q ≡ none) ⊎ ((r : Refusal) (p : Outcome B) → E r p)
+Told E (some l) q = q ≡ some l
 
 -- what an instruction makes, of the marker's items and of a replay's: the relation holds of a literal, of a result, and of the length
 -- of an item of which the marker knows nothing
-pub record Makes {A B : Type 0} (Rel : A → B → Type 0) (I : ItemOps A) (J : ItemOps B) : Type 0 where
+pub record Makes {A B : Type 0} (Rel : A → B → Type 0) (E : Refusal → Outcome B → Type 0) (I : ItemOps A) (J : ItemOps B) : Type 0 where
   pub literal : (l : Bytes) → Rel (I .fromBytes l) (J .fromBytes l)
   pub result : Rel (I .result) (J .result)
-  pub measured : (l : Bytes) → Rel (I .result) (J .fromBytes l)
-  pub bytes : (x : A) (b : B) → Rel x b → Told (I .toBytes x) (J .toBytes b)
+  pub measured : (x : A) (b : B) (l : Bytes) → Rel x b → I .toBytes x ≡ none → J .toBytes b ≡ some l → Rel (I .result) (J .fromBytes (serialize (plus (length l))))
+  pub bytes : (x : A) (b : B) → Rel x b → Told E (I .toBytes x) (J .toBytes b)
 
 module _ {A B : Type 0} {Rel : A → B → Type 0} where
   pub paired-length : {l : List A} {m : List B} → Paired Rel l m → length l ≡ length m
@@ -68,26 +89,27 @@ module _ {A B : Type 0} {Rel : A → B → Type 0} where
   pub paired-total : {s : Stacks A} {t : Stacks B} → PairedStacks Rel s t → total s ≡ total t
   paired-total h = rw (paired-length (h .main), paired-length (h .alt))
 
-  picks : (b : Bool) {o : Outcome A} {p : Outcome B} {o′ : Outcome A} {p′ : Outcome B} → Agree Rel o p → Agree Rel o′ p′ → Agree Rel (pick b o o′) (pick b p p′)
+module _ {A B : Type 0} {Rel : A → B → Type 0} {E : Refusal → Outcome B → Type 0} (refuses : Refuses E) where
+  picks : (b : Bool) {o : Outcome A} {p : Outcome B} {o′ : Outcome A} {p′ : Outcome B} → Agree Rel E o p → Agree Rel E o′ p′ → Agree Rel E (pick b o o′) (pick b p p′)
   picks true h g = h
   picks false h g = g
 
   module _ {s : Stacks A} {t : Stacks B} (h : PairedStacks Rel s t) where
-    needs-agrees : (k : ℕ) {o : Outcome A} {p : Outcome B} → Agree Rel o p → Agree Rel (needs k s o) (needs k t p)
-    needs-agrees k g = rw (paired-length (h .main)) (picks (leb k (length (t .main))) g stops)
+    needs-agrees : (k : ℕ) {o : Outcome A} {p : Outcome B} → Agree Rel E o p → Agree Rel E (needs k s o) (needs k t p)
+    needs-agrees k g = rw (paired-length (h .main)) (picks (leb k (length (t .main))) g (stops (refuses .same _)))
 
-    room-agrees : (limit k : ℕ) {o : Outcome A} {p : Outcome B} → Agree Rel o p → Agree Rel (room limit k s o) (room limit k t p)
-    room-agrees limit k g = rw (paired-length (h .main), paired-length (h .alt)) (picks (leb (total t + k) limit) g stops)
+    room-agrees : (limit k : ℕ) {o : Outcome A} {p : Outcome B} → Agree Rel E o p → Agree Rel E (room limit k s o) (room limit k t p)
+    room-agrees limit k g = rw (paired-length (h .main), paired-length (h .alt)) (picks (leb (total t + k) limit) g (stops (refuses .same _)))
 
-    pushItem-agrees : (limit : ℕ) (x : A) (b : B) → Rel x b → Agree Rel (pushItem limit x s) (pushItem limit b t)
+    pushItem-agrees : (limit : ℕ) (x : A) (b : B) → Rel x b → Agree Rel E (pushItem limit x s) (pushItem limit b t)
     unfolding pushItem
     pushItem-agrees limit x b r = room-agrees limit 1 (agree (record { main = above r (h .main); alt = h .alt }))
 
-    pub dropItems-agrees : (k : ℕ) → Agree Rel (dropItems k s) (dropItems k t)
+    pub dropItems-agrees : (k : ℕ) → Agree Rel E (dropItems k s) (dropItems k t)
     unfolding dropItems
     dropItems-agrees k = needs-agrees k (agree (record { main = paired-drop k (h .main); alt = h .alt }))
 
-    copyItems-agrees : (limit depth count : ℕ) → Agree Rel (copyItems limit depth count s) (copyItems limit depth count t)
+    copyItems-agrees : (limit depth count : ℕ) → Agree Rel E (copyItems limit depth count s) (copyItems limit depth count t)
     unfolding copyItems
     copyItems-agrees limit depth count =
         needs-agrees depth (room-agrees limit count (agree (record {
@@ -95,7 +117,7 @@ module _ {A B : Type 0} {Rel : A → B → Type 0} where
           alt = h .alt;
         })))
 
-    rotateItems-agrees : (count shift : ℕ) → Agree Rel (rotateItems count shift s) (rotateItems count shift t)
+    rotateItems-agrees : (count shift : ℕ) → Agree Rel E (rotateItems count shift s) (rotateItems count shift t)
     unfolding rotateItems
     rotateItems-agrees count shift = needs-agrees count (agree (record {
       main = paired-append (paired-append (paired-drop (count - shift) (paired-take count (h .main))) (paired-take (count - shift) (h .main)))
@@ -103,76 +125,79 @@ module _ {A B : Type 0} {Rel : A → B → Type 0} where
       alt = h .alt;
     }))
 
-    tuckTop-agrees : (limit : ℕ) → Agree Rel (tuckTop limit s) (tuckTop limit t)
+    tuckTop-agrees : (limit : ℕ) → Agree Rel E (tuckTop limit s) (tuckTop limit t)
     unfolding tuckTop
     tuckTop-agrees limit = needs-agrees 1 (needs-agrees 2 (room-agrees limit 1 (agree (record {
       main = paired-append (paired-append (paired-take 2 (h .main)) (paired-take 1 (h .main))) (paired-drop 2 (h .main));
       alt = h .alt;
     }))))
 
-    nipSecond-agrees : Agree Rel (nipSecond s) (nipSecond t)
+    nipSecond-agrees : Agree Rel E (nipSecond s) (nipSecond t)
     unfolding nipSecond
     nipSecond-agrees = needs-agrees 2 (agree (record { main = paired-append (paired-take 1 (h .main)) (paired-drop 2 (h .main)); alt = h .alt }))
 
-    moveToAlt-agrees : Agree Rel (moveToAlt s) (moveToAlt t)
+    moveToAlt-agrees : Agree Rel E (moveToAlt s) (moveToAlt t)
     unfolding moveToAlt
     moveToAlt-agrees = needs-agrees 1 (agree (record { main = paired-drop 1 (h .main); alt = paired-append (paired-take 1 (h .main)) (h .alt) }))
 
-    moveFromAlt-agrees : Agree Rel (moveFromAlt s) (moveFromAlt t)
+    moveFromAlt-agrees : Agree Rel E (moveFromAlt s) (moveFromAlt t)
     unfolding moveFromAlt
     moveFromAlt-agrees = rw (paired-length (h .alt)) (picks (leb 1 (length (t .alt))) (agree (record {
       main = paired-append (paired-take 1 (h .alt)) (h .main);
       alt = paired-drop 1 (h .alt);
-    })) stops)
+    })) (stops (refuses .same _)))
 
   -- Operations one after the other
 
   onDone-agrees : {o : Outcome A} {p : Outcome B} (f : Stacks A → Outcome A) (g : Stacks B → Outcome B)
-      → Agree Rel o p → ((s : Stacks A) (t : Stacks B) → PairedStacks Rel s t → Agree Rel (f s) (g t)) → Agree Rel (onDone o refused f) (onDone p refused g)
+      → Agree Rel E o p → ((s : Stacks A) (t : Stacks B) → PairedStacks Rel s t → Agree Rel E (f s) (g t)) → Agree Rel E (onDone o refused f) (onDone p refused g)
   onDone-agrees f g (agree h) n = n _ _ h
-  onDone-agrees f g stops n = stops
+  onDone-agrees f g (stops {r = r} {p = p} e) n = stops (refuses .on r p g e)
 
   popFrom-agrees : {l : List A} {m : List B} {a : List A} {c : List B} (f : A → Stacks A → Outcome A) (g : B → Stacks B → Outcome B)
-      → Paired Rel l m → Paired Rel a c → ((x : A) (b : B) (s : Stacks A) (t : Stacks B) → Rel x b → PairedStacks Rel s t → Agree Rel (f x s) (g b t))
-      → Agree Rel (popFrom l a f) (popFrom m c g)
-  popFrom-agrees f g bottom k n = stops
+      → Paired Rel l m → Paired Rel a c → ((x : A) (b : B) (s : Stacks A) (t : Stacks B) → Rel x b → PairedStacks Rel s t → Agree Rel E (f x s) (g b t))
+      → Agree Rel E (popFrom l a f) (popFrom m c g)
+  popFrom-agrees f g bottom k n = (stops (refuses .same _))
   popFrom-agrees f g (above {x = x} {b = b} r h) k n = n x b _ _ r (record { main = h; alt = k })
 
-  module _ {I : ItemOps A} {J : ItemOps B} (makes : Makes Rel I J) where
+  module _ {I : ItemOps A} {J : ItemOps B} (makes : Makes Rel E I J) where
     -- an index that the marker reads is the one that the replay reads
-    readable-agrees : (p q : Option Bytes) → Told p q → (f : ℕ → Outcome A) (g : ℕ → Outcome B) → ((n : ℕ) → Agree Rel (f n) (g n))
-        → Agree Rel (readable I (indexOf p) f) (readable J (indexOf q) g)
-    readable-agrees none q r f g n = stops
+    readable-agrees : (p q : Option Bytes) → Told E p q → (f : ℕ → Outcome A) (g : ℕ → Outcome B) → ((n : ℕ) → Agree Rel E (f n) (g n))
+        → Agree Rel E (readable I (indexOf p) f) (readable J (indexOf q) g)
+    readable-agrees none q r f g n = ⊎-elim (λ e. rw e (stops (refuses .same _))) (λ lax. stops (lax _ _)) r
     readable-agrees (some l) q r f g n = rw r (same (indexOf (some l)))
       where
-        same : (i : Index) → Agree Rel (readable I i f) (readable J i g)
-        same notKnown = stops
-        same noNumber = stops
-        same negative = stops
+        same : (i : Index) → Agree Rel E (readable I i f) (readable J i g)
+        same notKnown = (stops (refuses .same _))
+        same noNumber = (stops (refuses .same _))
+        same negative = (stops (refuses .same _))
         same (index k) = n k
 
     popIndex-agrees : {s : Stacks A} {t : Stacks B} (f : ℕ → Stacks A → Outcome A) (g : ℕ → Stacks B → Outcome B) → PairedStacks Rel s t
-        → ((n : ℕ) (s′ : Stacks A) (t′ : Stacks B) → PairedStacks Rel s′ t′ → Agree Rel (f n s′) (g n t′)) → Agree Rel (popIndex I s f) (popIndex J t g)
+        → ((n : ℕ) (s′ : Stacks A) (t′ : Stacks B) → PairedStacks Rel s′ t′ → Agree Rel E (f n s′) (g n t′)) → Agree Rel E (popIndex I s f) (popIndex J t g)
     popIndex-agrees f g h n =
         popFrom-agrees _ _ (h .main) (h .alt) (λ x b s t r k. readable-agrees (I .toBytes x) (J .toBytes b) (makes .bytes x b r) _ _ (λ i. n i s t k))
 
     -- SIZE: the length of an exact item is the real one
-    size-agrees : (p q : Option Bytes) → Told p q → Rel (sizeItem I p) (sizeItem J q)
-    size-agrees none none r = makes .result
-    size-agrees none (some l) r = makes .measured _
-    size-agrees (some l) q r = rw r (makes .literal _)
+    size-agrees : (x : A) (b : B) → Rel x b → Rel (sizeItem I (I .toBytes x)) (sizeItem J (J .toBytes b))
+    size-agrees x b r = by (I .toBytes x) (J .toBytes b) refl refl (makes .bytes x b r)
+      where
+        by : (p q : Option Bytes) → I .toBytes x ≡ p → J .toBytes b ≡ q → Told E p q → Rel (sizeItem I p) (sizeItem J q)
+        by none none e f t = makes .result
+        by none (some l) e f t = makes .measured x b l r e f
+        by (some l) q e f t = rw t (makes .literal _)
 
-    zkDrop-agrees : (limit n : ℕ) {s : Stacks A} {t : Stacks B} → PairedStacks Rel s t → Agree Rel (zkDrop I limit n s) (zkDrop J limit n t)
+    zkDrop-agrees : (limit n : ℕ) {s : Stacks A} {t : Stacks B} → PairedStacks Rel s t → Agree Rel E (zkDrop I limit n s) (zkDrop J limit n t)
     zkDrop-agrees limit n h = onDone-agrees _ _ (dropItems-agrees h n) (λ s t k. pushItem-agrees k limit _ _ (makes .literal (serialize (plus 1))))
 
     -- a tag that the marker reads is the one that the replay reads
-    zkBy-agrees : (limit : ℕ) (p q : Option Bytes) {s : Stacks A} {t : Stacks B} → Told p q → PairedStacks Rel s t
-        → Agree Rel (zkBy I limit (tagOf p) s) (zkBy J limit (tagOf q) t)
-    zkBy-agrees limit none q r h = stops
+    zkBy-agrees : (limit : ℕ) (p q : Option Bytes) {s : Stacks A} {t : Stacks B} → Told E p q → PairedStacks Rel s t
+        → Agree Rel E (zkBy I limit (tagOf p) s) (zkBy J limit (tagOf q) t)
+    zkBy-agrees limit none q r h = ⊎-elim (λ e. rw e (stops (refuses .same _))) (λ lax. stops (lax _ _)) r
     zkBy-agrees limit (some l) q r h = rw r (same (tagOf (some l)) h)
       where
-        same : (k : Tag) {s : Stacks A} {t : Stacks B} → PairedStacks Rel s t → Agree Rel (zkBy I limit k s) (zkBy J limit k t)
-        same noTag h = stops
+        same : (k : Tag) {s : Stacks A} {t : Stacks B} → PairedStacks Rel s t → Agree Rel E (zkBy I limit k s) (zkBy J limit k t)
+        same noTag h = (stops (refuses .same _))
         same groth16 h =
             popFrom-agrees _ _ (h .main) (h .alt) (λ key b s t r k.
             popFrom-agrees _ _ (k .main) (k .alt) (λ proof b s t r k.
@@ -181,16 +206,16 @@ module _ {A B : Type 0} {Rel : A → B → Type 0} where
 
     -- whatever an ordinary instruction does, a replay follows the marker
     pub step-agrees : (R : Rules) (i : Instruction) (o : Ordinary) {s : Stacks A} {t : Stacks B} → PairedStacks Rel s t
-        → Agree Rel (step I R i o s) (step J R i o t)
+        → Agree Rel E (step I R i o s) (step J R i o t)
     unfolding step
-    step-agrees R i unmodelled h = stops
-    step-agrees R i push h = picks (R .examined && ltb maxElement (length (i .literal))) stops (pushItem-agrees h (R .limit) _ _ (makes .literal (i .literal)))
+    step-agrees R i unmodelled h = (stops (refuses .same _))
+    step-agrees R i push h = picks (R .examined && ltb maxElement (length (i .literal))) (stops (refuses .same _)) (pushItem-agrees h (R .limit) _ _ (makes .literal (i .literal)))
     step-agrees R i nothing h = agree h
     step-agrees R i TOALT h = moveToAlt-agrees h
     step-agrees R i FROMALT h = moveFromAlt-agrees h
     step-agrees R i DEPTH {s} {t} h = rw (paired-length (h .main)) (pushItem-agrees h (R .limit) _ _ (makes .literal (serialize (plus (length (t .main))))))
     step-agrees R i SIZE h =
-        popFrom-agrees _ _ (h .main) (h .alt) (λ x b s t r k. pushItem-agrees h (R .limit) _ _ (size-agrees (I .toBytes x) (J .toBytes b) (makes .bytes x b r)))
+        popFrom-agrees _ _ (h .main) (h .alt) (λ x b s t r k. pushItem-agrees h (R .limit) _ _ (size-agrees x b r))
     step-agrees R i NIP h = nipSecond-agrees h
     step-agrees R i TUCK h = tuckTop-agrees h (R .limit)
     step-agrees R i PICK h = popIndex-agrees _ _ h (λ n s t k. copyItems-agrees k (R .limit) _ 1)
@@ -202,11 +227,11 @@ module _ {A B : Type 0} {Rel : A → B → Type 0} where
 
     -- and whatever an instruction of a plain class does
     pub plainStep-agrees : (limit pops pushes : ℕ) {s : Stacks A} {t : Stacks B} → PairedStacks Rel s t
-        → Agree Rel (plainStep I limit pops pushes s) (plainStep J limit pops pushes t)
+        → Agree Rel E (plainStep I limit pops pushes s) (plainStep J limit pops pushes t)
     unfolding plainStep
     plainStep-agrees limit pops pushes h = onDone-agrees _ _ (dropItems-agrees h pops) (λ s t g. results pushes g)
       where
-        results : (n : ℕ) {s : Stacks A} {t : Stacks B} → PairedStacks Rel s t → Agree Rel (pushResults I limit n s) (pushResults J limit n t)
+        results : (n : ℕ) {s : Stacks A} {t : Stacks B} → PairedStacks Rel s t → Agree Rel E (pushResults I limit n s) (pushResults J limit n t)
         results zero g = agree g
         results (suc n) g = pushItem-agrees g limit _ _ (makes .result)
 
@@ -236,12 +261,12 @@ shows-picked false l = tt
 pub shows-known : (l : Bytes) → Shows (known l) l
 shows-known l = search shows-picked
 
-shows-bytes : (x : Item) (b : Bytes) → Shows x b → Told (bytesKnown x) (some b)
-shows-bytes unknown b r = tt
-shows-bytes (exact l) b r = rw r
+pub shows-bytes : (B : Type 0) (x : Item) (b : Bytes) → Shows x b → Told {B = B} Anything (bytesKnown x) (some b)
+shows-bytes B unknown b r = inr (λ r p. tt)
+shows-bytes B (exact l) b r = rw r
 
-pub shows-makes : (v : List Bytes) → Makes Shows marking (replaying v)
-shows-makes v = record { literal = shows-known; result = tt; measured = λ l. tt; bytes = shows-bytes }
+pub shows-makes : (v : List Bytes) → Makes Shows Anything marking (replaying v)
+shows-makes v = record { literal = shows-known; result = tt; measured = λ x b l r e f. tt; bytes = shows-bytes Bytes }
 
 -- The limit
 

@@ -16,7 +16,7 @@ use Rattle.definition.specs.Refusals.{maxOpen, nesting, armsDiffer}
 use Rattle.definition.specs.Stacks.{Rules, Stacks, Outcome, done, refused, total, onDone, dropItems, step, plainStep}
 use Rattle.definition.specs.Walk.{Item, unknown, exact, Items, unmarked, Arm, dead, live, FirstArm, notEnded, ended, Frame, Move, moves, refuses, sameBytes, joinItem, joinItems, joinStacks, onOutcome, join, opens, onIf, conditional, onElse, onEndif, effect}
 use Rattle.definition.specs.Replay.{Replay, Runs, byBytes, Going, running, jumping, Carried, goesOn, halts, fails, carriedOut, chosen, branches, carry, past, Trace, visit, offEnd, returned, faulted, onCarried, replayFrom, ReachedAt, EndsInFault, RunsOffWith, HasTotal, Shows}
-use Rattle.definition.proofs.Related.{Paired, bottom, above, PairedStacks, Agree, agree, stops, Makes, shows-makes, dropItems-agrees, step-agrees, plainStep-agrees, Within, dropItems-within, step-within, plainStep-within}
+use Rattle.definition.proofs.Related.{Paired, bottom, above, PairedStacks, Agree, agree, stops, Anything, anything, Makes, shows-makes, dropItems-agrees, step-agrees, plainStep-agrees, Within, dropItems-within, step-within, plainStep-within}
 use Rattle.definition.proofs.Arms.{Goes, Accepts, after, armAt, Alive}
 
 -- The items of document 01: what either side shows, the joined item shows
@@ -53,7 +53,7 @@ joinItem-right (exact l) (exact m) b h = either (sameBytes l m) refl
 
 -- A relation of the marker's items, of type X, to those of a replay, of type Y, that instructions and joins keep
 pub record Simulates {X Y : Type 0} (Rel : X → Y → Type 0) (I : Items X) (J : Runs Y) : Type 0 where
-  pub makes : (offset : ℕ) (v : List Bytes) → Makes Rel (I .opsAt offset) (J .opsAt offset v)
+  pub makes : (offset : ℕ) (v : List Bytes) → Makes Rel Anything (I .opsAt offset) (J .opsAt offset v)
   pub left : (x y : X) (b : Y) → Rel x b → Rel (I .joined x y) b
   pub right : (x y : X) (b : Y) → Rel y b → Rel (I .joined x y) b
 
@@ -152,9 +152,9 @@ module _ {X Y : Type 0} {Rel : X → Y → Type 0} {I : Items X} {J : Runs Y} (s
 
   module _ (R : Rules) (i : Instruction) (r : Replay Y) where
     -- an ordinary opcode carried out, and one jumped over
-    moved-next : {o : Outcome X} {p : Outcome Y} (fs : List (Frame X)) (results : List Bytes) → Agree Rel o p → Next (onOutcome o fs) (carriedOut p running (r .choices) results)
+    moved-next : {o : Outcome X} {p : Outcome Y} (fs : List (Frame X)) (results : List Bytes) → Agree Rel Anything o p → Next (onOutcome o fs) (carriedOut p running (r .choices) results)
     moved-next fs results (agree h) = h
-    moved-next fs results stops = tt
+    moved-next fs results (stops e) = tt
 
     moved-waits : (m : Going) (o : Outcome X) (fs : List (Frame X)) → ((c : Arm X) → Inv m (r .stacks) c fs) → Next (onOutcome o fs) (goesOn m r)
     moved-waits m (done s) fs h = h (live s)
@@ -170,14 +170,14 @@ module _ {X Y : Type 0} {Rel : X → Y → Type 0} {I : Items X} {J : Runs Y} (s
     chosen-next true fs h = h
     chosen-next false fs h = h
 
-    opened-next : {o : Outcome X} {p : Outcome Y} (fs : List (Frame X)) → Agree Rel o p
+    opened-next : {o : Outcome X} {p : Outcome Y} (fs : List (Frame X)) → Agree Rel Anything o p
         → Next (opened o fs) (carriedOut p (chosen (getD (r .choices) 0 true)) (drop 1 (r .choices)) (r .results))
     opened-next fs (agree h) = chosen-next (getD (r .choices) 0 true) fs h
-    opened-next fs stops = tt
+    opened-next fs (stops e) = tt
 
     if-next : (c : Arm X) (fs : List (Frame X)) → LiveAs c (r .stacks) → Next (conditional c fs) (branches r)
     if-next dead fs h = absurd h
-    if-next (live s) fs h = nested (ltb (length fs) maxOpen) (opened (dropItems 1 s) fs) _ (opened-next fs (dropItems-agrees h 1))
+    if-next (live s) fs h = nested (ltb (length fs) maxOpen) (opened (dropItems 1 s) fs) _ (opened-next fs (dropItems-agrees anything h 1))
 
     if-waits : (m : Going) (c : Arm X) (fs : List (Frame X)) → ((c : Arm X) (f : Frame X) → Inv m (r .stacks) c (f ∷ fs)) → Next (conditional c fs) (goesOn m r)
     if-waits m c fs h = nested (ltb (length fs) maxOpen) (onIf c fs) (goesOn m r) (open-waits c)
@@ -262,14 +262,14 @@ module _ {X Y : Type 0} {Rel : X → Y → Type 0} {I : Items X} {J : Runs Y} (s
     act-next RETURN (jumping true n) c fs h = h
     act-next RETURN (jumping false n) c fs h = h
     act-next (ordinary o) running dead fs h = absurd h
-    act-next (ordinary o) running (live s) fs h = moved-next fs (r .results) (step-agrees (sim .makes (i .offset) (r .results)) R i o h)
+    act-next (ordinary o) running (live s) fs h = moved-next fs (r .results) (step-agrees anything (sim .makes (i .offset) (r .results)) R i o h)
     act-next (ordinary o) (jumping true n) dead fs h = h
     act-next (ordinary o) (jumping true n) (live s) fs h = moved-waits (jumping true n) (step (I .opsAt (i .offset)) R i o s) fs (λ c. h)
     act-next (ordinary o) (jumping false n) dead fs h = h
     act-next (ordinary o) (jumping false n) (live s) fs h = moved-waits (jumping false n) (step (I .opsAt (i .offset)) R i o s) fs (λ c. h)
     act-next (plain pops pushes) running dead fs h = absurd h
     act-next (plain pops pushes) running (live s) fs h =
-        moved-next fs (drop pushes (r .results)) (plainStep-agrees (sim .makes (i .offset) (r .results)) (R .limit) pops pushes h)
+        moved-next fs (drop pushes (r .results)) (plainStep-agrees anything (sim .makes (i .offset) (r .results)) (R .limit) pops pushes h)
     act-next (plain pops pushes) (jumping true n) dead fs h = h
     act-next (plain pops pushes) (jumping true n) (live s) fs h = moved-waits (jumping true n) (plainStep (I .opsAt (i .offset)) (R .limit) pops pushes s) fs (λ c. h)
     act-next (plain pops pushes) (jumping false n) dead fs h = h
