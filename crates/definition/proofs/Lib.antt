@@ -10,6 +10,7 @@ pub mod Arms
 pub mod Sound
 pub mod Complete
 pub mod Origins
+pub mod Aside
 pub mod TrueOfEveryReplay
 pub mod TrueOfPaper
 pub mod LongData
