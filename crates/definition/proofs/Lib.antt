@@ -11,6 +11,7 @@ pub mod Sound
 pub mod Complete
 pub mod Origins
 pub mod Aside
+pub mod Differ
 pub mod TrueOfEveryReplay
 pub mod TrueOfPaper
 pub mod LongData

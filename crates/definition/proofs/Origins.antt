@@ -28,14 +28,14 @@ lost : (m : Maker) → MadeAs 65534 m
 lost start = inr refl
 lost (instructionAt offset) = inr refl
 
-mark-left : (a b : ℕ) (m : Maker) → MadeAs a m → MadeAs (pick (eqb a b) a 65534) m
+pub mark-left : (a b : ℕ) (m : Maker) → MadeAs a m → MadeAs (pick (eqb a b) a 65534) m
 mark-left a b m h = by (eqb a b)
   where
     by : (t : Bool) → MadeAs (pick t a 65534) m
     by true = h
     by false = lost m
 
-mark-right : (a b : ℕ) (m : Maker) → MadeAs b m → MadeAs (pick (eqb a b) a 65534) m
+pub mark-right : (a b : ℕ) (m : Maker) → MadeAs b m → MadeAs (pick (eqb a b) a 65534) m
 mark-right a b m h = by (eqb a b) refl
   where
     by : (t : Bool) → eqb a b ≡ t → MadeAs (pick t a 65534) m
