@@ -15,10 +15,10 @@ use Rattle.definition.specs.Decoding.{Instruction}
 use Rattle.definition.specs.Classes.{Class, IF, NOTIF, ELSE, ENDIF, RETURN, ordinary, plain}
 use Rattle.definition.specs.Refusals.{Refusal}
 use Rattle.definition.specs.Stacks.{Rules, Stacks, Outcome, done, refused, ItemOps, dropItems, step, plainStep}
-use Rattle.definition.specs.Walk.{Item, unknown, known, bytesKnown, joinItems}
-use Rattle.definition.specs.Replay.{Replay, Going, running, jumping, goesOn, carry, past, onCarried, replayFrom, RunsOffWith}
+use Rattle.definition.specs.Walk.{Item, unknown, known, bytesKnown, Arm, dead, live, FirstArm, notEnded, ended, Frame, Move, moves, refuses, joinItems, joinStacks, onOutcome, join, opens, onIf, conditional, onElse, onEndif, effect}
+use Rattle.definition.specs.Replay.{Replay, Going, running, jumping, Carried, goesOn, carriedOut, chosen, branches, carry, past, onCarried, replayFrom, RunsOffWith}
 use Rattle.definition.specs.Marks.{MarkedItem, marksAt, joinMarks, marked, Maker, start, instructionAt, Made, madeAt, byMakers, Given, RunsOffGiven, MadeAs}
-use Rattle.definition.proofs.Related.{Paired, bottom, above, PairedStacks, Agree, agree, stops, Anything, TheSame, Told, Makes, paired-length, shows-known, shows-bytes}
+use Rattle.definition.proofs.Related.{Paired, bottom, above, PairedStacks, Agree, agree, stops, Anything, anything, TheSame, the-same, Told, Makes, paired-length, shows-known, shows-bytes, dropItems-agrees, step-agrees, plainStep-agrees}
 use Rattle.definition.proofs.Sound.{joinItem-left, joinItem-right}
 use Rattle.definition.proofs.Origins.{Tells, mark-left, mark-right}
 
@@ -93,6 +93,9 @@ to-done s (stops f) e = let z : _≡_ {A = ℕ} 0 1 = cc in absurd (omega arith)
 kept-same : {Ω : Type 0} {s t : Stacks (Seen Ω)} → s ≡ t → PairedStacks Kept s t → PairedStacks Kept s s
 kept-same {s = s} e h = subst (λ u. PairedStacks Kept s u) (sym e) h
 
+same-done : {A : Type 0} (s t : Stacks A) → done s ≡ done t → s ≡ t
+same-done s t e = cc
+
 -- Families of replays
 
 module _ (R : Rules) (all : List Instruction) (main alt : ℕ) where
@@ -115,3 +118,109 @@ module _ (R : Rules) (all : List Instruction) (main alt : ℕ) where
     pub marks : PairedStacks IsItem items s
     pub kept : PairedStacks Kept items items
     pub member : (w : Ω) → Member is k m items w
+
+  -- One instruction further
+
+  module _ (i : Instruction) (is : List Instruction) (k : ℕ) where
+    abbrev class : Class
+    class = R .classFor (i .opcode)
+
+    -- jumped over
+    jumped-completes : (b : Bool) (n : ℕ) (s : Stacks Made) (results : List Bytes) → Completes (i ∷ is) k (jumping b n) s results → Completes is (k + 1) (past class b n) s results
+    unfolding replayFrom
+    jumped-completes b n s results f cs l u h = f cs l u h
+
+    jumped : (b : Bool) (n : ℕ) (s : Stacks MarkedItem) → Family (i ∷ is) k (jumping b n) s → Family is (k + 1) (past class b n) s
+    jumped b n s F = record {
+      Ω = F .Ω;
+      one = F .one;
+      items = F .items;
+      marks = F .marks;
+      kept = F .kept;
+      member = λ w. record {
+        stacks = F .member w .stacks;
+        results = F .member w .results;
+        follows = F .member w .follows;
+        completes = jumped-completes b n (F .member w .stacks) (F .member w .results) (F .member w .completes);
+      };
+    }
+
+    -- carried out
+    ran-completes : (m : Going) (s t : Stacks Made) (results left : List Bytes) (before : List Bool → List Bool)
+        → ((cs : List Bool) → carry byMakers R i class (record { stacks = s; choices = before cs; results = results }) ≡ goesOn m (record { stacks = t; choices = cs; results = left }))
+        → ((cs : List Bool) → length cs ≤ length (before cs)) → Completes (i ∷ is) k running s results → Completes is (k + 1) m t left
+    unfolding replayFrom
+    ran-completes m s t results left before e grows f cs l u h =
+        f (before cs) (omega (arith, l, grows cs)) u (subst (λ c. RunsOffWith u (onCarried c s (λ m r. replayFrom byMakers R is (k + 1) m r))) (sym (e cs)) h)
+
+    moved : (m : Going) (before : List Bool → List Bool) → ((cs : List Bool) → length cs ≤ length (before cs)) → (s : Stacks MarkedItem) (F : Family (i ∷ is) k running s) (s′ : Stacks MarkedItem)
+        (oE : Outcome (Seen (F .Ω))) (oM : Outcome MarkedItem) (oY : (w : F .Ω) → Outcome Made) (left : (w : F .Ω) → List Bytes)
+        → Agree IsItem TheSame oE oM → oM ≡ done s′ → Agree Kept TheSame oE oE → ((w : F .Ω) → Agree (In w) Anything oE (oY w))
+        → ((w : F .Ω) (t : Stacks Made) → oY w ≡ done t → (cs : List Bool)
+        → carry byMakers R i class (record { stacks = F .member w .stacks; choices = before cs; results = F .member w .results }) ≡ goesOn m (record { stacks = t; choices = cs; results = left w }))
+        → Family is (k + 1) m s′
+    moved m before grows s F s′ oE oM oY left aM e aK aY c =
+        let d = from-done s′ aM e in
+        let q = to-done (d .0) aK (d .1) in
+        let same : d .0 ≡ q .0 = same-done (d .0) (q .0) (sym (d .1) ∙ q .1) in
+        record {
+          Ω = F .Ω;
+          one = F .one;
+          items = d .0;
+          marks = d .2;
+          kept = kept-same same (q .2);
+          member = λ w. let y = to-done (d .0) (aY w) (d .1) in record {
+            stacks = y .0;
+            results = left w;
+            follows = y .2;
+            completes = ran-completes m (F .member w .stacks) (y .0) (F .member w .results) (left w) before (c w (y .0) (y .1)) grows (F .member w .completes);
+          };
+        }
+
+    module _ (small : i .offset < 65534) where
+      stepped : (o : _) → class ≡ ordinary o → (s : Stacks MarkedItem) → Family (i ∷ is) k running s → (s′ : Stacks MarkedItem)
+          → step (marksAt (i .offset)) R i o s ≡ done s′ → Family is (k + 1) running s′
+      stepped o e s F s′ h =
+          moved running (λ cs. cs) (λ cs. omega arith) s F s′ (step (seenAt (i .offset)) R i o (F .items)) (step (marksAt (i .offset)) R i o s)
+          (λ w. step (madeAt (i .offset) (F .member w .results)) R i o (F .member w .stacks)) (λ w. F .member w .results)
+          (step-agrees the-same (isItem-makes (i .offset)) R i o (F .marks)) h (step-agrees the-same (kept-makes (i .offset) small) R i o (F .kept))
+          (λ w. step-agrees anything (in-makes (i .offset) w (F .member w .results)) R i o (F .member w .follows))
+          (λ w t q cs. ap (λ c. carry byMakers R i c (record { stacks = F .member w .stacks; choices = cs; results = F .member w .results })) e
+          ∙ ap (λ p. carriedOut p running cs (F .member w .results)) q)
+
+      plainStepped : (pops pushes : ℕ) → class ≡ plain pops pushes → (s : Stacks MarkedItem) → Family (i ∷ is) k running s → (s′ : Stacks MarkedItem)
+          → plainStep (marksAt (i .offset)) (R .limit) pops pushes s ≡ done s′ → Family is (k + 1) running s′
+      plainStepped pops pushes e s F s′ h =
+          moved running (λ cs. cs) (λ cs. omega arith) s F s′ (plainStep (seenAt (i .offset)) (R .limit) pops pushes (F .items)) (plainStep (marksAt (i .offset)) (R .limit) pops pushes s)
+          (λ w. plainStep (madeAt (i .offset) (F .member w .results)) (R .limit) pops pushes (F .member w .stacks)) (λ w. drop pushes (F .member w .results))
+          (plainStep-agrees the-same (isItem-makes (i .offset)) (R .limit) pops pushes (F .marks)) h
+          (plainStep-agrees the-same (kept-makes (i .offset) small) (R .limit) pops pushes (F .kept))
+          (λ w. plainStep-agrees anything (in-makes (i .offset) w (F .member w .results)) (R .limit) pops pushes (F .member w .follows))
+          (λ w t q cs. ap (λ c. carry byMakers R i c (record { stacks = F .member w .stacks; choices = cs; results = F .member w .results })) e
+          ∙ ap (λ p. carriedOut p running cs (drop pushes (F .member w .results))) q)
+
+    -- IF and NOTIF, with either choice
+    branched : (b : Bool) → ((r : Replay Made) → carry byMakers R i class r ≡ branches r) → (s : Stacks MarkedItem) → Family (i ∷ is) k running s → (s′ : Stacks MarkedItem)
+        → dropItems 1 s ≡ done s′ → Family is (k + 1) (chosen b) s′
+    branched b e s F s′ h =
+        moved (chosen b) (λ cs. b ∷ cs) (λ cs. omega arith) s F s′ (dropItems 1 (F .items)) (dropItems 1 s) (λ w. dropItems 1 (F .member w .stacks)) (λ w. F .member w .results)
+        (dropItems-agrees the-same (F .marks) 1) h (dropItems-agrees the-same (F .kept) 1) (λ w. dropItems-agrees anything (F .member w .follows) 1)
+        (λ w t q cs. e (record { stacks = F .member w .stacks; choices = b ∷ cs; results = F .member w .results })
+        ∙ ap (λ p. carriedOut p (chosen b) cs (F .member w .results)) q)
+
+    -- ELSE and ENDIF, which leave the stacks
+    waited : (m : Going) → ((r : Replay Made) → carry byMakers R i class r ≡ goesOn m r) → (s : Stacks MarkedItem) → Family (i ∷ is) k running s → Family is (k + 1) m s
+    waited m e s F = record {
+      Ω = F .Ω;
+      one = F .one;
+      items = F .items;
+      marks = F .marks;
+      kept = F .kept;
+      member = λ w. record {
+        stacks = F .member w .stacks;
+        results = F .member w .results;
+        follows = F .member w .follows;
+        completes = ran-completes m (F .member w .stacks) (F .member w .stacks) (F .member w .results) (F .member w .results) (λ cs. cs) (λ cs. e _) (λ cs. omega arith)
+            (F .member w .completes);
+      };
+    }
