@@ -1,6 +1,6 @@
 -- Request L9, "at 65,534 two such replays differ in this". With each live arm of an accepted walk goes a family of replays that come
 -- there, and with each of its items their makers in this family: where the mark is 65,534, two of them differ.
-use mathlib.Core.Bool.{Bool, true, false}
+use mathlib.Core.Bool.{Bool, true, false, _&&_}
 use mathlib.Core.List.{List, [], _∷_}
 use mathlib.Core.Logic.{_⊎_, inl, inr, ⊎-elim}
 use mathlib.Core.Option.{Option, none, some}
@@ -13,7 +13,7 @@ use lib.ListN.{length, getD, drop}
 use Rattle.definition.specs.Basics.{Bytes, pick}
 use Rattle.definition.specs.Decoding.{Instruction}
 use Rattle.definition.specs.Classes.{Class, IF, NOTIF, ELSE, ENDIF, RETURN, ordinary, plain}
-use Rattle.definition.specs.Refusals.{Refusal}
+use Rattle.definition.specs.Refusals.{Refusal, armsDiffer, nesting, maxOpen}
 use Rattle.definition.specs.Stacks.{Rules, Stacks, Outcome, done, refused, ItemOps, dropItems, step, plainStep}
 use Rattle.definition.specs.Walk.{Item, unknown, known, bytesKnown, Arm, dead, live, FirstArm, notEnded, ended, Frame, Move, moves, refuses, joinItems, joinStacks, onOutcome, join, opens, onIf, conditional, onElse, onEndif, effect}
 use Rattle.definition.specs.Replay.{Replay, Going, running, jumping, Carried, goesOn, carriedOut, chosen, branches, carry, past, onCarried, replayFrom, RunsOffWith}
@@ -95,6 +95,78 @@ kept-same {s = s} e h = subst (λ u. PairedStacks Kept s u) (sym e) h
 
 same-done : {A : Type 0} (s t : Stacks A) → done s ≡ done t → s ≡ t
 same-done s t e = cc
+
+-- Joins
+
+-- the mark that the maker of an item would have
+abbrev markOf : Maker → ℕ
+markOf start = 65535
+markOf (instructionAt offset) = offset
+
+made-mark : (a : ℕ) (m : Maker) → (a ≡ 65534 → ⊥) → MadeAs a m → a ≡ markOf m
+made-mark a start n h = ⊎-elim (λ e. e) (λ e. absurd (n e)) h
+made-mark a (instructionAt offset) n h = ⊎-elim (λ e. e) (λ e. absurd (n e)) h
+
+module _ {Ω Ψ : Type 0} where
+  abbrev joinSeen : Seen Ω → Seen Ψ → Seen (Ω ⊎ Ψ)
+  joinSeen e f = record { item = joinMarks (e .item) (f .item); makers = λ w. ⊎-elim (λ a. e .makers a) (λ b. f .makers b) w }
+
+  abbrev zipSeen : List (Seen Ω) → List (Seen Ψ) → List (Seen (Ω ⊎ Ψ))
+  zipSeen [] m = []
+  zipSeen (e ∷ l) [] = []
+  zipSeen (e ∷ l) (f ∷ m) = joinSeen e f ∷ zipSeen l m
+
+  zip-marks : {l : List (Seen Ω)} {m : List (Seen Ψ)} {s t : List MarkedItem} → Paired IsItem l s → Paired IsItem m t → Paired IsItem (zipSeen l m) (joinItems marked s t)
+  zip-marks bottom g = bottom
+  zip-marks (above r h) bottom = bottom
+  zip-marks (above {x = e} {b = x} r h) (above {x = f} {b = y} q g) = above {x = joinSeen e f} {b = joinMarks x y} (rw (r, q)) (zip-marks h g)
+
+  zip-left : (w : Ω) {l : List (Seen Ω)} {u : List Made} (m : List (Seen Ψ)) → length l ≡ length m → Paired (In w) l u → Paired (In (inl w)) (zipSeen l m) u
+  zip-left w [] e bottom = bottom
+  zip-left w (f ∷ m) e bottom = bottom
+  zip-left w [] e (above r h) = absurd (omega arith)
+  zip-left w (f ∷ m) e (above {x = x} {b = y} r h) =
+      above (r .0, (joinItem-left (x .item .item) (f .item .item) (y .bytes) (r .1 .0), mark-left (x .item .mark) (f .item .mark) (y .maker) (r .1 .1)))
+      (zip-left w m (omega arith) h)
+
+  zip-right : (w : Ψ) (l : List (Seen Ω)) {m : List (Seen Ψ)} {u : List Made} → length l ≡ length m → Paired (In w) m u → Paired (In (inr w)) (zipSeen l m) u
+  zip-right w [] e bottom = bottom
+  zip-right w (x ∷ l) e bottom = absurd (omega arith)
+  zip-right w [] e (above r h) = absurd (omega arith)
+  zip-right w (x ∷ l) e (above {x = f} {b = y} r h) =
+      above (r .0, (joinItem-right (x .item .item) (f .item .item) (y .bytes) (r .1 .0), mark-right (x .item .mark) (f .item .mark) (y .maker) (r .1 .1)))
+      (zip-right w l (omega arith) h)
+
+  -- where two marks differ and neither is 65,534, any two replays, one from each side, differ
+  joined-differs : (v : Ω) (w : Ψ) (e : Seen Ω) (f : Seen Ψ) (y z : Made) → Differs e → Differs f → In v e y → In w f z → Differs (joinSeen e f)
+  joined-differs v w e f y z d g p q = by (eqb (e .item .mark) (f .item .mark)) refl
+    where
+      left : e .item .mark ≡ 65534 → (a b : Ω ⊎ Ψ) × (joinSeen e f .makers a ≡ joinSeen e f .makers b → ⊥)
+      left h = let k = d h in (inl (k .0), inl (k .1), k .2)
+
+      right : f .item .mark ≡ 65534 → (a b : Ω ⊎ Ψ) × (joinSeen e f .makers a ≡ joinSeen e f .makers b → ⊥)
+      right h = let k = g h in (inr (k .0), inr (k .1), k .2)
+
+      across : (e .item .mark ≡ f .item .mark → ⊥) → (a b : Bool) → eqb (e .item .mark) 65534 ≡ a → eqb (f .item .mark) 65534 ≡ b
+          → (a b : Ω ⊎ Ψ) × (joinSeen e f .makers a ≡ joinSeen e f .makers b → ⊥)
+      across n true b h k = left (eqb-true (e .item .mark) 65534 h)
+      across n false true h k = right (eqb-true (f .item .mark) 65534 k)
+      across n false false h k = (inl v, inr w, λ c.
+          let a = made-mark (e .item .mark) (y .maker) (eqb-false (e .item .mark) 65534 h) (p .1 .1) in
+          let b = made-mark (f .item .mark) (z .maker) (eqb-false (f .item .mark) 65534 k) (q .1 .1) in
+          n (a ∙ ap markOf (sym (p .0) ∙ c ∙ q .0) ∙ sym b))
+
+      by : (t : Bool) → eqb (e .item .mark) (f .item .mark) ≡ t → pick t (e .item .mark) 65534 ≡ 65534
+          → (a b : Ω ⊎ Ψ) × (joinSeen e f .makers a ≡ joinSeen e f .makers b → ⊥)
+      by true h k = left k
+      by false h k = across (eqb-false (e .item .mark) (f .item .mark) h) (eqb (e .item .mark) 65534) (eqb (f .item .mark) 65534) refl refl
+
+  zip-kept : (v : Ω) (w : Ψ) {l l′ : List (Seen Ω)} {m m′ : List (Seen Ψ)} {a b : List Made} → Paired Kept l l′ → Paired Kept m m′ → Paired (In v) l a → Paired (In w) m b
+      → Paired Kept (zipSeen l m) (zipSeen l m)
+  zip-kept v w bottom g p q = bottom
+  zip-kept v w (above d h) bottom p q = bottom
+  zip-kept v w (above {x = e} d h) (above {x = f} c g) (above {b = y} r p) (above {b = z} k q) =
+      above (refl, joined-differs v w e f y z (d .1) (c .1) r k) (zip-kept v w h g p q)
 
 -- Families of replays
 
@@ -224,3 +296,93 @@ module _ (R : Rules) (all : List Instruction) (main alt : ℕ) where
             (F .member w .completes);
       };
     }
+
+  -- Arms and conditionals
+
+  abbrev FamilyArm : List Instruction → ℕ → Going → Arm MarkedItem → Type 1
+  FamilyArm is k m dead = Unit {1}
+  FamilyArm is k m (live s) = Family is k m s
+
+  abbrev FamilyFirst : List Instruction → ℕ → ℕ → FirstArm MarkedItem → Arm MarkedItem → Type 1
+  FamilyFirst is k n notEnded s = FamilyArm is k (jumping true n) s
+  FamilyFirst is k n (ended a) s = FamilyArm is k (jumping false n) a
+
+  abbrev FamilyFrames : List Instruction → ℕ → ℕ → List (Frame MarkedItem) → Type 1
+  FamilyFrames is k n [] = Unit {1}
+  FamilyFrames is k n (f ∷ fs) = (FamilyFirst is k n (f .first) (f .start)) × (FamilyFrames is k (suc n) fs)
+
+  abbrev Leading : Move MarkedItem → List Instruction → ℕ → Type 1
+  Leading (moves c fs) is k = (FamilyArm is k running c) × (FamilyFrames is k 0 fs)
+  Leading (refuses r) is k = Unit {1}
+
+  module _ (i : Instruction) (is : List Instruction) (k : ℕ) where
+    abbrev met-class : Class
+    met-class = R .classFor (i .opcode)
+
+    arm-jumped : (b : Bool) (n : ℕ) (m : Going) → past met-class b n ≡ m → (c : Arm MarkedItem) → FamilyArm (i ∷ is) k (jumping b n) c → FamilyArm is (k + 1) m c
+    arm-jumped b n m e dead F = tt
+    arm-jumped b n m e (live s) F = subst (λ m. Family is (k + 1) m s) e (jumped i is k b n s F)
+
+    first-jumped : (n n′ : ℕ) → ((b : Bool) → past met-class b n ≡ jumping b n′) → (t : FirstArm MarkedItem) (s : Arm MarkedItem)
+        → FamilyFirst (i ∷ is) k n t s → FamilyFirst is (k + 1) n′ t s
+    first-jumped n n′ e notEnded s F = arm-jumped true n (jumping true n′) (e true) s F
+    first-jumped n n′ e (ended a) s F = arm-jumped false n (jumping false n′) (e false) a F
+
+    frames-jumped : (n n′ : ℕ) → ((j : ℕ) (b : Bool) → past met-class b (j + n) ≡ jumping b (j + n′)) → (fs : List (Frame MarkedItem))
+        → FamilyFrames (i ∷ is) k n fs → FamilyFrames is (k + 1) n′ fs
+    frames-jumped n n′ e [] F = tt
+    frames-jumped n n′ e (f ∷ fs) F =
+        (first-jumped n n′ (λ b. ap (past met-class b) (omega arith) ∙ e 0 b ∙ ap (jumping b) (omega arith)) (f .first) (f .start) (F .0),
+        frames-jumped (suc n) (suc n′) (λ j b. ap (past met-class b) (omega arith) ∙ e (suc j) b ∙ ap (jumping b) (omega arith)) fs (F .1))
+
+    -- both sides of a conditional are live: the family is both
+    joined-family : (s t u : Stacks MarkedItem) → Family is k running s → Family is k running t → joinStacks marked s t ≡ done u → Family is k running u
+    unfolding joinStacks
+    joined-family s t u F G e = by (eqb (length (s .main)) (length (t .main))) (eqb (length (s .alt)) (length (t .alt))) refl refl e
+      where
+        by : (a b : Bool) → eqb (length (s .main)) (length (t .main)) ≡ a → eqb (length (s .alt)) (length (t .alt)) ≡ b
+            → pick (a && b) (done (record { main = joinItems marked (s .main) (t .main); alt = joinItems marked (s .alt) (t .alt) })) (refused armsDiffer) ≡ done u
+            → Family is k running u
+        by true true p q e =
+            let m : length (F .items .main) ≡ length (G .items .main)
+            = paired-length (F .marks .main) ∙ eqb-true (length (s .main)) (length (t .main)) p ∙ sym (paired-length (G .marks .main)) in
+            let a : length (F .items .alt) ≡ length (G .items .alt)
+            = paired-length (F .marks .alt) ∙ eqb-true (length (s .alt)) (length (t .alt)) q ∙ sym (paired-length (G .marks .alt)) in
+            subst (λ v. Family is k running v) (same-done _ u e) (record {
+              Ω = F .Ω ⊎ G .Ω;
+              one = inl (F .one);
+              items = record { main = zipSeen (F .items .main) (G .items .main); alt = zipSeen (F .items .alt) (G .items .alt) };
+              marks = record { main = zip-marks (F .marks .main) (G .marks .main); alt = zip-marks (F .marks .alt) (G .marks .alt) };
+              kept =
+                  let f = F .member (F .one) .follows in
+                  let g = G .member (G .one) .follows in
+                  record {
+                    main = zip-kept (F .one) (G .one) (F .kept .main) (G .kept .main) (f .main) (g .main);
+                    alt = zip-kept (F .one) (G .one) (F .kept .alt) (G .kept .alt) (f .alt) (g .alt);
+                  };
+              member = λ w. either F G m a w;
+            })
+          where
+            either : (F : Family is k running s) (G : Family is k running t) → length (F .items .main) ≡ length (G .items .main) → length (F .items .alt) ≡ length (G .items .alt)
+                → (w : F .Ω ⊎ G .Ω)
+                → Member is k running (record { main = zipSeen (F .items .main) (G .items .main); alt = zipSeen (F .items .alt) (G .items .alt) }) w
+            either F G m a (inl w) = record {
+              stacks = F .member w .stacks;
+              results = F .member w .results;
+              follows = record {
+                main = zip-left w (G .items .main) m (F .member w .follows .main);
+                alt = zip-left w (G .items .alt) a (F .member w .follows .alt);
+              };
+              completes = F .member w .completes;
+            }
+            either F G m a (inr w) = record {
+              stacks = G .member w .stacks;
+              results = G .member w .results;
+              follows = record {
+                main = zip-right w (F .items .main) m (G .member w .follows .main);
+                alt = zip-right w (F .items .alt) a (G .member w .follows .alt);
+              };
+              completes = G .member w .completes;
+            }
+        by true false p q e = let z : _≡_ {A = ℕ} 0 1 = cc in absurd (omega arith)
+        by false b p q e = let z : _≡_ {A = ℕ} 0 1 = cc in absurd (omega arith)
