@@ -8,18 +8,19 @@ use mathlib.Core.Path.{_≡_, refl, sym, ap, subst, _∙_}
 use Prim.Native.Nat.{ℕ, zero, suc, _+_, _≤_, _<_}
 use native.Mathlib.Omega.{arith}
 use borrow.Author.Tests.{eqb-true, eqb-false}
-use lib.Dec.{eqb}
+use lib.Dec.{ltb, eqb}
 use lib.ListN.{length, getD, drop}
 use Rattle.definition.specs.Basics.{Bytes, pick}
 use Rattle.definition.specs.Decoding.{Instruction}
 use Rattle.definition.specs.Classes.{Class, IF, NOTIF, ELSE, ENDIF, RETURN, ordinary, plain}
 use Rattle.definition.specs.Refusals.{Refusal, armsDiffer, nesting, maxOpen}
-use Rattle.definition.specs.Stacks.{Rules, Stacks, Outcome, done, refused, ItemOps, dropItems, step, plainStep}
+use Rattle.definition.specs.Stacks.{Rules, Stacks, Outcome, done, refused, ItemOps, onDone, dropItems, step, plainStep}
 use Rattle.definition.specs.Walk.{Item, unknown, known, bytesKnown, Arm, dead, live, FirstArm, notEnded, ended, Frame, Move, moves, refuses, joinItems, joinStacks, onOutcome, join, opens, onIf, conditional, onElse, onEndif, effect}
 use Rattle.definition.specs.Replay.{Replay, Going, running, jumping, Carried, goesOn, carriedOut, chosen, branches, carry, past, onCarried, replayFrom, RunsOffWith}
 use Rattle.definition.specs.Marks.{MarkedItem, marksAt, joinMarks, marked, Maker, start, instructionAt, Made, madeAt, byMakers, Given, RunsOffGiven, MadeAs}
 use Rattle.definition.proofs.Related.{Paired, bottom, above, PairedStacks, Agree, agree, stops, Anything, anything, TheSame, the-same, Told, Makes, paired-length, shows-known, shows-bytes, dropItems-agrees, step-agrees, plainStep-agrees}
 use Rattle.definition.proofs.Sound.{joinItem-left, joinItem-right}
+use Rattle.definition.proofs.Arms.{Goes, Accepts, after, armAt}
 use Rattle.definition.proofs.Origins.{Tells, mark-left, mark-right}
 
 -- An item with its makers in a family of replays Ω
@@ -167,6 +168,14 @@ module _ {Ω Ψ : Type 0} where
   zip-kept v w (above d h) bottom p q = bottom
   zip-kept v w (above {x = e} d h) (above {x = f} c g) (above {b = y} r p) (above {b = z} k q) =
       above (refl, joined-differs v w e f y z (d .1) (c .1) r k) (zip-kept v w h g p q)
+
+else-past : (b : Bool) (j : ℕ) → past ELSE b (suc j) ≡ jumping b (suc j)
+else-past true j = refl
+else-past false j = refl
+
+endif-past : (b : Bool) (j : ℕ) → past ENDIF b (suc j) ≡ jumping b j
+endif-past true j = refl
+endif-past false j = refl
 
 -- Families of replays
 
@@ -386,3 +395,106 @@ module _ (R : Rules) (all : List Instruction) (main alt : ℕ) where
             }
         by true false p q e = let z : _≡_ {A = ℕ} 0 1 = cc in absurd (omega arith)
         by false b p q e = let z : _≡_ {A = ℕ} 0 1 = cc in absurd (omega arith)
+
+    arm-waited : (m : Going) → ((r : Replay Made) → carry byMakers R i met-class r ≡ goesOn m r) → (c : Arm MarkedItem) → FamilyArm (i ∷ is) k running c → FamilyArm is (k + 1) m c
+    arm-waited m e dead F = tt
+    arm-waited m e (live s) F = waited i is k m e s F
+
+  join-family : (is : List Instruction) (k : ℕ) (i : Instruction) (a b : Arm MarkedItem) (fs : List (Frame MarkedItem)) → FamilyArm is k running a → FamilyArm is k running b
+      → FamilyFrames is k 0 fs → Leading (join marked a b fs) is k
+  join-family is k i dead b fs F G H = (G, H)
+  join-family is k i (live s) dead fs F G H = (F, H)
+  join-family is k i (live s) (live t) fs F G H = by (joinStacks marked s t) refl
+    where
+      by : (o : Outcome MarkedItem) → joinStacks marked s t ≡ o → Leading (onOutcome o fs) is k
+      by (done u) e = (joined-family i is k s t u F G e, H)
+      by (refused r) e = tt
+
+  module _ (i : Instruction) (is : List Instruction) (k : ℕ) (small : i .offset < 65534) where
+    -- a class that jumps pass over
+    passed-frames : (c : Class) → R .classFor (i .opcode) ≡ c → ((b : Bool) (n : ℕ) → past c b n ≡ jumping b n) → (fs : List (Frame MarkedItem))
+        → FamilyFrames (i ∷ is) k 0 fs → FamilyFrames is (k + 1) 0 fs
+    passed-frames c e h fs F = frames-jumped i is k 0 0 (λ j b. ap (λ c. past c b (j + 0)) e ∙ h b (j + 0)) fs F
+
+    opened-frames : (c : Class) → R .classFor (i .opcode) ≡ c → ((b : Bool) (n : ℕ) → past c b n ≡ jumping b (suc n)) → (fs : List (Frame MarkedItem))
+        → FamilyFrames (i ∷ is) k 0 fs → FamilyFrames is (k + 1) 1 fs
+    opened-frames c e h fs F = frames-jumped i is k 0 1 (λ j b. ap (λ c. past c b (j + 0)) e ∙ h b (j + 0) ∙ ap (jumping b) (omega arith)) fs F
+
+    if-family : (c : Class) → R .classFor (i .opcode) ≡ c → ((b : Bool) (n : ℕ) → past c b n ≡ jumping b (suc n)) → ((r : Replay Made) → carry byMakers R i c r ≡ branches r)
+        → (a : Arm MarkedItem) (fs : List (Frame MarkedItem)) → FamilyArm (i ∷ is) k running a → FamilyFrames (i ∷ is) k 0 fs → Leading (conditional a fs) is (k + 1)
+    if-family c e h g a fs F H = nested (ltb (length fs) maxOpen)
+      where
+        opened : (s : Stacks MarkedItem) → Family (i ∷ is) k running s → (o : Outcome MarkedItem) → dropItems 1 s ≡ o → Leading (onDone o refuses (λ t. opens (live t) fs)) is (k + 1)
+        opened s F (done t) q =
+            (branched i is k true (λ r. ap (λ c. carry byMakers R i c r) e ∙ g r) s F t q,
+            (branched i is k false (λ r. ap (λ c. carry byMakers R i c r) e ∙ g r) s F t q, opened-frames c e h fs H))
+        opened s F (refused r) q = tt
+
+        either : (a : Arm MarkedItem) → FamilyArm (i ∷ is) k running a → Leading (onIf a fs) is (k + 1)
+        either dead F = (tt, (tt, opened-frames c e h fs H))
+        either (live s) F = opened s F (dropItems 1 s) refl
+
+        nested : (b : Bool) → Leading (pick b (onIf a fs) (refuses nesting)) is (k + 1)
+        nested true = either a F
+        nested false = tt
+
+    moved-family : (a : Arm MarkedItem) (fs : List (Frame MarkedItem)) (o : Outcome MarkedItem) → ((s : Stacks MarkedItem) → o ≡ done s → Family is (k + 1) running s)
+        → FamilyFrames is (k + 1) 0 fs → Leading (onOutcome o fs) is (k + 1)
+    moved-family a fs (done s) f H = (f s refl, H)
+    moved-family a fs (refused r) f H = tt
+
+    effect-family : (c : Class) → R .classFor (i .opcode) ≡ c → (a : Arm MarkedItem) (fs : List (Frame MarkedItem)) → FamilyArm (i ∷ is) k running a → FamilyFrames (i ∷ is) k 0 fs
+        → Leading (effect marked R i c a fs) is (k + 1)
+    effect-family IF e a fs F H = if-family IF e (λ b n. refl) (λ r. refl) a fs F H
+    effect-family NOTIF e a fs F H = if-family NOTIF e (λ b n. refl) (λ r. refl) a fs F H
+    effect-family ELSE e a [] F H = tt
+    effect-family ELSE e a (f ∷ fs) F H = by (f .first) (H .0)
+      where
+        by : (t : FirstArm MarkedItem) → FamilyFirst (i ∷ is) k 0 t (f .start) → Leading (onElse a (f .start) t fs) is (k + 1)
+        by notEnded G =
+            (arm-jumped i is k true 0 running (ap (λ c. past c true 0) e) (f .start) G,
+            (arm-waited i is k (jumping false 0) (λ r. ap (λ c. carry byMakers R i c r) e) a F,
+            frames-jumped i is k 1 1 (λ j b. let n : j + 1 ≡ suc j = omega arith in ap (λ c. past c b (j + 1)) e ∙ ap (past ELSE b) n ∙ else-past b j ∙ ap (jumping b) (sym n)) fs (H .1)))
+        by (ended d) G = tt
+    effect-family ENDIF e a [] F H = tt
+    effect-family ENDIF e a (f ∷ fs) F H = by (f .first) (H .0)
+      where
+        here : FamilyArm is (k + 1) running a
+        here = arm-waited i is k running (λ r. ap (λ c. carry byMakers R i c r) e) a F
+
+        outer : FamilyFrames is (k + 1) 0 fs
+        outer = frames-jumped i is k 1 0 (λ j b. let n : j + 1 ≡ suc j = omega arith in let z : j + 0 ≡ j = omega arith in ap (λ c. past c b (j + 1)) e ∙ ap (past ENDIF b) n ∙ endif-past b j ∙ ap (jumping b) (sym z)) fs (H .1)
+
+        by : (t : FirstArm MarkedItem) → FamilyFirst (i ∷ is) k 0 t (f .start) → Leading (onEndif marked a (f .start) t fs) is (k + 1)
+        by notEnded G = join-family is (k + 1) i a (f .start) fs here (arm-jumped i is k true 0 running (ap (λ c. past c true 0) e) (f .start) G) outer
+        by (ended d) G = join-family is (k + 1) i d a fs (arm-jumped i is k false 0 running (ap (λ c. past c false 0) e) d G) here outer
+    effect-family RETURN e a fs F H = (tt, passed-frames RETURN e (λ b n. refl) fs H)
+    effect-family (ordinary o) e dead fs F H = (tt, passed-frames (ordinary o) e (λ b n. refl) fs H)
+    effect-family (ordinary o) e (live s) fs F H =
+        moved-family (live s) fs (step (marksAt (i .offset)) R i o s) (λ t q. stepped i is k small o e s F t q) (passed-frames (ordinary o) e (λ b n. refl) fs H)
+    effect-family (plain pops pushes) e dead fs F H = (tt, passed-frames (plain pops pushes) e (λ b n. refl) fs H)
+    effect-family (plain pops pushes) e (live s) fs F H =
+        moved-family (live s) fs (plainStep (marksAt (i .offset)) (R .limit) pops pushes s) (λ t q. plainStepped i is k small pops pushes e s F t q)
+        (passed-frames (plain pops pushes) e (λ b n. refl) fs H)
+
+  -- The walk
+
+  abbrev pub Small : List Instruction → Type 0
+  Small [] = Unit {0}
+  Small (i ∷ is) = (i .offset < 65534) × (Small is)
+
+  -- the end of an accepted walk has a family, where its beginning has one
+  end-family : (is : List Instruction) (k : ℕ) → Small is → (c : Arm MarkedItem) (fs : List (Frame MarkedItem)) → Accepts marked R is c fs → FamilyArm is k running c → FamilyFrames is k 0 fs
+      → FamilyArm [] (k + length is) running (armAt marked R is c fs (length is))
+  end-family [] k small c fs g F H = subst (λ n. FamilyArm [] n running c) (omega arith) F
+  end-family (i ∷ is) k small c fs g F H =
+      onto (effect marked R i (R .classFor (i .opcode)) c fs) (effect-family i is k (small .0) (R .classFor (i .opcode)) refl c fs F H) g
+      (λ d gs a F H. end-family is (k + 1) (small .1) d gs a F H)
+    where
+      onto : (mv : Move MarkedItem) → Leading mv is (k + 1) → Goes mv (λ c fs. Accepts marked R is c fs)
+          → ((d : Arm MarkedItem) (gs : List (Frame MarkedItem)) → Accepts marked R is d gs → FamilyArm is (k + 1) running d → FamilyFrames is (k + 1) 0 gs
+          → FamilyArm [] (k + 1 + length is) running (armAt marked R is d gs (length is)))
+          → FamilyArm [] (k + suc (length is)) running (after mv (λ c fs. armAt marked R is c fs (length is)))
+      onto (moves d gs) L a f =
+          subst (λ n. FamilyArm [] n running (armAt marked R is d gs (length is))) (omega arith) (f d gs a (L .0) (L .1))
+      onto (refuses r) L a f = absurd a
