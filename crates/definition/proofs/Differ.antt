@@ -37,17 +37,17 @@ seenAt offset = record {
 }
 
 -- the item of the marker; the item of one of the replays
-abbrev IsItem : {Ω : Type 0} → Seen Ω → MarkedItem → Type 0
+abbrev pub IsItem : {Ω : Type 0} → Seen Ω → MarkedItem → Type 0
 IsItem e x = e .item ≡ x
 
-abbrev In : {Ω : Type 0} → Ω → Seen Ω → Made → Type 0
+abbrev pub In : {Ω : Type 0} → Ω → Seen Ω → Made → Type 0
 In w e y = (e .makers w ≡ y .maker) × (Tells (e .item) y)
 
 -- at 65,534 two replays differ
-abbrev Differs : {Ω : Type 0} → Seen Ω → Type 0
+abbrev pub Differs : {Ω : Type 0} → Seen Ω → Type 0
 Differs {Ω = Ω} e = e .item .mark ≡ 65534 → (a b : Ω) × (e .makers a ≡ e .makers b → ⊥)
 
-abbrev Kept : {Ω : Type 0} → Seen Ω → Seen Ω → Type 0
+abbrev pub Kept : {Ω : Type 0} → Seen Ω → Seen Ω → Type 0
 Kept e f = (e ≡ f) × (Differs e)
 
 same-told : (B : Type 0) (p q : Option Bytes) → p ≡ q → Told {B = B} TheSame p q
@@ -177,11 +177,16 @@ endif-past : (b : Bool) (j : ℕ) → past ENDIF b (suc j) ≡ jumping b j
 endif-past true j = refl
 endif-past false j = refl
 
+-- offsets below 65,534, as all in an accepted fragment are
+abbrev pub Small : List Instruction → Type 0
+Small [] = Unit {0}
+Small (i ∷ is) = (i .offset < 65534) × (Small is)
+
 -- Families of replays
 
 module _ (R : Rules) (all : List Instruction) (main alt : ℕ) where
   -- whatever the choices to come, the rest of a replay from here is the rest of a whole one
-  abbrev Completes : List Instruction → ℕ → Going → Stacks Made → List Bytes → Type 0
+  abbrev pub Completes : List Instruction → ℕ → Going → Stacks Made → List Bytes → Type 0
   Completes is k m s results = (cs : List Bool) → length all ≤ length cs → (u : Stacks Made)
       → RunsOffWith u (replayFrom byMakers R is k m (record { stacks = s; choices = cs; results = results }))
       → (g : Given all main alt) × (RunsOffGiven R g u)
@@ -308,15 +313,15 @@ module _ (R : Rules) (all : List Instruction) (main alt : ℕ) where
 
   -- Arms and conditionals
 
-  abbrev FamilyArm : List Instruction → ℕ → Going → Arm MarkedItem → Type 1
+  abbrev pub FamilyArm : List Instruction → ℕ → Going → Arm MarkedItem → Type 1
   FamilyArm is k m dead = Unit {1}
   FamilyArm is k m (live s) = Family is k m s
 
-  abbrev FamilyFirst : List Instruction → ℕ → ℕ → FirstArm MarkedItem → Arm MarkedItem → Type 1
+  abbrev pub FamilyFirst : List Instruction → ℕ → ℕ → FirstArm MarkedItem → Arm MarkedItem → Type 1
   FamilyFirst is k n notEnded s = FamilyArm is k (jumping true n) s
   FamilyFirst is k n (ended a) s = FamilyArm is k (jumping false n) a
 
-  abbrev FamilyFrames : List Instruction → ℕ → ℕ → List (Frame MarkedItem) → Type 1
+  abbrev pub FamilyFrames : List Instruction → ℕ → ℕ → List (Frame MarkedItem) → Type 1
   FamilyFrames is k n [] = Unit {1}
   FamilyFrames is k n (f ∷ fs) = (FamilyFirst is k n (f .first) (f .start)) × (FamilyFrames is k (suc n) fs)
 
@@ -479,12 +484,8 @@ module _ (R : Rules) (all : List Instruction) (main alt : ℕ) where
 
   -- The walk
 
-  abbrev pub Small : List Instruction → Type 0
-  Small [] = Unit {0}
-  Small (i ∷ is) = (i .offset < 65534) × (Small is)
-
   -- the end of an accepted walk has a family, where its beginning has one
-  end-family : (is : List Instruction) (k : ℕ) → Small is → (c : Arm MarkedItem) (fs : List (Frame MarkedItem)) → Accepts marked R is c fs → FamilyArm is k running c → FamilyFrames is k 0 fs
+  pub end-family : (is : List Instruction) (k : ℕ) → Small is → (c : Arm MarkedItem) (fs : List (Frame MarkedItem)) → Accepts marked R is c fs → FamilyArm is k running c → FamilyFrames is k 0 fs
       → FamilyArm [] (k + length is) running (armAt marked R is c fs (length is))
   end-family [] k small c fs g F H = subst (λ n. FamilyArm [] n running c) (omega arith) F
   end-family (i ∷ is) k small c fs g F H =

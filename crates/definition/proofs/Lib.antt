@@ -12,6 +12,7 @@ pub mod Complete
 pub mod Origins
 pub mod Aside
 pub mod Differ
+pub mod TrueOrigins
 pub mod TrueOfEveryReplay
 pub mod TrueOfPaper
 pub mod LongData

@@ -61,7 +61,7 @@ starts [] (suc n) e = absurd (omega arith)
 starts (b ∷ l) zero e = absurd (omega arith)
 starts (b ∷ l) (suc n) e = above (tt, inl refl) (starts l n (omega arith))
 
-each-made : {l : List MarkedItem} {m : List Made} → Paired Tells l m → EachMadeAs l m
+pub each-made : {l : List MarkedItem} {m : List Made} → Paired Tells l m → EachMadeAs l m
 each-made bottom = tt
 each-made (above r h) = (r .1, each-made h)
 
