@@ -318,5 +318,5 @@ pub comes : (R : Rules) (is : List Instruction) (s : Stacks Item) → ExactBytes
     → (r : Replay Bytes) × (ReplayOf is s r) × (P (wholeReplay byBytes R is r))
 comes R is s b g j h P earlier q =
     let c = comesFrom shows-simulates R is s (record { main = stringsFor (s .main); alt = stringsFor (s .alt) }) (replicate (length is) [])
-        (pairedStacks (replayFor-shows is s [])) g j h P earlier q in
+    (pairedStacks (replayFor-shows is s [])) g j h P earlier q in
     (replayFor is s (c .0), replayFor-is is s (c .0) b (c .1), c .2)

@@ -152,10 +152,14 @@ module _ {Ω Ψ : Type 0} where
           → (a b : Ω ⊎ Ψ) × (joinSeen e f .makers a ≡ joinSeen e f .makers b → ⊥)
       across n true b h k = left (eqb-true (e .item .mark) 65534 h)
       across n false true h k = right (eqb-true (f .item .mark) 65534 k)
-      across n false false h k = (inl v, inr w, λ c.
-          let a = made-mark (e .item .mark) (y .maker) (eqb-false (e .item .mark) 65534 h) (p .1 .1) in
-          let b = made-mark (f .item .mark) (z .maker) (eqb-false (f .item .mark) 65534 k) (q .1 .1) in
-          n (a ∙ ap markOf (sym (p .0) ∙ c ∙ q .0) ∙ sym b))
+      across n false false h k = (
+        inl v,
+        inr w,
+        λ c.
+            let a = made-mark (e .item .mark) (y .maker) (eqb-false (e .item .mark) 65534 h) (p .1 .1) in
+            let b = made-mark (f .item .mark) (z .maker) (eqb-false (f .item .mark) 65534 k) (q .1 .1) in
+            n (a ∙ ap markOf (sym (p .0) ∙ c ∙ q .0) ∙ sym b),
+      )
 
       by : (t : Bool) → eqb (e .item .mark) (f .item .mark) ≡ t → pick t (e .item .mark) 65534 ≡ 65534
           → (a b : Ω ⊎ Ψ) × (joinSeen e f .makers a ≡ joinSeen e f .makers b → ⊥)
@@ -345,9 +349,10 @@ module _ (R : Rules) (all : List Instruction) (main alt : ℕ) where
     frames-jumped : (n n′ : ℕ) → ((j : ℕ) (b : Bool) → past met-class b (j + n) ≡ jumping b (j + n′)) → (fs : List (Frame MarkedItem))
         → FamilyFrames (i ∷ is) k n fs → FamilyFrames is (k + 1) n′ fs
     frames-jumped n n′ e [] F = tt
-    frames-jumped n n′ e (f ∷ fs) F =
-        (first-jumped n n′ (λ b. ap (past met-class b) (omega arith) ∙ e 0 b ∙ ap (jumping b) (omega arith)) (f .first) (f .start) (F .0),
-        frames-jumped (suc n) (suc n′) (λ j b. ap (past met-class b) (omega arith) ∙ e (suc j) b ∙ ap (jumping b) (omega arith)) fs (F .1))
+    frames-jumped n n′ e (f ∷ fs) F = (
+      first-jumped n n′ (λ b. ap (past met-class b) (omega arith) ∙ e 0 b ∙ ap (jumping b) (omega arith)) (f .first) (f .start) (F .0),
+      frames-jumped (suc n) (suc n′) (λ j b. ap (past met-class b) (omega arith) ∙ e (suc j) b ∙ ap (jumping b) (omega arith)) fs (F .1),
+    )
 
     -- both sides of a conditional are live: the family is both
     joined-family : (s t u : Stacks MarkedItem) → Family is k running s → Family is k running t → joinStacks marked s t ≡ done u → Family is k running u
@@ -430,9 +435,10 @@ module _ (R : Rules) (all : List Instruction) (main alt : ℕ) where
     if-family c e h g a fs F H = nested (ltb (length fs) maxOpen)
       where
         opened : (s : Stacks MarkedItem) → Family (i ∷ is) k running s → (o : Outcome MarkedItem) → dropItems 1 s ≡ o → Leading (onDone o refuses (λ t. opens (live t) fs)) is (k + 1)
-        opened s F (done t) q =
-            (branched i is k true (λ r. ap (λ c. carry byMakers R i c r) e ∙ g r) s F t q,
-            (branched i is k false (λ r. ap (λ c. carry byMakers R i c r) e ∙ g r) s F t q, opened-frames c e h fs H))
+        opened s F (done t) q = (
+          branched i is k true (λ r. ap (λ c. carry byMakers R i c r) e ∙ g r) s F t q,
+          (branched i is k false (λ r. ap (λ c. carry byMakers R i c r) e ∙ g r) s F t q, opened-frames c e h fs H),
+        )
         opened s F (refused r) q = tt
 
         either : (a : Arm MarkedItem) → FamilyArm (i ∷ is) k running a → Leading (onIf a fs) is (k + 1)
@@ -456,10 +462,13 @@ module _ (R : Rules) (all : List Instruction) (main alt : ℕ) where
     effect-family ELSE e a (f ∷ fs) F H = by (f .first) (H .0)
       where
         by : (t : FirstArm MarkedItem) → FamilyFirst (i ∷ is) k 0 t (f .start) → Leading (onElse a (f .start) t fs) is (k + 1)
-        by notEnded G =
-            (arm-jumped i is k true 0 running (ap (λ c. past c true 0) e) (f .start) G,
-            (arm-waited i is k (jumping false 0) (λ r. ap (λ c. carry byMakers R i c r) e) a F,
-            frames-jumped i is k 1 1 (λ j b. let n : j + 1 ≡ suc j = omega arith in ap (λ c. past c b (j + 1)) e ∙ ap (past ELSE b) n ∙ else-past b j ∙ ap (jumping b) (sym n)) fs (H .1)))
+        by notEnded G = (
+          arm-jumped i is k true 0 running (ap (λ c. past c true 0) e) (f .start) G,
+          (
+            arm-waited i is k (jumping false 0) (λ r. ap (λ c. carry byMakers R i c r) e) a F,
+            frames-jumped i is k 1 1 (λ j b. let n : j + 1 ≡ suc j = omega arith in ap (λ c. past c b (j + 1)) e ∙ ap (past ELSE b) n ∙ else-past b j ∙ ap (jumping b) (sym n)) fs (H .1),
+          ),
+        )
         by (ended d) G = tt
     effect-family ENDIF e a [] F H = tt
     effect-family ENDIF e a (f ∷ fs) F H = by (f .first) (H .0)

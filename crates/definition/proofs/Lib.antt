@@ -13,6 +13,7 @@ pub mod Origins
 pub mod Aside
 pub mod Differ
 pub mod TrueOrigins
+pub mod MarkWitnesses
 pub mod TrueOfEveryReplay
 pub mod TrueOfPaper
 pub mod LongData

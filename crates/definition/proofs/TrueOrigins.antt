@@ -53,19 +53,22 @@ start-family R is main alt = record {
     stacks = record { main = fromStart (replicate main []); alt = fromStart (replicate alt []) };
     results = replicate (length is) [];
     follows = record { main = start-in main; alt = start-in alt };
-    completes = λ cs l u h. (record {
-      mainStrings = replicate main [];
-      altStrings = replicate alt [];
-      choices = cs;
-      results = replicate (length is) [];
-      mains = length-replicate {A = Bytes} main [];
-      alts = length-replicate {A = Bytes} alt [];
-      mainBytes = no-bytes main;
-      altBytes = no-bytes alt;
-      resultBytes = no-bytes (length is);
-      enoughChoices = l;
-      enoughResults = rw (length-replicate {A = Bytes} (length is) []) (omega arith);
-    }, h);
+    completes = λ cs l u h. (
+      record {
+        mainStrings = replicate main [];
+        altStrings = replicate alt [];
+        choices = cs;
+        results = replicate (length is) [];
+        mains = length-replicate {A = Bytes} main [];
+        alts = length-replicate {A = Bytes} alt [];
+        mainBytes = no-bytes main;
+        altBytes = no-bytes alt;
+        resultBytes = no-bytes (length is);
+        enoughChoices = l;
+        enoughResults = rw (length-replicate {A = Bytes} (length is) []) (omega arith);
+      },
+      h,
+    );
   };
 }
 
@@ -100,18 +103,30 @@ module _ (R : Rules) (is : List Instruction) (main alt n : ℕ) (s : Stacks Mark
   differ-main j z =
       let p = placed j (F .kept .main) (F .marks .main) z in
       let a = ends-with (p .0) in
-      let b = ends-with (p .1) in
-      (a .0, b .0, F .member (p .0) .stacks, F .member (p .1) .stacks, a .1, b .1,
-      λ e. p .2 (sym (in-maker (p .0) j (F .member (p .0) .follows .main)) ∙ e ∙ in-maker (p .1) j (F .member (p .1) .follows .main)))
+      let b = ends-with (p .1) in (
+        a .0,
+        b .0,
+        F .member (p .0) .stacks,
+        F .member (p .1) .stacks,
+        a .1,
+        b .1,
+        λ e. p .2 (sym (in-maker (p .0) j (F .member (p .0) .follows .main)) ∙ e ∙ in-maker (p .1) j (F .member (p .1) .follows .main)),
+      )
 
   differ-alt : (j : ℕ) → getD (s .alt) j startItem .mark ≡ 65534
       → (g h : Given is main alt) × (u v : Stacks Made) × (RunsOffGiven R g u) × (RunsOffGiven R h v) × (makerAt j (u .alt) ≡ makerAt j (v .alt) → ⊥)
   differ-alt j z =
       let p = placed j (F .kept .alt) (F .marks .alt) z in
       let a = ends-with (p .0) in
-      let b = ends-with (p .1) in
-      (a .0, b .0, F .member (p .0) .stacks, F .member (p .1) .stacks, a .1, b .1,
-      λ e. p .2 (sym (in-maker (p .0) j (F .member (p .0) .follows .alt)) ∙ e ∙ in-maker (p .1) j (F .member (p .1) .follows .alt)))
+      let b = ends-with (p .1) in (
+        a .0,
+        b .0,
+        F .member (p .0) .stacks,
+        F .member (p .1) .stacks,
+        a .1,
+        b .1,
+        λ e. p .2 (sym (in-maker (p .0) j (F .member (p .0) .follows .alt)) ∙ e ∙ in-maker (p .1) j (F .member (p .1) .follows .alt)),
+      )
 
 -- The analysis
 
