@@ -21,6 +21,7 @@ pub mod ListingsBack
 pub mod PrintedPapers
 pub mod NumberForm
 pub mod Sittings
+pub mod Estimates
 pub mod GoodMaps
 pub mod BuiltInMap
 pub mod UnderEveryMap

@@ -10,7 +10,7 @@ use borrow.Author.Tests.{leb-true, eqb-true, eqb-false, ne-eqb}
 use lib.Dec.{leb, eqb}
 use lib.ListN.{length, getD, replicate}
 use Rattle.definition.specs.Basics.{pick}
-use Rattle.definition.specs.Refusals.{Refusal, malformedFragment, nesting, altDry, badIndex, badTag, armsDiffer, strayElse, secondElse, strayEndif, openIf, badHeader, tallyFull, badSitting, crookedNumber, negativeIndex, strangeWord, outputShort, badMap, badLimit, longFragment, unmodelledOpcode, opcodeCount, scriptSize, longPaper, longElement, startTooLarge, shortLog, stacksFull, mainDry, dispatchTooLarge, refusedAt, greatestNumber}
+use Rattle.definition.specs.Refusals.{Refusal, malformedFragment, nesting, altDry, badIndex, badTag, armsDiffer, strayElse, secondElse, strayEndif, openIf, badHeader, tallyFull, badSitting, crookedNumber, negativeIndex, strangeWord, outputShort, badMap, badLimit, noSize, sizePasses, longFragment, unmodelledOpcode, opcodeCount, scriptSize, longPaper, longElement, startTooLarge, shortLog, stacksFull, mainDry, dispatchTooLarge, overMaximum, refusedAt, greatestNumber}
 use Rattle.definition.specs.Sums.{Pair, pairs, occurrences, occurrencesFrom, acceptedPeaks, sumOf, inUse, maxSitting, goodSitting, SittingSums, goodSums, badSums, sums}
 use Rattle.definition.proofs.Sound.{and-true}
 
@@ -133,6 +133,8 @@ atMostGreatest at strangeWord = omega arith
 atMostGreatest at outputShort = omega arith
 atMostGreatest at badMap = omega arith
 atMostGreatest at badLimit = omega arith
+atMostGreatest at noSize = omega arith
+atMostGreatest at sizePasses = omega arith
 atMostGreatest at (longFragment n) = omega arith
 atMostGreatest at (unmodelledOpcode n) = omega arith
 atMostGreatest at (opcodeCount n) = omega arith
@@ -144,6 +146,7 @@ atMostGreatest at (shortLog n m) = omega arith
 atMostGreatest at (stacksFull n m) = omega arith
 atMostGreatest at (mainDry n m) = omega arith
 atMostGreatest at (dispatchTooLarge n m) = omega arith
+atMostGreatest at (overMaximum n m) = omega arith
 
-pub greatestGiven : refusedAt 0 (longElement 521) .number ≡ greatestNumber
+pub greatestGiven : refusedAt 0 (overMaximum 6 5) .number ≡ greatestNumber
 greatestGiven = refl

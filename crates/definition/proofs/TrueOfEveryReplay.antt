@@ -12,7 +12,7 @@ use lib.Dec.{ltb, leb}
 use lib.ListN.{length, getD, take, drop, replicate, length-drop, length-replicate}
 use Rattle.definition.specs.Basics.{Bytes, pick}
 use Rattle.definition.specs.Decoding.{Instruction, Code, decode, instructions, malformedAt}
-use Rattle.definition.specs.Refusals.{Refusal, malformedFragment, nesting, altDry, badIndex, badTag, armsDiffer, strayElse, secondElse, strayEndif, openIf, badHeader, tallyFull, badSitting, crookedNumber, negativeIndex, strangeWord, outputShort, badMap, badLimit, longFragment, unmodelledOpcode, opcodeCount, scriptSize, longPaper, longElement, startTooLarge, shortLog, stacksFull, mainDry, dispatchTooLarge, maxFragment, refusedAt}
+use Rattle.definition.specs.Refusals.{Refusal, malformedFragment, nesting, altDry, badIndex, badTag, armsDiffer, strayElse, secondElse, strayEndif, openIf, badHeader, tallyFull, badSitting, crookedNumber, negativeIndex, strangeWord, outputShort, badMap, badLimit, noSize, sizePasses, longFragment, unmodelledOpcode, opcodeCount, scriptSize, longPaper, longElement, startTooLarge, shortLog, stacksFull, mainDry, dispatchTooLarge, overMaximum, maxFragment, refusedAt}
 use Rattle.definition.specs.Stacks.{Rules, builtIn, Stacks, total, stackHeights}
 use Rattle.definition.specs.Walk.{Item, unknown, Arm, dead, live, heightsOf, State, totalOf, WalkEnd, passed, stopped, walk, Marked, refusedEarly, answered, begin, tested, analysisOf, unknowns, analysis}
 use Rattle.definition.specs.Replay.{Replay, running, Trace, visit, offEnd, returned, faulted, replayFrom, wholeReplay, ReachedAt, RunsOffWith, HasTotal, TotalsWithin, ShowsArm, AreStrings, ReplayOf, EveryReplay, SomeReplay, heightsAt, LiveRow, SomeReplayReaches, Demand3, TrueOfEveryReplay}
@@ -206,6 +206,8 @@ refused-number at strangeWord h = omega (arith, h)
 refused-number at outputShort h = omega (arith, h)
 refused-number at badMap h = omega (arith, h)
 refused-number at badLimit h = omega (arith, h)
+refused-number at noSize h = omega (arith, h)
+refused-number at sizePasses h = omega (arith, h)
 refused-number at (longFragment n) h = omega (arith, h)
 refused-number at (unmodelledOpcode n) h = omega (arith, h)
 refused-number at (opcodeCount n) h = omega (arith, h)
@@ -217,6 +219,7 @@ refused-number at (shortLog n m) h = omega (arith, h)
 refused-number at (stacksFull n m) h = omega (arith, h)
 refused-number at (mainDry n m) h = omega (arith, h)
 refused-number at (dispatchTooLarge n m) h = omega (arith, h)
+refused-number at (overMaximum n m) h = omega (arith, h)
 
 -- what holds wherever the walk passes with room in the log holds of an accepted analysis
 module _ (R : Rules) (P : Marked → Type 0) where

@@ -19,3 +19,4 @@ pub mod Allows
 pub mod Maps
 pub mod Examined
 pub mod Years
+pub mod Estimate

@@ -4,9 +4,9 @@ use Prim.Native.Nat.{ℕ}
 -- the word of a refusal, with those of its figures that are not fixed
 pub data Refusal : Type 0 where
   malformedFragment nesting altDry badIndex badTag armsDiffer strayElse secondElse strayEndif openIf badHeader tallyFull badSitting : Refusal
-  crookedNumber negativeIndex strangeWord outputShort badMap badLimit : Refusal
+  crookedNumber negativeIndex strangeWord outputShort badMap badLimit noSize sizePasses : Refusal
   longFragment unmodelledOpcode opcodeCount scriptSize longPaper longElement : ℕ → Refusal
-  startTooLarge shortLog stacksFull mainDry dispatchTooLarge : ℕ → ℕ → Refusal
+  startTooLarge shortLog stacksFull mainDry dispatchTooLarge overMaximum : ℕ → ℕ → Refusal
 
 -- the greatest counts of sections 6 and 7; the stack limit, 244, is one of the rules (Stacks)
 abbrev pub maxFragment : ℕ
@@ -27,7 +27,7 @@ maxElement = 520
 
 -- request L1, "the greatest in use": every verdict number below is at most this one. A request that adds numbers raises it.
 abbrev pub greatestNumber : ℕ
-greatestNumber = 30
+greatestNumber = 33
 
 -- number, offset and two figures: what the limit check answers, and part of every verdict
 pub record Answer : Type 0 where
@@ -76,3 +76,6 @@ refusedAt at outputShort = answer 27 at 0 0
 refusedAt at badMap = answer 28 at 0 0
 refusedAt at badLimit = answer 29 at 0 0
 refusedAt at (longElement length) = answer 30 at length maxElement
+refusedAt at noSize = answer 31 at 0 0
+refusedAt at sizePasses = answer 32 at 0 0
+refusedAt at (overMaximum estimate maximum) = answer 33 at estimate maximum
