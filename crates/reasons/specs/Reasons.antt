@@ -50,6 +50,9 @@ reasons first second =
     ∷ text "bad map"
     ∷ text "bad limit"
     ∷ both "long element: length " first ", limit " second
+    ∷ text "no size"
+    ∷ text "size: a product or sum passes 4294967295"
+    ∷ both "over the maximum: estimate " first ", maximum " second
     ∷ []
 
 -- that of one number, and nothing for a number past the table

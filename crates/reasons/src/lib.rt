@@ -37,7 +37,7 @@ fn write_opcode(out: &mut [u8], at: usize, word: &[u8], opcode: u64) -> usize
     text::write_hex(out, next, opcode)
 }
 
-// The word of a number with its figures: document 01, section 7, and document 02. From 0 to 5, to 11, to 17, to 23 and to 29.
+// The word of a number with its figures: document 01, section 7, and document 02. From 0 to 5, to 11, to 17, to 23, to 29 and to 33.
 fn write_reason_0(out: &mut [u8], at: usize, number: u32, first: u64, second: u64) -> usize
     requires { ⌜ (at + 80 ≤ length (now out)) × ((0 ≤ number) × (number ≤ 5)) ⌝ }
     ensures same { λ r. ⌜ Written (now (out .entry)) at (reason number first second) (now (out .exit)) r ⌝ }
@@ -135,6 +135,33 @@ fn write_reason_24(out: &mut [u8], at: usize, number: u32, first: u64, second: u
     }
 }
 
+fn write_reason_30(out: &mut [u8], at: usize, number: u32, first: u64, second: u64) -> usize
+    requires { ⌜ (at + 80 ≤ length (now out)) × ((30 ≤ number) × (number ≤ 33)) ⌝ }
+    ensures same { λ r. ⌜ Written (now (out .entry)) at (reason number first second) (now (out .exit)) r ⌝ }
+    ensures short { λ r. ⌜ r ≤ at + 80 ⌝ }
+{
+    match number {
+        30 => write_both(
+            out,
+            at,
+            b"long element: length ",
+            first,
+            b", limit ",
+            second,
+        ),
+        31 => text::write_word(out, at, b"no size"),
+        32 => text::write_word(out, at, b"size: a product or sum passes 4294967295"),
+        _ => write_both(
+            out,
+            at,
+            b"over the maximum: estimate ",
+            first,
+            b", maximum ",
+            second,
+        ),
+    }
+}
+
 // The word of any number, and nothing for one past the table.
 pub fn write_reason(out: &mut [u8], at: usize, number: u32, first: u64, second: u64) -> usize
     requires { ⌜ at + 80 ≤ length (now out) ⌝ }
@@ -156,15 +183,8 @@ pub fn write_reason(out: &mut [u8], at: usize, number: u32, first: u64, second: 
     if number < 30 {
         return write_reason_24(out, at, number, first, second);
     }
-    if number == 30 {
-        return write_both(
-            out,
-            at,
-            b"long element: length ",
-            first,
-            b", limit ",
-            second,
-        );
+    if number < 34 {
+        return write_reason_30(out, at, number, first, second);
     }
     at
 }

@@ -11,9 +11,9 @@ ghost use Rattle.sums.specs.View.{sumsOf, goodLength};
 const MAX_SITTING: usize = 8192;
 
 // The greatest verdict number in use, and how many numbers there are up to it.
-pub const GREATEST_NUMBER: u32 = 30;
+pub const GREATEST_NUMBER: u32 = 33;
 
-pub const NUMBERS: usize = 31;
+pub const NUMBERS: usize = 34;
 
 // 0 or 23; how often each verdict number occurred, from 0 to the greatest in use; sum and count of the peaks of the accepted.
 pub struct SittingSums {

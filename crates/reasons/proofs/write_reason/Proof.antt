@@ -1,7 +1,6 @@
 use borrow.Author.Needs.{needs}
 use native.Mathlib.Omega.{arith}
-use Rattle.reasons.specs.Reasons.{reason}
-use Rattle.reasons.proofs.Texts.{reason-at, reason-past}
+use Rattle.reasons.proofs.Texts.{reason-past}
 use Rattle.reasons.proofs.write_reason.Statement.{statement}
 use Rattle.reasons.proofs.write_reason.Tie as tie
 
@@ -60,33 +59,22 @@ returns-5 c =
     let w = c .before .before in
     (w .write-reason-24 .ensures .0, w .write-reason-24 .ensures .1)
 
-slice-aggregate-write-both : tie.Need-slice-aggregate-write-both
-slice-aggregate-write-both c = search needs
-
-slice-aggregate-write-both-2 : tie.Need-slice-aggregate-write-both-2
-slice-aggregate-write-both-2 c = search needs
-
-write-both-requires : tie.Need-write-both-requires
-write-both-requires c κs = search needs
+write-reason-30-requires : tie.Need-write-reason-30-requires
+write-reason-30-requires c κs = search needs
 
 same-length-6 : tie.Need-same-length-6
 same-length-6 c = search needs
 
 returns-6 : tie.Need-returns-6
-unfolding reason
 returns-6 c =
     let w = c .before .before in
-    let m = w .before .before .before .before in
-    let s = m .before .before .before .before .before .before .before in (
-      reason-at (s .args .first) (s .args .second) (s .args .number) 30 (m .if6 .taken) (w .write-both .ensures .0),
-      omega (arith, w .write-both .ensures .1),
-    )
+    (w .write-reason-30 .ensures .0, w .write-reason-30 .ensures .1)
 
 returns-7 : tie.Need-returns-7
 returns-7 c =
     let s = c .before .before .before .before .before .before .before in (
       reason-past (s .args .first) (s .args .second) (s .args .out .now) (s .args .at) (s .args .number)
-          (omega (arith, c .before .if5 .left, c .if6 .left)),
+          (omega (arith, c .if6 .left)),
       omega arith,
     )
 
@@ -109,9 +97,7 @@ write-reason-spec =
     write-reason-24-requires
     same-length-5
     returns-5
-    slice-aggregate-write-both
-    slice-aggregate-write-both-2
-    write-both-requires
+    write-reason-30-requires
     same-length-6
     returns-6
     returns-7)
