@@ -1,9 +1,18 @@
--- Signature script estimates: by example (`sizesByExample`, `estimatesByExample`, `refusalsByExample`).
+-- Signature script estimates: by example (`pushesByExample` to `maximumByExample`); where both lists are accepted, more arguments
+-- and longer dimensions never lower the estimate (`neverLower`); 31 is for a list outside the form (`outsideAt31`), and such a list
+-- gets 32 if the base or an argument before its first bad one passes 4,294,967,295, else 31 (`outsideGets`).
+use mathlib.Core.Bool.{Bool, true, false}
 use mathlib.Core.List.{List, [], _∷_}
-use mathlib.Core.Path.{_≡_, refl}
-use Prim.Native.Nat.{ℕ}
-use Rattle.definition.specs.Refusals.{answer, refusedAt, noSize, sizePasses, overMaximum}
-use Rattle.definition.specs.Estimate.{Size, size, refused, pushSize, estimated, base}
+use mathlib.Core.Path.{_≡_, refl, sym, ap, _∙_}
+use Prim.Native.Nat.{ℕ, _+_, _*_, _≤_}
+use native.Mathlib.Nat.{mul-le-mul-left, mul-le-mul-right}
+use native.Mathlib.Omega.{arith}
+use borrow.Author.Tests.{leb-true, leb-false}
+use lib.Dec.{leb}
+use Rattle.definition.specs.Basics.{pick}
+use Rattle.definition.specs.Refusals.{answer, accepted, refusedAt, noSize, sizePasses, overMaximum}
+use Rattle.definition.specs.Estimate.{Size, size, refused, onSize, within, pushSize, Kind, int, temporal, bool, byte, string, pubkey, sig, datasig, plainSize, Argument, plain, array, Arguments, ends, outside, then, argumentsFrom, product, argumentSize, base, added, total, Estimated, judged, estimated}
+use Rattle.definition.proofs.TrueOfEveryReplay.{refused-number}
 
 -- By example
 
@@ -85,3 +94,264 @@ pub maximumByExample :
     × Refuses (0 ∷ 0 ∷ 3 ∷ 1 ∷ 0 ∷ 4294967295 ∷ []) 0 0 32 0 0
 unfolding estimated
 maximumByExample = (refl, refl, refl, refl, refl)
+
+-- Never lower
+
+-- each length at most that at its place
+abbrev pub AtMost : List ℕ → List ℕ → Type 0
+AtMost [] [] = Unit {0}
+AtMost [] (m ∷ k) = ⊥
+AtMost (n ∷ l) [] = ⊥
+AtMost (n ∷ l) (m ∷ k) = (n ≤ m) × AtMost l k
+
+-- the same argument, with longer dimensions or the same
+abbrev pub AtMostAs : Argument → Argument → Type 0
+AtMostAs (plain kind) (plain other) = kind ≡ other
+AtMostAs (plain kind) (array e l) = ⊥
+AtMostAs (array e l) (plain kind) = ⊥
+AtMostAs (array e l) (array f m) = (e ≡ f) × AtMost l m
+
+-- the arguments of the first in their order, each with longer dimensions or the same, and any between them
+pub data Grown : Arguments → Arguments → Type 0 where
+  none : Grown ends ends
+  longer : {a b : Argument} {r s : Arguments} → AtMostAs a b → Grown r s → Grown (then a r) (then b s)
+  more : {b : Argument} {r s : Arguments} → Grown r s → Grown r (then b s)
+
+-- what is made of a size that there is
+inv : (s : Size) (f : ℕ → Size) (y : ℕ) → onSize s f ≡ size y → (n : ℕ) × (s ≡ size n) × (f n ≡ size y)
+inv (size n) f y e = (n, refl, e)
+inv (refused r) f y e = absurd (let z : _≡_ {A = ℕ} 0 1 = cc in omega arith)
+
+within-is : (n y : ℕ) → within n ≡ size y → n ≡ y
+within-is n y = by (leb n 4294967295)
+  where
+    by : (b : Bool) → pick b (size n) (refused sizePasses) ≡ size y → n ≡ y
+    by true e = cc
+    by false e = absurd (let z : _≡_ {A = ℕ} 0 1 = cc in omega arith)
+
+-- the prefix of a push grows
+least : (c x y : ℕ) (b : Bool) → c ≤ x → c ≤ y → c ≤ pick b x y
+least c x y true g h = g
+least c x y false g h = h
+
+step : (n m k a x y : ℕ) → n ≤ m → x ≤ y → a ≤ y → pick (leb n k) a x ≤ pick (leb m k) a y
+step n m k a x y h g f = by (leb n k) (leb m k) refl refl
+  where
+    by : (b c : Bool) → leb n k ≡ b → leb m k ≡ c → pick b a x ≤ pick c a y
+    by true true p q = omega arith
+    by true false p q = f
+    by false true p q = absurd (omega (arith, leb-false n k p, leb-true m k q))
+    by false false p q = g
+
+abbrev prefix : ℕ → ℕ
+prefix n = pick (leb n 75) 1 (pick (leb n 255) 2 (pick (leb n 65535) 3 5))
+
+prefix-grows : (n m : ℕ) → n ≤ m → prefix n ≤ prefix m
+prefix-grows n m h =
+    step n m 75 1 (pick (leb n 255) 2 (pick (leb n 65535) 3 5)) (pick (leb m 255) 2 (pick (leb m 65535) 3 5)) h
+    (step n m 255 2 (pick (leb n 65535) 3 5) (pick (leb m 65535) 3 5) h (step n m 65535 3 5 5 h (omega arith) (omega arith)) (least 2 3 5 (leb m 65535) (omega arith) (omega arith)))
+    (least 1 2 (pick (leb m 65535) 3 5) (leb m 255) (omega arith) (least 1 3 5 (leb m 65535) (omega arith) (omega arith)))
+
+push-grows : (n m x y : ℕ) → n ≤ m → pushSize n ≡ size x → pushSize m ≡ size y → x ≤ y
+push-grows n m x y h e f =
+    omega (arith, within-is (n + prefix n) x e, within-is (m + prefix m) y f, prefix-grows n m h)
+
+product-grows : (e f : ℕ) (l m : List ℕ) (x y : ℕ) → e ≤ f → AtMost l m → product e l ≡ size x → product f m ≡ size y → x ≤ y
+product-grows e f [] [] x y h a p q =
+    let p' : e ≡ x = cc in
+    let q' : f ≡ y = cc in
+    omega arith
+product-grows e f [] (m ∷ k) x y h a p q = absurd a
+product-grows e f (n ∷ l) [] x y h a p q = absurd a
+product-grows e f (n ∷ l) (m ∷ k) x y h a p q =
+    let u = inv (within (e * n)) (λ w. product w l) x p in
+    let v = inv (within (f * m)) (λ w. product w k) y q in
+    let g : e * n ≤ f * m = omega (arith, mul-le-mul-right n h, mul-le-mul-left f (a .0)) in
+    product-grows (u .0) (v .0) l k x y (omega (arith, within-is (e * n) (u .0) (u .1), within-is (f * m) (v .0) (v .1))) (a .1) (u .2) (v .2)
+
+argument-grows : (a b : Argument) (x y : ℕ) → AtMostAs a b → argumentSize a ≡ size x → argumentSize b ≡ size y → x ≤ y
+argument-grows (plain kind) (plain other) x y h p q =
+    let e : x ≡ y = cc in
+    omega arith
+argument-grows (plain kind) (array e l) x y h p q = absurd h
+argument-grows (array e l) (plain kind) x y h p q = absurd h
+argument-grows (array e l) (array f m) x y h p q =
+    let u = inv (product e l) pushSize x p in
+    let v = inv (product f m) pushSize y q in
+    push-grows (u .0) (v .0) x y (product-grows e f l m (u .0) (v .0) (omega (arith, h .0)) (h .1) (u .1) (v .1)) (u .2) (v .2)
+
+added-grows : {r s : Arguments} → Grown r s → (i j x y : ℕ) → i ≤ j → added i r ≡ size x → added j s ≡ size y → x ≤ y
+added-grows none i j x y h p q =
+    let p' : i ≡ x = cc in
+    let q' : j ≡ y = cc in
+    omega arith
+added-grows (longer {a} {b} {r} {s} l g) i j x y h p q =
+    let u = inv (argumentSize a) (λ n. onSize (within (i + n)) (λ t. added t r)) x p in
+    let v = inv (argumentSize b) (λ n. onSize (within (j + n)) (λ t. added t s)) y q in
+    let u' = inv (within (i + u .0)) (λ t. added t r) x (u .2) in
+    let v' = inv (within (j + v .0)) (λ t. added t s) y (v .2) in
+    added-grows g (u' .0) (v' .0) x y
+    (omega (arith, h, within-is (i + u .0) (u' .0) (u' .1), within-is (j + v .0) (v' .0) (v' .1), argument-grows a b (u .0) (v .0) l (u .1) (v .1)))
+    (u' .2) (v' .2)
+added-grows (more {b} {r} {s} g) i j x y h p q =
+    let v = inv (argumentSize b) (λ n. onSize (within (j + n)) (λ t. added t s)) y q in
+    let v' = inv (within (j + v .0)) (λ t. added t s) y (v .2) in
+    added-grows g i (v' .0) x y (omega (arith, h, within-is (j + v .0) (v' .0) (v' .1))) p (v' .2)
+
+-- what an accepted list has
+-- within the maximum, or 33
+abbrev either : Bool → ℕ → ℕ → Estimated
+either b n maximum = pick b (record { answer = accepted; estimate = n }) (record { answer = refusedAt 0 (overMaximum n maximum); estimate = 0 })
+
+accepted-total : (s : Size) (maximum : ℕ) → judged maximum s .answer .number ≡ 0 → s ≡ size (judged maximum s .estimate)
+accepted-total (refused r) maximum e = absurd (refused-number 0 r e)
+accepted-total (size n) maximum e = by (leb n maximum) e
+  where
+    by : (b : Bool) → either b n maximum .answer .number ≡ 0 → size n ≡ size (either b n maximum .estimate)
+    by true e = refl
+    by false e = absurd (omega (arith, e))
+
+module _ (l m : List ℕ) (redeem most other : ℕ) where
+  -- "where both lists are accepted": by whatever maximum each
+  pub neverLower : Grown (argumentsFrom 0 l) (argumentsFrom 0 m) → estimated l redeem most .answer .number ≡ 0 → estimated m redeem other .answer .number ≡ 0
+      → estimated l redeem most .estimate ≤ estimated m redeem other .estimate
+  unfolding estimated
+  neverLower g e f =
+      let x : ℕ = judged most (total l redeem) .estimate in
+      let y : ℕ = judged other (total m redeem) .estimate in
+      let u = inv (base redeem) (λ sum. added sum (argumentsFrom 0 l)) x (accepted-total (total l redeem) most e) in
+      let v = inv (base redeem) (λ sum. added sum (argumentsFrom 0 m)) y (accepted-total (total m redeem) other f) in
+      let z : u .0 ≡ v .0 = cc (u .1, v .1) in
+      added-grows g (u .0) (v .0) x y (omega (arith, z)) (u .2) (v .2)
+
+-- Outside the form
+
+-- whether the list leaves the form, and the arguments before it does
+abbrev pub leaves : Arguments → Bool
+leaves ends = false
+leaves outside = true
+leaves (then a rest) = leaves rest
+
+abbrev pub before : Arguments → Arguments
+before ends = ends
+before outside = ends
+before (then a rest) = then a (before rest)
+
+-- whether the base or one of these arguments passes 4,294,967,295: the sum over them is no size
+abbrev pub passes : Size → Bool
+passes (size n) = false
+passes (refused r) = true
+
+abbrev pub sumBefore : List ℕ → ℕ → Size
+sumBefore arguments redeem = onSize (base redeem) (λ sum. added sum (before (argumentsFrom 0 arguments)))
+
+-- a size, or 32
+data Sized : Size → Type 0 where
+  has : (n : ℕ) → Sized (size n)
+  over : Sized (refused sizePasses)
+
+within-sized : (n : ℕ) → Sized (within n)
+within-sized n = by (leb n 4294967295)
+  where
+    by : (b : Bool) → Sized (pick b (size n) (refused sizePasses))
+    by true = has n
+    by false = over
+
+on-sized : {s : Size} (f : ℕ → Size) → Sized s → ((n : ℕ) → Sized (f n)) → Sized (onSize s f)
+on-sized f (has n) h = h n
+on-sized f over h = over
+
+push-sized : (n : ℕ) → Sized (pushSize n)
+push-sized n = within-sized (n + prefix n)
+
+product-sized : (n : ℕ) (l : List ℕ) → Sized (product n l)
+product-sized n [] = has n
+product-sized n (length ∷ l) = on-sized (λ m. product m l) (within-sized (n * length)) (λ m. product-sized m l)
+
+argument-sized : (a : Argument) → Sized (argumentSize a)
+argument-sized (plain int) = push-sized 8
+argument-sized (plain temporal) = push-sized 8
+argument-sized (plain bool) = has 1
+argument-sized (plain byte) = push-sized 1
+argument-sized (plain string) = push-sized 1
+argument-sized (plain pubkey) = push-sized 32
+argument-sized (plain sig) = push-sized 65
+argument-sized (plain datasig) = push-sized 64
+argument-sized (array e l) = on-sized pushSize (product-sized e l) push-sized
+
+base-sized : (redeem : ℕ) → Sized (base redeem)
+base-sized redeem =
+    on-sized (λ n. onSize (pushSize 4) (λ tag. within (n + tag))) (push-sized redeem)
+    (λ n. on-sized (λ tag. within (n + tag)) (push-sized 4) (λ tag. within-sized (n + tag)))
+
+added-sized : (r : Arguments) → leaves r ≡ false → (sum : ℕ) → Sized (added sum r)
+added-sized ends e sum = has sum
+added-sized outside e sum = absurd (let z : _≡_ {A = ℕ} 0 1 = cc in omega arith)
+added-sized (then a r) e sum =
+    on-sized (λ n. onSize (within (sum + n)) (λ s. added s r)) (argument-sized a)
+    (λ n. on-sized (λ s. added s r) (within-sized (sum + n)) (λ s. added-sized r e s))
+
+before-stays : (r : Arguments) → leaves (before r) ≡ false
+before-stays ends = refl
+before-stays outside = refl
+before-stays (then a r) = before-stays r
+
+-- the arguments before are added, and then there is no size
+added-outside : (r : Arguments) → leaves r ≡ true → (sum : ℕ) → added sum r ≡ onSize (added sum (before r)) (λ n. refused noSize)
+added-outside ends e sum = absurd (let z : _≡_ {A = ℕ} 0 1 = cc in omega arith)
+added-outside outside e sum = refl
+added-outside (then a r) e sum = by (λ t. added-outside r e t) (argumentSize a)
+  where
+    summed : ((t : ℕ) → added t r ≡ onSize (added t (before r)) (λ n. refused noSize)) → (s : Size)
+        → onSize s (λ t. added t r) ≡ onSize (onSize s (λ t. added t (before r))) (λ n. refused noSize)
+    summed f (size t) = f t
+    summed f (refused w) = refl
+
+    by : ((t : ℕ) → added t r ≡ onSize (added t (before r)) (λ n. refused noSize)) → (s : Size)
+        → onSize s (λ n. onSize (within (sum + n)) (λ t. added t r))
+        ≡ onSize (onSize s (λ n. onSize (within (sum + n)) (λ t. added t (before r)))) (λ n. refused noSize)
+    by f (size n) = summed f (within (sum + n))
+    by f (refused w) = refl
+
+module _ (l : List ℕ) (redeem maximum : ℕ) where
+  abbrev read : Arguments
+  read = argumentsFrom 0 l
+
+  pub outsideGets : leaves (argumentsFrom 0 l) ≡ true
+      → estimated l redeem maximum ≡ record { answer = refusedAt 0 (pick (passes (sumBefore l redeem)) sizePasses noSize); estimate = 0 }
+  unfolding estimated
+  outsideGets e = by (base-sized redeem)
+    where
+      none-left : {s : Size} → Sized s
+          → judged maximum (onSize s (λ n. refused noSize)) ≡ record { answer = refusedAt 0 (pick (passes s) sizePasses noSize); estimate = 0 }
+      none-left (has n) = refl
+      none-left over = refl
+
+      by : {s : Size} → Sized s
+          → judged maximum (onSize s (λ sum. added sum read))
+          ≡ record { answer = refusedAt 0 (pick (passes (onSize s (λ sum. added sum (before read)))) sizePasses noSize); estimate = 0 }
+      by (has n) = ap (judged maximum) (added-outside read e n) ∙ none-left (added-sized (before read) (before-stays read) n)
+      by over = refl
+
+  pub outsideAt31 : estimated l redeem maximum .answer .number ≡ 31 → leaves (argumentsFrom 0 l) ≡ true
+  unfolding estimated
+  outsideAt31 e = by (leaves read) refl
+    where
+      over-maximum : (n : ℕ) (b : Bool) → either b n maximum .answer .number ≡ 31 → ⊥
+      over-maximum n true h = omega (arith, h)
+      over-maximum n false h = omega (arith, h)
+
+      never : {s : Size} → Sized s → judged maximum s .answer .number ≡ 31 → ⊥
+      never (has n) h = over-maximum n (leb n maximum) h
+      never over h = omega (arith, h)
+
+      by : (b : Bool) → leaves read ≡ b → leaves read ≡ true
+      by true q = q
+      by false q = absurd (never (on-sized (λ sum. added sum read) (base-sized redeem) (λ sum. added-sized read q sum)) e)
+
+-- By example: byte[9], and int before byte[10]; int and a type of no word, whose sum before it is 15
+pub grownByExample : Grown (argumentsFrom 0 (3 ∷ 1 ∷ 0 ∷ 9 ∷ [])) (argumentsFrom 0 (0 ∷ 0 ∷ 3 ∷ 1 ∷ 0 ∷ 10 ∷ []))
+grownByExample = more (longer {a = array 1 (9 ∷ [])} {b = array 1 (10 ∷ [])} (refl, (omega arith, tt)) none)
+
+pub outsideByExample : (leaves (argumentsFrom 0 (0 ∷ 0 ∷ 9 ∷ 0 ∷ [])) ≡ true) × (sumBefore (0 ∷ 0 ∷ 9 ∷ 0 ∷ []) 0 ≡ size 15)
+outsideByExample = (refl, refl)
