@@ -6,6 +6,7 @@ ghost use Prim.Native.Nat.{_+_, _≤_};
 ghost use lib.ListN.{length, take, drop};
 ghost use Rattle.definition.specs.Lines.{printed};
 ghost use Rattle.definition.specs.Assembling.{assembled};
+ghost use Rattle.definition.specs.Estimate as Estimate;
 ghost use Rattle.definition.specs.Listing.{listed};
 ghost use Rattle.definition.specs.Papers.{limitCheck, markPaper, byMark, display};
 ghost use Rattle.definition.specs.Stacks.{builtIn};
@@ -17,12 +18,13 @@ ghost use Rattle.maps.specs.View.{yearMap, mapSize};
 ghost use Rattle.log_text.specs.LogText.{logText, logTextWith};
 ghost use Rattle.reasons.specs.Reasons.{reason};
 ghost use Rattle.tally.specs.View.{Gives};
-ghost use Rattle.places.specs.View.{lentOptions, written, verdictNumbers, endNumbers, answerNumbers, paperNumbers, sumsNumbers, convertedNumbers, displayStart, partNumbers, tallyFrom, tallyNumbers};
+ghost use Rattle.places.specs.View.{lentOptions, written, verdictNumbers, endNumbers, answerNumbers, paperNumbers, sumsNumbers, estimateNumbers, convertedNumbers, displayStart, partNumbers, tallyFrom, tallyNumbers};
 use places::display_start;
 use places::tally_from;
 use places::write;
 use places::write_answer;
 use places::write_converted;
+use places::write_estimate;
 use places::write_lines;
 use places::write_paper;
 use places::write_part;
@@ -493,6 +495,30 @@ pub extern "C" fn listochur_sums(sitting: &[u32], out: &mut [u64]) -> u32
     let r = sums::sums(sitting);
     let number = r.number;
     write_sums(r, out);
+    number
+}
+
+// The signature script estimate of lent arguments, with a redeem script of this length and the caller's maximum: 0, 31, 32 or 33,
+// and number, two figures and the estimate in `out`.
+#[no_mangle]
+pub extern "C" fn listochur_estimate(
+    arguments: &[u32],
+    redeem: u32,
+    maximum: u32,
+    out: &mut [u64],
+) -> u32
+    ensures number { λ r. ⌜ r ≡ Estimate.estimated (now (arguments .entry)) redeem maximum .answer .number ⌝ }
+    ensures written { λ r.
+        ⌜
+        now (out .exit)
+        ≡ written
+        (estimateNumbers (Estimate.estimated (now (arguments .entry)) redeem maximum))
+        (now (out .entry))
+        ⌝ }
+{
+    let e = sigscript::estimate(arguments, redeem, maximum);
+    let number = e.number;
+    write_estimate(e, out);
     number
 }
 

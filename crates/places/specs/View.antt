@@ -5,6 +5,7 @@ use Prim.Native.Nat.{ℕ, min}
 use lib.Dec.{ltb, eqb}
 use lib.ListN.{length, drop, getD}
 use Rattle.definition.specs.Basics.{Bytes, pick}
+use Rattle.definition.specs.Estimate.{Estimated}
 use Rattle.definition.specs.Listing.{Converted}
 use Rattle.definition.specs.Maps.{Options}
 use Rattle.definition.specs.Papers.{PaperVerdict, byMark, display}
@@ -63,6 +64,10 @@ tallyNumbers t = t .fragments ∷ t .accepts ∷ t .rows ∷ t .peak ∷ []
 -- the numbers of the sums over a sitting: number, sum, count, and how often 0, 1, .. the greatest number in use occurred
 abbrev pub sumsNumbers : SittingSums → List ℕ
 sumsNumbers s = s .number ∷ s .sum ∷ s .count ∷ s .counts
+
+-- the four numbers of a signature script estimate: number, two figures, estimate
+abbrev pub estimateNumbers : Estimated → List ℕ
+estimateNumbers e = e .answer .number ∷ e .answer .first ∷ e .answer .second ∷ e .estimate ∷ []
 
 -- the three numbers of an assembler's or lister's answer: number, offset, bytes written
 abbrev pub convertedNumbers : Converted → List ℕ

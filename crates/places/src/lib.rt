@@ -7,15 +7,17 @@ ghost use Rattle.lines.specs.View.{Within};
 ghost use Rattle.definition.specs.Refusals.{greatestNumber};
 ghost use Rattle.limits.specs.View.{answerOf};
 ghost use Rattle.paper.specs.View.{paperOf};
+ghost use Rattle.sigscript.specs.View.{estimatedOf};
 ghost use Rattle.sums.specs.View.{sumsOf};
 ghost use Rattle.tally.specs.View.{tallyOf};
-ghost use Rattle.places.specs.View.{flag, written, answerNumbers, paperNumbers, sumsNumbers, displayStart, tallyFrom};
+ghost use Rattle.places.specs.View.{flag, written, answerNumbers, paperNumbers, sumsNumbers, estimateNumbers, displayStart, tallyFrom};
 ghost use Rattle.places.specs.Parts.{summaryNumbers, inHeights, structNumbers};
 use assembling::Converted;
 use ends::EndStacks;
 use limits::Answer;
 use lines::Lines;
 use paper::PaperVerdict;
+use sigscript::Estimated;
 use stack_analysis::Summary;
 use stack_analysis::Verdict;
 use sums::SittingSums;
@@ -208,6 +210,21 @@ pub fn write_sums(r: SittingSums, out: &mut [u64])
         out[3 + k] = wide_count(counts[k]);
         k += 1;
     }
+}
+
+const ESTIMATE_PLACES: usize = 4;
+
+// The numbers of a signature script estimate into the lent places, where there are four of them: number, two figures, estimate.
+pub fn write_estimate(e: Estimated, out: &mut [u64])
+    ensures { λ _. ⌜ now (out .exit) ≡ written (estimateNumbers (estimatedOf e)) (now (out .entry)) ⌝ }
+{
+    if out.len() < ESTIMATE_PLACES {
+        return;
+    }
+    out[0] = e.number as u64;
+    out[1] = e.first;
+    out[2] = e.second;
+    out[3] = e.estimate;
 }
 
 // The numbers of an assembler's or lister's answer into the lent places, where there are three of them: number, offset, bytes
