@@ -34,9 +34,10 @@ extern "C" {
 #define LISTOCHUR_REASON_PLACES 1
 #define LISTOCHUR_SUMS_PLACES (3 + LISTOCHUR_NUMBERS)
 #define LISTOCHUR_LISTING_PLACES 3
+#define LISTOCHUR_ESTIMATE_PLACES 4
 
 /* How many verdict numbers are in use, from 0 on. */
-#define LISTOCHUR_NUMBERS 31
+#define LISTOCHUR_NUMBERS 34
 
 /* Room for the lines of any paper, and for the words of any verdict. */
 #define LISTOCHUR_LINES_BYTES 4096
@@ -157,6 +158,29 @@ uint32_t listochur_assemble(const uint8_t *text, size_t text_len, uint8_t *fragm
  */
 uint32_t listochur_list(const uint8_t *fragment, size_t fragment_len, uint8_t *text, size_t text_len, uint64_t *out,
                         size_t out_len);
+
+/* The types of an argument, and how many dimensions it may have. */
+#define LISTOCHUR_INT 0
+#define LISTOCHUR_TEMPORAL 1
+#define LISTOCHUR_BOOL 2
+#define LISTOCHUR_BYTE 3
+#define LISTOCHUR_STRING 4
+#define LISTOCHUR_PUBKEY 5
+#define LISTOCHUR_SIG 6
+#define LISTOCHUR_DATASIG 7
+#define LISTOCHUR_DIMENSIONS 4
+
+/*
+ * How large a signature script may get: a redeem script of `redeem` bytes and a dispatch tag of 4, each as a data push at its
+ * greatest size, and the arguments. Of each argument `arguments` has its type, its count of dimensions, and for each of these,
+ * the innermost first, two numbers: 0 and its length, or 1 and 0 if it is dynamic, which only the last may be; it then counts
+ * one element. int[4][] is 0 2 0 4 1 0.
+ * Answers 0; 31 where an argument has no such form, or is a string with dimensions; 32 where a product or sum passes
+ * 4,294,967,295; 33 where the estimate is over `maximum`.
+ * `out`: number, two figures (at 33 estimate and maximum, else 0), the estimate (0 but where the number is 0).
+ */
+uint32_t listochur_estimate(const uint32_t *arguments, size_t arguments_len, uint32_t redeem, uint32_t maximum, uint64_t *out,
+                            size_t out_len);
 
 /*
  * A lent opcode map and a lent stack limit (request L6), and the mode (request L7). The functions above go by the built-in map at

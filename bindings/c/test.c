@@ -301,6 +301,41 @@ static void sums(void) {
     for (size_t k = 0; k < places; k++) EXPECT(out[k] == 0x0909090909090909);
 }
 
+static void estimates(void) {
+    uint64_t out[10];
+    const uint32_t list[] = {LISTOCHUR_INT, 2, 0, 4, 1, 0, LISTOCHUR_BOOL, 0};
+    lend(out);
+    EXPECT(listochur_estimate(list, 8, 100, 141, out, 10) == 0);
+    EXPECT(holds(out, (const uint64_t[]){0, 0, 0, 141}, LISTOCHUR_ESTIMATE_PLACES));
+    lend(out);
+    EXPECT(listochur_estimate(list, 8, 100, 140, out, LISTOCHUR_ESTIMATE_PLACES) == 33);
+    EXPECT(holds(out, (const uint64_t[]){33, 141, 140, 0}, LISTOCHUR_ESTIMATE_PLACES));
+    /* no arguments; a bool's count cut off */
+    lend(out);
+    EXPECT(listochur_estimate(NULL, 0, 0, UINT32_MAX, out, 10) == 0);
+    EXPECT(holds(out, (const uint64_t[]){0, 0, 0, 6}, 4));
+    lend(out);
+    EXPECT(listochur_estimate(list, 7, 100, 0, out, 10) == 31);
+    EXPECT(holds(out, (const uint64_t[]){31, 0, 0, 0}, 4));
+    /* the greatest size, and one more */
+    const uint32_t byte[] = {LISTOCHUR_BYTE, 1, 0, 4294967284};
+    lend(out);
+    EXPECT(listochur_estimate(byte, 4, 0, UINT32_MAX, out, 10) == 0);
+    EXPECT(holds(out, (const uint64_t[]){0, 0, 0, UINT32_MAX}, 4));
+    lend(out);
+    EXPECT(listochur_estimate(byte, 4, 1, UINT32_MAX, out, 10) == 32);
+    EXPECT(holds(out, (const uint64_t[]){32, 0, 0, 0}, 4));
+    /* one place too few: the number is the same */
+    out[0] = 9;
+    EXPECT(listochur_estimate(byte, 4, 1, 0, out, 3) == 32 && out[0] == 9);
+    EXPECT(listochur_estimate(byte, 4, 1, 0, NULL, 0) == 32);
+    /* the greatest number in use, in words */
+    uint8_t text[LISTOCHUR_REASON_BYTES];
+    const char *words = "over the maximum: estimate 141, maximum 140";
+    EXPECT(listochur_reason(33, 141, 140, text, sizeof text, out, 1) == 33);
+    EXPECT(out[0] == strlen(words) && memcmp(text, words, out[0]) == 0 && LISTOCHUR_NUMBERS == 34);
+}
+
 static void listings(void) {
     uint64_t out[LISTOCHUR_LISTING_PLACES + 1] = {9, 9, 9, 7};
     uint8_t bytes[16];
@@ -624,10 +659,10 @@ static void examined(void) {
     EXPECT(listochur_mark_paper_with(paper, size, map, 260, 3, LISTOCHUR_PLAIN, log, 6, NULL, 0) == 0);
     EXPECT(listochur_mark_lines_with(paper, size, map, 260, 3, LISTOCHUR_PLAIN, log, 6, NULL, 0, NULL, 0) == 0);
     EXPECT(listochur_log_lines_with(paper, size, map, 260, 3, LISTOCHUR_PLAIN, log, 6, NULL, 0, NULL, 0) == 0);
-    /* the greatest number in use, in words */
+    /* in words */
     const char *words = "long element: length 521, limit 520";
     EXPECT(listochur_reason(30, 521, 520, text, sizeof text, out, 1) == 30);
-    EXPECT(out[0] == strlen(words) && memcmp(text, words, out[0]) == 0 && LISTOCHUR_NUMBERS == 31);
+    EXPECT(out[0] == strlen(words) && memcmp(text, words, out[0]) == 0);
 }
 
 int main(void) {
@@ -641,6 +676,7 @@ int main(void) {
     reason();
     gain();
     sums();
+    estimates();
     listings();
     built_in_map();
     classic_map();

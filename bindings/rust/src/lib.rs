@@ -95,6 +95,14 @@ mod callee {
         // Four counters, with no length.
         pub fn listochur_gain(tally: *mut u32, number: u32, rows: u64, peak: u32) -> u32;
         pub fn listochur_sums(sitting: *const u32, sitting_len: usize, out: *mut u64, out_len: usize) -> u32;
+        pub fn listochur_estimate(
+            arguments: *const u32,
+            arguments_len: usize,
+            redeem: u32,
+            maximum: u32,
+            out: *mut u64,
+            out_len: usize,
+        ) -> u32;
         pub fn listochur_assemble(
             text: *const u8,
             text_len: usize,
@@ -182,7 +190,7 @@ pub const LINES_BYTES: usize = 4_096;
 pub const REASON_BYTES: usize = 80;
 
 /// How many verdict numbers are in use, from 0 on.
-pub const NUMBERS: usize = 31;
+pub const NUMBERS: usize = 34;
 
 /// How many bytes the map of a year has.
 pub const MAP_BYTES: usize = 260;
@@ -300,6 +308,19 @@ pub struct Sums {
     pub sum: u64,
     /// How many there are.
     pub count: u32,
+}
+
+/// What [`estimate`] answers.
+#[derive(Clone, Copy, Debug, PartialEq, Eq)]
+pub struct Estimate {
+    /// 0, or why there is no estimate: 31, 32 or 33.
+    pub number: u32,
+    /// The estimate at 33; 0 otherwise.
+    pub first: u64,
+    /// The maximum at 33; 0 otherwise.
+    pub second: u64,
+    /// How many bytes the signature script may take; 0 for a refusal.
+    pub estimate: u64,
 }
 
 /// The analysis of a fragment from so many unknown items on main and alt. For each instruction met three numbers are written
@@ -574,6 +595,30 @@ pub fn sums(sitting: &[u32]) -> Sums {
     let [_, sum, count, counts @ ..] = out;
     // The places hold numbers of these widths, widened by the callee.
     Sums { number, counts: counts.map(|times| times as u32), sum, count: count as u32 }
+}
+
+/// How large a signature script may get: a redeem script of `redeem` bytes and a dispatch tag of 4, each as a data push at its
+/// greatest size, and the arguments. Of each argument the list has its type (0 int, temporal, bool, byte, string, pubkey, sig,
+/// 7 datasig), its count of dimensions, and for each of these, the innermost first, 0 and its length, or 1 and 0 if it is dynamic,
+/// which only the last may be. 0; 31 where an argument is outside this form, has over four dimensions or is a string with any; 32
+/// where a product or sum passes 4,294,967,295; 33 where the estimate is over `maximum`.
+///
+/// Tests nothing: a list of any length and content is the callee's to judge.
+///
+/// ```
+/// // int[4][], and a bool
+/// let e = listochur::estimate(&[0, 2, 0, 4, 1, 0, 2, 0], 100, 1_000);
+/// assert_eq!((e.number, e.estimate), (0, 102 + 5 + 33 + 1));
+/// let e = listochur::estimate(&[0, 2, 0, 4, 1, 0, 2, 0], 100, 140);
+/// assert_eq!((e.number, e.first, e.second, e.estimate), (33, 141, 140, 0));
+/// ```
+pub fn estimate(arguments: &[u32], redeem: u32, maximum: u32) -> Estimate {
+    let mut out = [0; 4];
+    // SAFETY: each slice is passed whole, with its own length, and the borrow keeps `out` apart from the rest.
+    let number =
+        unsafe { callee::listochur_estimate(arguments.as_ptr(), arguments.len(), redeem, maximum, out.as_mut_ptr(), out.len()) };
+    let [_, first, second, estimate] = out;
+    Estimate { number, first, second, estimate }
 }
 
 /// A listing, words parted by one space, assembled into a fragment: 0; 26 where a word is outside the form, with the offset of the

@@ -1,9 +1,9 @@
 //! The functions from Rust: what document 01 says of them, bad input included.
 use listochur::{
-    CLASSIC_YEAR, CURRENT_YEAR, Converted, DEAD, EndStacks, Heights, Item, LIMIT, LINES_BYTES, Limits, Lines, MAP_BYTES, NUMBERS,
-    Options, PaperVerdict, REASON_BYTES, Sums, Tally, Value, Verdict, analyze, analyze_items, analyze_with, assemble,
-    built_in_map, check_limits, classic_map, display, gain, list, log_lines, log_lines_with, map, mark_lines, mark_lines_with,
-    mark_paper, mark_paper_with, reason, sums,
+    CLASSIC_YEAR, CURRENT_YEAR, Converted, DEAD, EndStacks, Estimate, Heights, Item, LIMIT, LINES_BYTES, Limits, Lines,
+    MAP_BYTES, NUMBERS, Options, PaperVerdict, REASON_BYTES, Sums, Tally, Value, Verdict, analyze, analyze_items, analyze_with,
+    assemble, built_in_map, check_limits, classic_map, display, estimate, gain, list, log_lines, log_lines_with, map, mark_lines,
+    mark_lines_with, mark_paper, mark_paper_with, reason, sums,
 };
 
 /// What stands in a log that no row has been written to.
@@ -329,6 +329,9 @@ fn reasons() {
         "bad map",
         "bad limit",
         "long element: length 18, limit 5",
+        "no size",
+        "size: a product or sum passes 4294967295",
+        "over the maximum: estimate 18, maximum 5",
     ];
     assert_eq!(words.len(), NUMBERS);
     for (number, expected) in (0..).zip(words) {
@@ -422,6 +425,74 @@ fn bad_sittings_have_zeros() {
     for many in [8_193, 8_194, 10_000, 1_000_001] {
         assert_eq!(sums(&vec![0; many]), BAD_SITTING, "{many}");
     }
+}
+
+/// Request L10: a refusal, figures and estimate 0.
+fn no_estimate(number: u32) -> Estimate {
+    Estimate { number, first: 0, second: 0, estimate: 0 }
+}
+
+fn estimated(estimate: u64) -> Estimate {
+    Estimate { number: 0, first: 0, second: 0, estimate }
+}
+
+#[test]
+fn estimates() {
+    // the types alone, and as arrays of one
+    let plain = [9, 9, 1, 2, 2, 33, 66, 65];
+    let one = [Some(9), Some(9), Some(2), Some(2), None, Some(33), Some(66), Some(65)];
+    for (kind, (plain, one)) in (0..).zip(plain.into_iter().zip(one)) {
+        assert_eq!(estimate(&[kind, 0], 0, 100), estimated(6 + plain), "{kind}");
+        let one = one.map_or(no_estimate(31), |one| estimated(6 + one));
+        for array in [&[kind, 1, 0, 1][..], &[kind, 1, 1, 0], &[kind, 2, 0, 1, 1, 0], &[kind, 4, 0, 1, 0, 1, 0, 1, 1, 0]] {
+            assert_eq!(estimate(array, 0, 100), one, "{array:?}");
+        }
+        assert_eq!(estimate(&[kind, 5, 0, 1, 0, 1, 0, 1, 0, 1, 0, 1], 0, 100), no_estimate(31), "{kind}");
+    }
+    assert_eq!(estimate(&[], 0, 6), estimated(6));
+    // the pushes of the redeem script
+    for (redeem, push) in [(0, 1), (75, 76), (76, 78), (255, 257), (256, 259), (65_535, 65_538), (65_536, 65_541)] {
+        assert_eq!(estimate(&[], redeem, u32::MAX), estimated(push + 5), "{redeem}");
+    }
+    // products from the first dimension on
+    assert_eq!(estimate(&[0, 2, 0, u32::MAX, 0, 0], 0, 100), no_estimate(32));
+    assert_eq!(estimate(&[0, 2, 0, 0, 0, u32::MAX], 0, 100), estimated(7));
+    // the greatest size
+    assert_eq!(estimate(&[3, 1, 0, 4_294_967_284], 0, u32::MAX), estimated(u32::MAX.into()));
+    assert_eq!(estimate(&[3, 1, 0, 4_294_967_285], 0, u32::MAX), no_estimate(32));
+    assert_eq!(estimate(&[], 4_294_967_285, u32::MAX), estimated(u32::MAX.into()));
+    assert_eq!(estimate(&[], 4_294_967_286, u32::MAX), no_estimate(32));
+}
+
+#[test]
+fn estimates_are_refused_in_order() {
+    // outside the form: a type, a mark, a length, a list cut short, a count that is not gone through
+    for bad in [
+        &[8, 0][..],
+        &[u32::MAX, 0],
+        &[0],
+        &[0, 1],
+        &[0, 1, 0],
+        &[0, 1, 2, 0],
+        &[0, 1, 1, 1],
+        &[0, 2, 1, 0, 0, 2],
+        &[0, 0, 9, 0],
+        &[0, u32::MAX],
+        &[0, u32::MAX, 0, 1],
+        &[3, 4, 0, 65_536, 0, 65_536, 1, 0, 0, 2],
+    ] {
+        for maximum in [0, u32::MAX] {
+            assert_eq!(estimate(bad, 0, maximum), no_estimate(31), "{bad:?}");
+        }
+        // the base is summed first
+        assert_eq!(estimate(bad, u32::MAX, 0), no_estimate(32), "{bad:?}");
+    }
+    // an argument before the bad one passes
+    assert_eq!(estimate(&[3, 1, 0, u32::MAX, 9], 0, 0), no_estimate(32));
+    // 33 last, and not where they are equal
+    assert_eq!(estimate(&[0, 0], 0, 15), estimated(15));
+    assert_eq!(estimate(&[0, 0], 0, 14), Estimate { number: 33, first: 15, second: 14, estimate: 0 });
+    assert_eq!(estimate(&[0, 0, 3, 1, 0, u32::MAX], 0, 0), no_estimate(32));
 }
 
 /// Request L4: each answer, and what is left in the lent buffer, with just enough room, with one byte less, and with more.
