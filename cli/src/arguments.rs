@@ -4,11 +4,12 @@ use std::os::unix::ffi::OsStrExt;
 
 use crate::Stop;
 use crate::bytes::Bytes;
+use crate::estimating::Argument;
 use crate::listings::Listing;
 use crate::names::shown;
 use crate::papers::Source;
 use crate::rules::{Map, Named, Year};
-use crate::usage::{self, ASM, COMPARE, EXPLAIN, FRAGMENT, LIMITS, LIST, LOG, MAP, MARK, PAPER, SUMS, Usage};
+use crate::usage::{self, ASM, COMPARE, ESTIMATE, EXPLAIN, FRAGMENT, LIMITS, LIST, LOG, MAP, MARK, PAPER, SUMS, Usage};
 
 #[derive(Debug, PartialEq, Eq)]
 pub enum Command {
@@ -24,6 +25,7 @@ pub enum Command {
     Asm { hex: bool, listing: Listing },
     List { bytes: Bytes },
     Map { year: Year },
+    Estimate { redeem: u32, maximum: u32, arguments: Vec<Argument> },
     Compare { papers: Vec<OsString> },
 }
 
@@ -250,8 +252,27 @@ fn sub_command(usage: &'static Usage, words: &[OsString]) -> Result<Command, Sto
         let [] = words.exactly()?;
         return Ok(Command::Map { year: words.year()?.unwrap_or(Year::Current) });
     }
+    if usage == &ESTIMATE {
+        return estimate(&words);
+    }
     debug_assert_eq!(usage, &COMPARE);
     Ok(Command::Compare { papers: words.files("paper")? })
+}
+
+fn estimate(words: &Words) -> Result<Command, Stop> {
+    let [redeem, maximum, types @ ..] = &words.rest[..] else {
+        return Err(words.wrong("too few words"));
+    };
+    let mut arguments = Vec::new();
+    for word in types {
+        let argument = word.to_str().map_or_else(|| Err("no UTF-8".into()), Argument::parse);
+        arguments.push(argument.map_err(|wrong| words.wrong(format!("{}: {wrong}", quoted(word))))?);
+    }
+    Ok(Command::Estimate {
+        redeem: words.number("REDEEM", redeem, u32::MAX.into())?,
+        maximum: words.number("MAXIMUM", maximum, u32::MAX.into())?,
+        arguments,
+    })
 }
 
 fn paper(words: &Words) -> Result<Command, Stop> {
@@ -283,7 +304,7 @@ fn paper(words: &Words) -> Result<Command, Stop> {
 
 #[cfg(test)]
 mod tests {
-    use super::{Bytes, Command, Entry, Form, Listing, Map, Named, Source, Year, parse};
+    use super::{Argument, Bytes, Command, Entry, Form, Listing, Map, Named, Source, Year, parse};
     use crate::Stop;
     use crate::usage::{ALL, MARK};
     use std::ffi::OsString;
@@ -334,6 +355,12 @@ mod tests {
         assert_eq!(parsed(&["asm", "-", "--hex"]), Command::Asm { hex: true, listing: Listing::Of(Source::Input) });
         assert_eq!(parsed(&["list", "@a"]), Command::List { bytes: Bytes::Of(Source::File("a".into())) });
         assert_eq!(parsed(&["compare", "a"]), Command::Compare { papers: words(&["a"]) });
+        let arguments = ["int[4][]", "other"].map(|word| Argument::parse(word).unwrap()).into();
+        assert_eq!(
+            parsed(&["estimate", "4294967295", "0", "int[4][]", "other"]),
+            Command::Estimate { redeem: u32::MAX, maximum: 0, arguments }
+        );
+        assert_eq!(parsed(&["estimate", "1", "2"]), Command::Estimate { redeem: 1, maximum: 2, arguments: Vec::new() });
         assert_eq!(
             parsed(&["paper", "3:51", "--init", "-", "--fields", "65535", "0:@a:b"]),
             Command::Paper {
@@ -517,6 +544,13 @@ mod tests {
             &["list", "5"],
             &["list", "--hex", "51"],
             &["compare"],
+            &["estimate"],
+            &["estimate", "0"],
+            &["estimate", "0", "4294967296"],
+            &["estimate", "0", "int"],
+            &["estimate", "0", "0", "int[4"],
+            &["estimate", "0", "0", "int", ""],
+            &["estimate", "--maximum", "0", "0"],
         ] {
             assert_eq!(wrong(line).1, Some(line[0]), "{line:?}");
         }

@@ -192,6 +192,24 @@ pub const MEANINGS: [Meaning; listochur::NUMBERS] = [
         "{ printf 'M\\t\\2'; head -c 521 /dev/zero; } | listochur fragment --examined 0 0 @-",
         "refused 30 at offset 0, long element: length 521, limit 520",
     ),
+    meaning(
+        "signature script estimate: a type is none of the eight words, a string has dimensions, a dimension before the last is dynamic, there is a fifth one, or the list is outside its form",
+        "0, 0",
+        "listochur estimate 300 10000 'string[4]'",
+        "refused 31, no size",
+    ),
+    meaning(
+        "signature script estimate: a product or sum passes 4,294,967,295",
+        "0, 0",
+        "listochur estimate 300 10000 'int[536870912][0]'",
+        "refused 32, size: a product or sum passes 4294967295",
+    ),
+    meaning(
+        "signature script estimate: it is over the caller's maximum",
+        "the estimate, the maximum",
+        "listochur estimate 300 316 int",
+        "refused 33, over the maximum: estimate 317, maximum 316",
+    ),
 ];
 
 /// Said where no bytes get the number from this command.

@@ -91,12 +91,12 @@ fn add(text: &mut String, part: std::fmt::Arguments) {
     let _ = text.write_fmt(part);
 }
 
-/// A verdict's number, place and words. 1, 2, 4, 17 to 22 and 27 to 29 are about no place.
+/// A verdict's number, place and words. 1, 2, 4, 17 to 22, 27 to 29 and 31 to 33 are about no place.
 pub fn told(number: u32, offset: usize, first: u64, second: u64) -> String {
     let words = reason(number, first, second);
     match number {
         0 => words,
-        1 | 2 | 4 | 17..=22 | 27..=29 => format!("refused {number}, {words}"),
+        1 | 2 | 4 | 17..=22 | 27..=29 | 31..=33 => format!("refused {number}, {words}"),
         _ => format!("refused {number} at offset {offset}, {words}"),
     }
 }

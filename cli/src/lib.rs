@@ -6,6 +6,7 @@
 pub mod arguments;
 pub mod bytes;
 pub mod comparing;
+pub mod estimating;
 pub mod explaining;
 pub mod fragments;
 pub mod listings;
@@ -99,6 +100,7 @@ fn carry_out(command: Command) -> Result<Status, Stop> {
         Command::Asm { hex, listing } => listings::asm(&mut out, hex, &listing.read()?)?,
         Command::Map { year } => rules::map(&mut out, year)?,
         Command::List { bytes } => listings::list(&mut out, &bytes.read()?)?,
+        Command::Estimate { redeem, maximum, arguments } => estimating::estimate(&mut out, redeem, maximum, &arguments)?,
         Command::Compare { papers } => comparing::compare(&mut out, &papers)?,
     };
     out.finish()?;

@@ -220,6 +220,24 @@ Status 0: written. 2: bad words, or a write that failed.
     ],
 };
 
+pub static ESTIMATE: Usage = Usage {
+    name: "estimate",
+    line: "listochur estimate REDEEM MAXIMUM [TYPE ..]",
+    about: "\
+How many bytes a signature script may take: a redeem script of REDEEM bytes and a dispatch tag of 4, each as a data push
+at its greatest size, and an argument of each TYPE. It is refused with 33 where it is over MAXIMUM.
+
+  TYPE      int, temporal, bool, byte, string, pubkey, sig or datasig, and behind it up to four dimensions, [N] for N
+            elements, the last of them [] if it is dynamic, which counts one element: int[4][]
+
+A type of another word, a string with dimensions, a dynamic dimension before the last, and a fifth one are refused with
+31; a product or sum that passes 4,294,967,295 with 32. Below is said which argument it is. A shell may read brackets
+as a pattern: quote them.
+Status 0: estimated. 1: refused. 2: bad words, or a write that failed.
+",
+    examples: &["listochur estimate 300 10000 sig pubkey 'int[4][]'"],
+};
+
 pub static COMPARE: Usage = Usage {
     name: "compare",
     line: "listochur compare PAPER..",
@@ -239,14 +257,14 @@ Status 0: no difference. 1: some differ. 2: no driver, a paper could not be read
 };
 
 /// All sub-commands.
-pub static ALL: [&Usage; 11] = [&MARK, &LOG, &FRAGMENT, &PAPER, &LIMITS, &EXPLAIN, &SUMS, &ASM, &LIST, &MAP, &COMPARE];
+pub static ALL: [&Usage; 12] = [&MARK, &LOG, &FRAGMENT, &PAPER, &LIMITS, &EXPLAIN, &SUMS, &ASM, &LIST, &MAP, &ESTIMATE, &COMPARE];
 
 /// Said after a usage line.
 pub const HINT: &str = "listochur help shows more.";
 
 /// Said where no sub-command is named.
 pub const SHORT: &str = "\
-usage: listochur mark | log | fragment | paper | limits | explain | sums | asm | list | map | compare ..
+usage: listochur mark | log | fragment | paper | limits | explain | sums | asm | list | map | estimate | compare ..
 listochur help shows more.";
 
 /// The sub-command of this name.
@@ -278,6 +296,7 @@ pub fn all() -> String {
         "the bytes of a listing",
         "the listing of bytes",
         "writes the built-in opcode map, or that of a rule year",
+        "how large a signature script may get",
         "our verdicts beside the Rust's",
     ]) {
         text += &format!("  {}\n      {about}\n", usage.line);
@@ -289,11 +308,11 @@ pub fn all() -> String {
 PAPER is a file, - for standard input, or, for mark and compare, a folder: every file in it, in the order of their
 names. REGISTER is a file that mark --csv wrote, or - for standard input. BYTES are hexadecimal digits, - for none,
 @FILE for the bytes of a file, @- for those of standard input. LISTING is the words of a listing, @FILE for those of a
-file, - for standard input. --map and --limit have papers marked by another opcode map than the built-in one, and with
+file, - for standard input. TYPE is the type of an argument, as int[4][]. --map and --limit have papers marked by another opcode map than the built-in one, and with
 fewer items on both stacks than 244; --examined has them refused for a literal above 520 bytes. YEAR is classic or current, the rule
 years; that of the built-in map is current.
 
-Exit status: 0 all accepted, assembled, listed or equal; 1 some refused, or different; 2 bad usage, a bad map or limit,
+Exit status: 0 all accepted, assembled, listed, estimated or equal; 1 some refused, or different; 2 bad usage, a bad map or limit,
 something that cannot be read, a write that failed. 2 goes before 1, and the other papers are marked all the same.
 
 For example:

@@ -103,6 +103,24 @@ fn limits() {
 }
 
 #[test]
+fn estimates() {
+    let folder = Folder::new();
+    folder.run(&["estimate", "300", "10000", "sig", "pubkey", "int[4][]"]).gives(0, "estimate 440\n");
+    folder.run(&["estimate", "0", "6"]).gives(0, "estimate 6\n");
+    folder.run(&["estimate", "0", "5"]).gives(1, "refused 33, over the maximum: estimate 6, maximum 5\n");
+    folder.run(&["estimate", "0", "0", "bool", "tuple"]).gives(1, "refused 31, no size\n  argument 2, tuple\n");
+    folder
+        .run(&["estimate", "0", "0", "int[4294967295][0]", "tuple"])
+        .gives(1, "refused 32, size: a product or sum passes 4294967295\n  argument 1, int[4294967295][0]\n");
+    let usage = "usage: listochur estimate REDEEM MAXIMUM [TYPE ..]";
+    folder.run(&["estimate", "0"]).fails("", &["too few words", usage]);
+    folder.run(&["estimate", "x", "0"]).fails("", &["REDEEM is a decimal number", usage]);
+    folder.run(&["estimate", "0", "4294967296"]).fails("", &["MAXIMUM is at most 4294967295", usage]);
+    folder.run(&["estimate", "0", "0", "int[4"]).fails("", &["'int[4': a dimension is [N]", usage]);
+    folder.run(&["estimate", "0", "0", "int[4294967296]"]).fails("", &["a length is at most 4294967295", usage]);
+}
+
+#[test]
 fn papers_are_written() {
     let folder = Folder::new();
     let ran = folder.run(&["paper", "--fields", "1", "1:635167526875"]);
