@@ -1,7 +1,8 @@
 //! Lays the Rust sources out in OUT_DIR/tree as modules of this crate.
 //!
-//! Four files are copied byte for byte. Three functions are cut out of
-//! `compile.rs`, text unchanged. The files of `parts/` stand beside them.
+//! Five files are copied byte for byte. Functions are cut out of `compile.rs`,
+//! and the types of arguments out of `ast/mod.rs`, text unchanged. The files of
+//! `parts/` stand beside them.
 
 use std::fs;
 use std::path::{Path, PathBuf};
@@ -10,9 +11,10 @@ use std::path::{Path, PathBuf};
 const VARIABLE: &str = "LISTOCHUR_SHARED";
 
 /// Files taken byte for byte: path in the source repository, place in the tree.
-const COPIED: [(&str, &str); 4] = [
+const COPIED: [(&str, &str); 5] = [
     ("silverscript-lang/src/compiler/compile/stack_analysis.rs", "compile/stack_analysis.rs"),
     ("silverscript-lang/src/compiler/compile/stack_analysis/stack.rs", "compile/stack_analysis/stack.rs"),
+    ("silverscript-lang/src/compiler/type_system.rs", "compile/type_system.rs"),
     ("silverscript-lang/src/checked_arithmetic.rs", "checked_arithmetic.rs"),
     ("silverscript-lang/src/errors.rs", "errors.rs"),
 ];
@@ -21,6 +23,16 @@ const COPIED: [(&str, &str); 4] = [
 const COMPILE: &str = "silverscript-lang/src/compiler/compile.rs";
 const CUT: [&str; 3] =
     ["validate_entrypoint_stack_limits", "validate_txscript_bytecode_limits", "validate_txscript_bytecode_limits_with"];
+
+/// The functions of request L10, from the same file.
+const SIZES: [&str; 2] = ["conservative_sigscript_argument_size", "maximum_canonical_data_push_size"];
+
+/// The file from which the types of arguments are cut, and how each item begins.
+const AST: &str = "silverscript-lang/src/ast/mod.rs";
+const TYPES: [&str; 4] = ["pub enum TypeBase {", "impl TypeBase {", "pub enum ArrayDim {", "impl TypeRef {"];
+
+/// Constants of that file, each a line.
+const LENGTHS: [&str; 3] = ["pub const PUBKEY_BYTE_LEN: ", "pub const SIG_BYTE_LEN: ", "pub const DATASIG_BYTE_LEN: "];
 
 /// Our own files, and their places in the tree.
 const PARTS: [(&str, &str); 3] =
@@ -61,6 +73,16 @@ fn run() -> Result<(), String> {
     let text = String::from_utf8(source(&folder, COMPILE)?).map_err(|_| format!("{COMPILE} is not UTF-8"))?;
     let functions = CUT.iter().map(|name| cut(&text, name)).collect::<Result<Vec<_>, _>>()?;
     write(&tree.join("cut.rs"), functions.join("\n").as_bytes())?;
+    let sizes = SIZES.iter().map(|name| cut(&text, name)).collect::<Result<Vec<_>, _>>()?;
+    write(&tree.join("sizes.rs"), sizes.join("\n").as_bytes())?;
+    let text = String::from_utf8(source(&folder, AST)?).map_err(|_| format!("{AST} is not UTF-8"))?;
+    let mut types = LENGTHS.iter().map(|head| line(&text, head)).collect::<Result<Vec<_>, _>>()?;
+    for head in TYPES {
+        // what an enum derives beside its form is left out
+        let derived = if head.contains("enum") { "#[derive(Debug, Clone, PartialEq, Eq)]\n" } else { "" };
+        types.push(derived.to_owned() + &item(AST, &text, &[head.into()])?);
+    }
+    write(&tree.join("types.rs"), types.join("\n").as_bytes())?;
     for (part, place) in PARTS {
         let path = here.join("parts").join(part);
         write(&tree.join(place), &fs::read(&path).map_err(|error| format!("{}: {error}", path.display()))?)?;
@@ -91,15 +113,29 @@ fn source(folder: &Path, path: &str) -> Result<Vec<u8>, String> {
 
 /// The text of one top-level function, from its `fn` line to its closing brace.
 fn cut(text: &str, name: &str) -> Result<String, String> {
-    let head = format!("fn {name}(");
+    item(COMPILE, text, &[format!("fn {name}("), format!("fn {name}<")])
+}
+
+/// The text of one top-level item that begins in one of these ways, to its closing brace.
+fn item(file: &str, text: &str, heads: &[String]) -> Result<String, String> {
+    let name = &heads[0];
     let lines: Vec<&str> = text.split_inclusive('\n').collect();
-    let starts: Vec<usize> = (0..lines.len()).filter(|&i| lines[i].starts_with(&head)).collect();
+    let starts: Vec<usize> = (0..lines.len()).filter(|&i| heads.iter().any(|head| lines[i].starts_with(head))).collect();
     let [start] = starts[..] else {
-        return Err(format!("{COMPILE} has {} functions `{name}`, not one", starts.len()));
+        return Err(format!("{file} has {} items `{name}`, not one", starts.len()));
     };
     let length = lines[start..].iter().position(|line| line.trim_end() == "}" && line.starts_with('}'));
-    let length = length.ok_or_else(|| format!("{COMPILE}: `{name}` has no closing brace"))?;
+    let length = length.ok_or_else(|| format!("{file}: `{name}` has no closing brace"))?;
     Ok(lines[start..=start + length].concat())
+}
+
+/// The one line that begins so.
+fn line(text: &str, head: &str) -> Result<String, String> {
+    let found: Vec<&str> = text.split_inclusive('\n').filter(|line| line.starts_with(head)).collect();
+    match found[..] {
+        [line] => Ok(line.into()),
+        _ => Err(format!("{AST} has {} lines `{head}`, not one", found.len())),
+    }
 }
 
 fn write(path: &Path, bytes: &[u8]) -> Result<(), String> {

@@ -1,5 +1,6 @@
 //! Stand-in for the parts of `ast/mod.rs` that are in use: a function has a name
-//! and parameters, and of the parameters only the count matters.
+//! and parameters, and of the parameters only the count matters. The types of
+//! arguments are the Rust's (`types.rs`, text unchanged); a type has these fields.
 
 use std::marker::PhantomData;
 
@@ -16,3 +17,14 @@ impl FunctionAst<'_> {
         Self { name, params: vec![ParamAst(PhantomData); params] }
     }
 }
+
+/// No expression is made here.
+pub struct Expr<'i>(PhantomData<&'i ()>);
+
+#[derive(Debug, Clone, PartialEq, Eq)]
+pub struct TypeRef {
+    pub base: TypeBase,
+    pub array_dims: Vec<ArrayDim>,
+}
+
+include!(concat!(env!("OUT_DIR"), "/tree/types.rs"));

@@ -12,9 +12,11 @@ use errors::CompilerError;
 use kaspa_txscript::{MalformedPush, parse_script};
 
 mod additions;
+#[allow(dead_code)]
 mod ast;
 #[allow(dead_code)]
 mod diagnostic;
+pub mod estimate;
 mod paper;
 #[allow(dead_code)]
 mod span;

@@ -2,6 +2,7 @@
 //! 01 as a plain reading. `parts.rs` lists what is compared.
 
 pub mod check;
+pub mod estimates;
 pub mod marker;
 pub mod parts;
 pub mod replays;

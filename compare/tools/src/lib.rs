@@ -5,6 +5,7 @@ pub mod blank;
 pub mod case;
 pub mod definition;
 pub mod elements;
+pub mod estimate;
 pub mod generate;
 pub mod maps;
 pub mod model;

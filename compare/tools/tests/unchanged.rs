@@ -19,6 +19,7 @@ fn whole_files() {
     let files = [
         ("compiler/compile/stack_analysis.rs", "compile/stack_analysis.rs"),
         ("compiler/compile/stack_analysis/stack.rs", "compile/stack_analysis/stack.rs"),
+        ("compiler/type_system.rs", "compile/type_system.rs"),
         ("checked_arithmetic.rs", "checked_arithmetic.rs"),
         ("errors.rs", "errors.rs"),
     ];
@@ -39,4 +40,22 @@ fn cut_functions() {
         assert_eq!(cut.matches(&format!("fn {head}(")).count(), 1, "{head}");
     }
     assert_eq!(cut.matches("fn ").count(), heads.len());
+}
+
+#[test]
+fn sizes_and_types() {
+    let whole = String::from_utf8(source("compiler/compile.rs")).unwrap();
+    let sizes = String::from_utf8(built("sizes.rs")).unwrap();
+    assert!(whole.contains(&sizes) && sizes.matches("\nfn ").count() == 1 && sizes.starts_with("fn conservative_sigscript"));
+    let whole = String::from_utf8(source("ast/mod.rs")).unwrap();
+    let types = String::from_utf8(built("types.rs")).unwrap();
+    let items: Vec<&str> = types.split_inclusive("\n}\n").map(|item| item.trim_start()).collect();
+    assert_eq!(items.len(), 4);
+    for item in items {
+        let item = item.rsplit_once("#[derive(Debug, Clone, PartialEq, Eq)]\n").map_or(item, |(_, item)| item);
+        assert!(whole.contains(item), "{item}");
+    }
+    for line in types.lines().filter(|line| line.starts_with("pub const")) {
+        assert!(whole.contains(line), "{line}");
+    }
 }

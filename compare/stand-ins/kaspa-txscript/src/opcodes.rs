@@ -13,8 +13,9 @@ pub mod codes {
     }
 
     codes! {
-        // Pushes. 01 to 4b are numbers alone: no source here names them.
+        // Pushes. 01 to 4a are numbers alone: no source here names them.
         Op0 = 0x00,
+        OpData75 = 0x4b,
         OpPushData1 = 0x4c,
         OpPushData2 = 0x4d,
         OpPushData4 = 0x4e,
