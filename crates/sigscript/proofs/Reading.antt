@@ -141,6 +141,9 @@ few-left (x ∷ []) h = refl
 few-left (x ∷ y ∷ m) h = absurd (omega (arith, h))
 
 module _ (l : List ℕ) (at : ℕ) where
+  pub argument-past : length l ≤ at → D.refused noSize ≡ argumentAt (drop at l)
+  argument-past h = sym (few-left (drop at l) (simp length-drop (omega arith)))
+
   pub argument-short : length l - at < 2 → D.refused noSize ≡ argumentAt (drop at l)
   argument-short h = sym (few-left (drop at l) (simp length-drop (omega arith)))
 

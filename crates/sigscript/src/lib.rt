@@ -185,11 +185,13 @@ fn array_size(arguments: &[u32], at: usize, kind: u32, count: u32) -> Size
     }
 }
 
-// The argument that begins at index `at`.
+// The argument that begins at index `at`; none stands past the end.
 pub fn conservative_sigscript_argument_size(arguments: &[u32], at: usize) -> Size
-    requires { ⌜ at < length (now arguments) ⌝ }
     ensures { λ r. ⌜ sizeOf r ≡ argumentAt (drop at (now (arguments .entry))) ⌝ }
 {
+    if at >= arguments.len() {
+        return Size::NoSize;
+    }
     if arguments.len() - at < 2 {
         return Size::NoSize;
     }

@@ -1,13 +1,16 @@
-use Rattle.sigscript.proofs.Reading.{argument-short, argument-plain, argument-array}
+use Rattle.sigscript.proofs.Reading.{argument-past, argument-short, argument-plain, argument-array}
 use borrow.Author.Needs.{needs}
 use Rattle.sigscript.proofs.conservative_sigscript_argument_size.Statement.{statement}
 use Rattle.sigscript.proofs.conservative_sigscript_argument_size.Tie as tie
 
-sub-if1 : tie.Need-sub-if1
-sub-if1 c = search needs
-
 returns : tie.Need-returns
-returns c = search (argument-short)
+returns c = search (argument-past)
+
+sub-if2 : tie.Need-sub-if2
+sub-if2 c = search needs
+
+returns-2 : tie.Need-returns-2
+returns-2 c = search (argument-short)
 
 mul-kind : tie.Need-mul-kind
 mul-kind c = search needs
@@ -27,8 +30,8 @@ shared-slice-read-count c = search needs
 plain-size-requires : tie.Need-plain-size-requires
 plain-size-requires c κs = search needs
 
-returns-2 : tie.Need-returns-2
-returns-2 c = search (argument-plain)
+returns-3 : tie.Need-returns-3
+returns-3 c = search (argument-plain)
 
 add-array-size : tie.Need-add-array-size
 add-array-size c = search needs
@@ -36,22 +39,23 @@ add-array-size c = search needs
 array-size-requires : tie.Need-array-size-requires
 array-size-requires c κs = search needs
 
-returns-3 : tie.Need-returns-3
-returns-3 c = search (argument-array)
+returns-4 : tie.Need-returns-4
+returns-4 c = search (argument-array)
 
 pub conservative-sigscript-argument-size-spec : {M : Type 1} → statement M
 conservative-sigscript-argument-size-spec =
     tie.close
     (tie.spec
-    sub-if1
     returns
+    sub-if2
+    returns-2
     mul-kind
     shared-slice-read-kind
     add-count
     mul-count
     shared-slice-read-count
     plain-size-requires
-    returns-2
+    returns-3
     add-array-size
     array-size-requires
-    returns-3)
+    returns-4)
