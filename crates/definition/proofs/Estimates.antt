@@ -3,7 +3,7 @@
 -- gets 32 if the base or an argument before its first bad one passes 4,294,967,295, else 31 (`outsideGets`).
 use mathlib.Core.Bool.{Bool, true, false}
 use mathlib.Core.List.{List, [], _∷_}
-use mathlib.Core.Path.{_≡_, refl, sym, ap, _∙_}
+use mathlib.Core.Path.{_≡_, refl, ap, _∙_}
 use Prim.Native.Nat.{ℕ, _+_, _*_, _≤_}
 use native.Mathlib.Nat.{mul-le-mul-left, mul-le-mul-right}
 use native.Mathlib.Omega.{arith}
@@ -11,7 +11,7 @@ use borrow.Author.Tests.{leb-true, leb-false}
 use lib.Dec.{leb}
 use Rattle.definition.specs.Basics.{pick}
 use Rattle.definition.specs.Refusals.{answer, accepted, refusedAt, noSize, sizePasses, overMaximum}
-use Rattle.definition.specs.Estimate.{Size, size, refused, onSize, within, pushSize, Kind, int, temporal, bool, byte, string, pubkey, sig, datasig, plainSize, Argument, plain, array, Arguments, ends, outside, then, argumentsFrom, product, argumentSize, base, added, total, Estimated, judged, estimated}
+use Rattle.definition.specs.Estimate.{Size, size, refused, onSize, within, pushSize, int, temporal, bool, byte, string, pubkey, sig, datasig, Argument, plain, array, Arguments, ends, outside, then, argumentsFrom, product, argumentSize, base, added, total, Estimated, judged, estimated}
 use Rattle.definition.proofs.TrueOfEveryReplay.{refused-number}
 
 -- By example

@@ -10,10 +10,10 @@ use lib.Dec.{leb, eqb}
 use lib.ListN.{length, drop, getD, length-drop}
 use lib.Seq.{drop-cons}
 use Rattle.definition.specs.Basics.{pick}
-use Rattle.definition.specs.Refusals.{noSize, sizePasses}
+use Rattle.definition.specs.Refusals.{sizePasses}
 use Rattle.definition.specs.Assembling.{onRead}
 use Rattle.definition.specs.Estimate as D
-use Rattle.sigscript.specs.View.{ofRead, readable, lengthsSize}
+use Rattle.sigscript.specs.View.{readable, lengthsSize}
 
 -- a dimension, by the tests of the code
 module _ (mark len more : ℕ) where

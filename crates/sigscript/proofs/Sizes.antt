@@ -1,15 +1,12 @@
 -- Sums and data pushes, the types, the answer.
-use mathlib.Core.Bool.{Bool, true, false}
 use mathlib.Core.List.{[], _∷_}
 use mathlib.Core.Option.{Option, none, some}
 use mathlib.Core.Path.{_≡_, refl, sym, ap, _∙_}
-use Prim.Native.Nat.{ℕ, zero, suc, _+_, _-_, _*_, _≤_, _<_}
+use Prim.Native.Nat.{ℕ, suc, _+_, _-_, _*_, _≤_, _<_}
 use native.Mathlib.Nat.{mul-le-mul-left, mul-le-mul-right}
 use native.Mathlib.Omega.{arith}
 use borrow.Author.Tests.{le-leb, lt-leb}
-use lib.Dec.{leb}
 use lib.ListN.{List·getD-eq-default}
-use Rattle.definition.specs.Basics.{pick}
 use Rattle.definition.specs.Refusals.{noSize, sizePasses}
 use Rattle.definition.specs.Assembling.{onRead}
 use Rattle.definition.specs.Estimate as D

@@ -2,7 +2,7 @@
 use mathlib.Core.Bool.{Bool, true, false}
 use mathlib.Core.List.{List, [], _∷_}
 use mathlib.Core.Option.{Option, none, some}
-use Prim.Native.Nat.{ℕ, zero, suc, _+_}
+use Prim.Native.Nat.{ℕ, _+_}
 use Rattle.definition.specs.Refusals.{noSize, sizePasses, answer}
 use Rattle.definition.specs.Estimate as D
 use Rattle.definition.specs.Assembling.{onRead}

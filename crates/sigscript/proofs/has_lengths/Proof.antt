@@ -1,7 +1,5 @@
 use borrow.Author.Needs.{needs}
 use borrow.Author.Tests.{not-true, not-false}
-use native.Mathlib.Omega.{arith}
-use Prim.Native.Nat.{_≤_}
 use Rattle.sigscript.proofs.Dimensions.{Judging, judging-first, judged-all, judged-short, judged-bad, judging-next}
 use Rattle.sigscript.proofs.has_lengths.Statement.{statement}
 use Rattle.sigscript.proofs.has_lengths.Tie as tie

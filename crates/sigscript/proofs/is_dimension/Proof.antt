@@ -1,4 +1,3 @@
-use native.Mathlib.Omega.{arith}
 use Rattle.sigscript.proofs.Dimensions.{dimension-fixed, dimension-mark, dimension-long, dimension-last}
 use Rattle.sigscript.proofs.is_dimension.Statement.{statement}
 use Rattle.sigscript.proofs.is_dimension.Tie as tie

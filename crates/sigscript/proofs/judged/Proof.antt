@@ -1,4 +1,3 @@
-use native.Mathlib.Omega.{arith}
 use Rattle.sigscript.proofs.Sizes.{judged-over, judged-within}
 use Rattle.sigscript.proofs.judged.Statement.{statement}
 use Rattle.sigscript.proofs.judged.Tie as tie

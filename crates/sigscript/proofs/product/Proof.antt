@@ -1,6 +1,6 @@
 use borrow.Author.Needs.{needs}
 use native.Mathlib.Omega.{arith}
-use Prim.Native.Nat.{_+_, _*_, _≤_, _<_}
+use Prim.Native.Nat.{_+_, _<_}
 use lib.ListN.{length}
 use Rattle.sigscript.proofs.Sizes.{product-fits}
 use Rattle.sigscript.proofs.Dimensions.{Multiplying, multiplying-first, multiplied, two-there, product-passes, multiplying-next}
