@@ -162,7 +162,7 @@ pub fn random_lists(ours: Estimate, count: u64, seed: u64, seen: &mut Seen) -> R
 
 #[cfg(test)]
 mod tests {
-    use super::{Case, Estimate, Seen, plain, proved, random_lists, short_lists};
+    use super::{Case, Estimate, Seen, Unsized, all, plain, proved, random_lists, rust, short_lists};
 
     #[test]
     fn equal() {
@@ -175,6 +175,24 @@ mod tests {
         {
             assert!(times > 0, "{seen:?}");
         }
+    }
+
+    /// The inputs of docs/DIFFERENCES.md: redeem length, list, our number, the Rust's size.
+    #[test]
+    fn differences_that_are_written_down() {
+        const M: u32 = u32::MAX;
+        let cases: [(u32, &[u32], u64, Result<usize, Unsized>); 5] = [
+            (4_294_967_286, &[], 32, Ok(4_294_967_296)),
+            (0, &[0, 2, 0, 536_870_912, 0, 0], 32, Ok(7)),
+            (0, &[3, 1, 0, M, 8, 0], 32, Err(Unsized::Unsupported)),
+            (0, &[3, 5, 0, 0, 0, 0, 0, 0, 0, 0, 0, 0], 31, Ok(7)),
+            (0, &[0, 4, 0, M, 0, M, 1, 0, 0, 0], 31, Err(Unsized::Overflow)),
+        ];
+        for (redeem, list, number, theirs) in cases {
+            assert_eq!(proved(list, redeem, M), [number, 0, 0, 0], "{list:?}");
+            assert_eq!(rust(redeem, &all(list).unwrap()), theirs, "{list:?}");
+        }
+        assert_eq!(proved(&[], 7, 6), [33, 13, 6, 0]);
     }
 
     /// The smallest list that a wrong function is found with.
