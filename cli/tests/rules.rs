@@ -501,7 +501,7 @@ fn the_readme_shows_it() {
         "./mark --examined room1",
         "./mark --year classic room2",
         "refused 30 at 0 0 521 520",
-        "30 is the greatest number in use.",
+        "33 is the greatest number in use.",
     ] {
         assert!(readme.contains(line), "{line}");
     }
