@@ -1,17 +1,20 @@
 -- Signature script estimates: by example (`pushesByExample` to `maximumByExample`); where both lists are accepted, more arguments
--- and longer dimensions never lower the estimate (`neverLower`); 31 is for a list outside the form (`outsideAt31`), and such a list
+-- and longer dimensions never lower the estimate (`neverLower`; of numbers behind a list `behindNeverLower`); 31 is for a list outside the form (`outsideAt31`), and such a list
 -- gets 32 if the base or an argument before its first bad one passes 4,294,967,295, else 31 (`outsideGets`).
 use mathlib.Core.Bool.{Bool, true, false}
-use mathlib.Core.List.{List, [], _∷_}
-use mathlib.Core.Path.{_≡_, refl, ap, _∙_}
-use Prim.Native.Nat.{ℕ, _+_, _*_, _≤_}
+use mathlib.Core.List.{List, [], _∷_, _++_}
+use mathlib.Core.Option.{Option, none, some}
+use mathlib.Core.Path.{_≡_, refl, sym, ap, _∙_}
+use Prim.Native.Nat.{ℕ, zero, suc, _+_, _*_, _≤_}
 use native.Mathlib.Nat.{mul-le-mul-left, mul-le-mul-right}
 use native.Mathlib.Omega.{arith}
 use borrow.Author.Tests.{leb-true, leb-false}
 use lib.Dec.{leb}
+use lib.ListN.{length}
 use Rattle.definition.specs.Basics.{pick}
 use Rattle.definition.specs.Refusals.{answer, accepted, refusedAt, noSize, sizePasses, overMaximum}
-use Rattle.definition.specs.Estimate.{Size, size, refused, onSize, within, pushSize, int, temporal, bool, byte, string, pubkey, sig, datasig, Argument, plain, array, Arguments, ends, outside, then, argumentsFrom, product, argumentSize, base, added, total, Estimated, judged, estimated}
+use Rattle.definition.specs.Estimate.{Size, size, refused, onSize, within, pushSize, Kind, int, temporal, bool, byte, string, pubkey, sig, datasig, kindOf, elementSize, lengthOf, lengthsOf, argumentOf, onArgument, Argument, plain, array, Arguments, ends, outside, then, argumentsFrom, product, argumentSize, base, added, total, Estimated, judged, estimated}
+use Rattle.definition.specs.Assembling.{onRead}
 use Rattle.definition.proofs.TrueOfEveryReplay.{refused-number}
 
 -- By example
@@ -113,7 +116,7 @@ AtMostAs (array e l) (array f m) = (e ≡ f) × AtMost l m
 
 -- the arguments of the first in their order, each with longer dimensions or the same, and any between them
 pub data Grown : Arguments → Arguments → Type 0 where
-  none : Grown ends ends
+  same : Grown ends ends
   longer : {a b : Argument} {r s : Arguments} → AtMostAs a b → Grown r s → Grown (then a r) (then b s)
   more : {b : Argument} {r s : Arguments} → Grown r s → Grown r (then b s)
 
@@ -181,7 +184,7 @@ argument-grows (array e l) (array f m) x y h p q =
     push-grows (u .0) (v .0) x y (product-grows e f l m (u .0) (v .0) (omega (arith, h .0)) (h .1) (u .1) (v .1)) (u .2) (v .2)
 
 added-grows : {r s : Arguments} → Grown r s → (i j x y : ℕ) → i ≤ j → added i r ≡ size x → added j s ≡ size y → x ≤ y
-added-grows none i j x y h p q =
+added-grows same i j x y h p q =
     let p' : i ≡ x = cc in
     let q' : j ≡ y = cc in
     omega arith
@@ -349,9 +352,118 @@ module _ (l : List ℕ) (redeem maximum : ℕ) where
       by true q = q
       by false q = absurd (never (on-sized (λ sum. added sum read) (base-sized redeem) (λ sum. added-sized read q sum)) e)
 
+-- Behind a list
+
+never : {A : Type 0} → _≡_ {A = ℕ} 0 1 → A
+never z = absurd (omega (arith, z))
+
+-- these arguments and then those
+abbrev joined : Arguments → Arguments → Arguments
+joined ends s = s
+joined outside s = outside
+joined (then a r) s = then a (joined r s)
+
+-- what is read of a list is read of it with more numbers behind it
+lengths-behind : (count : ℕ) (rest m l : List ℕ) → lengthsOf count rest ≡ some l
+    → (lengthsOf count (rest ++ m) ≡ some l) × (2 * count ≤ length rest)
+lengths-behind zero rest m l e = (e, omega arith)
+lengths-behind (suc count) [] m l e = never (cc)
+lengths-behind (suc count) (mark ∷ []) m l e = never (cc)
+lengths-behind (suc count) (mark ∷ len ∷ rest) m l e =
+    by (lengthOf count mark len) (lengthsOf count rest) refl e (λ r q. lengths-behind count rest m r q)
+  where
+    by : (o : Option ℕ) (p : Option (List ℕ)) → lengthsOf count rest ≡ p → onRead o (λ n. onRead p (λ r. some (n ∷ r))) ≡ some l
+        → ((r : List ℕ) → lengthsOf count rest ≡ some r → (lengthsOf count (rest ++ m) ≡ some r) × (2 * count ≤ length rest))
+        → (onRead o (λ n. onRead (lengthsOf count (rest ++ m)) (λ r. some (n ∷ r))) ≡ some l) × (2 * suc count ≤ length (mark ∷ len ∷ rest))
+    by none p q e f = never (cc)
+    by (some n) none q e f = never (cc)
+    by (some n) (some r) q e f = (rw (f r q .0) e, omega (arith, f r q .1))
+
+argument-behind : (type count : ℕ) (rest m : List ℕ) (a : Argument) → argumentOf type count rest ≡ some a
+    → (argumentOf type count (rest ++ m) ≡ some a) × (2 * count ≤ length rest)
+argument-behind type zero rest m a e = (e, omega arith)
+argument-behind type (suc count) rest m a e = kinds (kindOf type) e
+  where
+    by : (e : ℕ) (b : Bool) (p : Option (List ℕ)) → lengthsOf (suc count) rest ≡ p
+        → pick b (onRead p (λ l. some (array e l))) none ≡ some a
+        → (pick b (onRead (lengthsOf (suc count) (rest ++ m)) (λ l. some (array e l))) none ≡ some a) × (2 * suc count ≤ length rest)
+    by e true none q f = never (cc)
+    by e true (some l) q f =
+        let u = lengths-behind (suc count) rest m l q in
+        (rw (u .0) f, u .1)
+    by e false p q f = never (cc)
+
+    elements : (o : Option ℕ)
+        → onRead o (λ e. pick (leb (suc count) 4) (onRead (lengthsOf (suc count) rest) (λ l. some (array e l))) none) ≡ some a
+        → (onRead o (λ e. pick (leb (suc count) 4) (onRead (lengthsOf (suc count) (rest ++ m)) (λ l. some (array e l))) none) ≡ some a)
+        × (2 * suc count ≤ length rest)
+    elements none f = never (cc)
+    elements (some e) f = by e (leb (suc count) 4) (lengthsOf (suc count) rest) refl f
+
+    kinds : (k : Option Kind)
+        → onRead k (λ kind. onRead (elementSize kind) (λ e. pick (leb (suc count) 4) (onRead (lengthsOf (suc count) rest) (λ l. some (array e l))) none)) ≡ some a
+        → (onRead k (λ kind. onRead (elementSize kind) (λ e. pick (leb (suc count) 4) (onRead (lengthsOf (suc count) (rest ++ m)) (λ l. some (array e l))) none)) ≡ some a)
+        × (2 * suc count ≤ length rest)
+    kinds none f = never (cc)
+    kinds (some kind) f = elements (elementSize kind) f
+
+joins : (p : ℕ) (l m : List ℕ) → p ≤ length l → leaves (argumentsFrom p l) ≡ false
+    → argumentsFrom p (l ++ m) ≡ joined (argumentsFrom p l) (argumentsFrom 0 m)
+joins zero [] m h e = refl
+joins (suc p) [] m h e = absurd (omega (arith, h))
+joins zero (type ∷ []) m h e = never (cc)
+joins zero (type ∷ count ∷ rest) m h e = by (argumentOf type count rest) refl (λ g f. joins (2 * count) rest m g f) e
+  where
+    by : (o : Option Argument) → argumentOf type count rest ≡ o
+        → (2 * count ≤ length rest → leaves (argumentsFrom (2 * count) rest) ≡ false
+        → argumentsFrom (2 * count) (rest ++ m) ≡ joined (argumentsFrom (2 * count) rest) (argumentsFrom 0 m))
+        → leaves (onArgument o (argumentsFrom (2 * count) rest)) ≡ false
+        → onArgument (argumentOf type count (rest ++ m)) (argumentsFrom (2 * count) (rest ++ m)) ≡ joined (onArgument o (argumentsFrom (2 * count) rest)) (argumentsFrom 0 m)
+    by none q f e = never (cc)
+    by (some a) q f e =
+        let u = argument-behind type count rest m a q in
+        rw (u .0) (ap (then a) (f (u .1) e))
+joins (suc p) (n ∷ rest) m h e = joins p rest m (omega (arith, h)) e
+
+at-most-same : (l : List ℕ) → AtMost l l
+at-most-same [] = tt
+at-most-same (n ∷ l) = (omega arith, at-most-same l)
+
+same-argument : (a : Argument) → AtMostAs a a
+same-argument (plain kind) = refl
+same-argument (array e l) = (refl, at-most-same l)
+
+grown-ends : (s : Arguments) → leaves s ≡ false → Grown ends s
+grown-ends ends e = same
+grown-ends outside e = never (cc)
+grown-ends (then a s) e = more (grown-ends s e)
+
+grown-behind : (r s : Arguments) → leaves r ≡ false → leaves (joined r s) ≡ false → Grown r (joined r s)
+grown-behind ends s e f = grown-ends s f
+grown-behind outside s e f = never (cc)
+grown-behind (then a r) s e f = longer (same-argument a) (grown-behind r s e f)
+
+-- an accepted list is in the form
+accepted-stays : (l : List ℕ) (redeem maximum : ℕ) → estimated l redeem maximum .answer .number ≡ 0 → leaves (argumentsFrom 0 l) ≡ false
+accepted-stays l redeem maximum h = by (leaves (argumentsFrom 0 l)) refl
+  where
+    by : (b : Bool) → leaves (argumentsFrom 0 l) ≡ b → leaves (argumentsFrom 0 l) ≡ false
+    by true q =
+        absurd (refused-number 0 (pick (passes (sumBefore l redeem)) sizePasses noSize) (sym (ap (λ (r : Estimated). r .answer .number) (outsideGets l redeem maximum q)) ∙ h))
+    by false q = q
+
+-- numbers behind an accepted list, where it is accepted with them: one more argument, or several
+pub behindNeverLower : (l m : List ℕ) (redeem most other : ℕ) → estimated l redeem most .answer .number ≡ 0
+    → estimated (l ++ m) redeem other .answer .number ≡ 0 → estimated l redeem most .estimate ≤ estimated (l ++ m) redeem other .estimate
+behindNeverLower l m redeem most other e f =
+    let stays : leaves (argumentsFrom 0 l) ≡ false = accepted-stays l redeem most e in
+    let is : argumentsFrom 0 (l ++ m) ≡ joined (argumentsFrom 0 l) (argumentsFrom 0 m) = joins 0 l m (omega arith) stays in
+    let g : leaves (joined (argumentsFrom 0 l) (argumentsFrom 0 m)) ≡ false = ap leaves (sym is) ∙ accepted-stays (l ++ m) redeem other f in
+    neverLower l (l ++ m) redeem most other (rw is (grown-behind (argumentsFrom 0 l) (argumentsFrom 0 m) stays g)) e f
+
 -- By example: byte[9], and int before byte[10]; int and a type of no word, whose sum before it is 15
 pub grownByExample : Grown (argumentsFrom 0 (3 ∷ 1 ∷ 0 ∷ 9 ∷ [])) (argumentsFrom 0 (0 ∷ 0 ∷ 3 ∷ 1 ∷ 0 ∷ 10 ∷ []))
-grownByExample = more (longer {a = array 1 (9 ∷ [])} {b = array 1 (10 ∷ [])} (refl, (omega arith, tt)) none)
+grownByExample = more (longer {a = array 1 (9 ∷ [])} {b = array 1 (10 ∷ [])} (refl, (omega arith, tt)) same)
 
 pub outsideByExample : (leaves (argumentsFrom 0 (0 ∷ 0 ∷ 9 ∷ 0 ∷ [])) ≡ true) × (sumBefore (0 ∷ 0 ∷ 9 ∷ 0 ∷ []) 0 ≡ size 15)
 outsideByExample = (refl, refl)
