@@ -1,6 +1,7 @@
 -- Signature script estimates: by example (`pushesByExample` to `maximumByExample`); where both lists are accepted, more arguments
--- and longer dimensions never lower the estimate (`neverLower`; of numbers behind a list `behindNeverLower`); 31 is for a list outside the form (`outsideAt31`), and such a list
--- gets 32 if the base or an argument before its first bad one passes 4,294,967,295, else 31 (`outsideGets`).
+-- and longer dimensions never lower the estimate (`neverLower`), nor do numbers behind a list (`behindNeverLower`); 31 is for a list
+-- outside the form (`outsideAt31`), and such a list gets 32 if the base or an argument before its first bad one passes
+-- 4,294,967,295, else 31 (`outsideGets`).
 use mathlib.Core.Bool.{Bool, true, false}
 use mathlib.Core.List.{List, [], _∷_, _++_}
 use mathlib.Core.Option.{Option, none, some}
@@ -13,7 +14,7 @@ use lib.Dec.{leb}
 use lib.ListN.{length}
 use Rattle.definition.specs.Basics.{pick}
 use Rattle.definition.specs.Refusals.{answer, accepted, refusedAt, noSize, sizePasses, overMaximum}
-use Rattle.definition.specs.Estimate.{Size, size, refused, onSize, within, pushSize, Kind, int, temporal, bool, byte, string, pubkey, sig, datasig, kindOf, elementSize, lengthOf, lengthsOf, argumentOf, onArgument, Argument, plain, array, Arguments, ends, outside, then, argumentsFrom, product, argumentSize, base, added, total, Estimated, judged, estimated}
+use Rattle.definition.specs.Estimate.{Size, size, unsized, onSize, fits, pushSize, Kind, int, temporal, bool, byte, string, pubkey, sig, datasig, kindOf, elementSize, lengthOf, lengthsOf, argumentOf, onArgument, Argument, single, array, Arguments, noMore, outside, argument, argumentsFrom, product, argumentSize, base, added, summed, Estimated, against, estimated}
 use Rattle.definition.specs.Assembling.{onRead}
 use Rattle.definition.proofs.TrueOfEveryReplay.{refused-number}
 
@@ -32,7 +33,7 @@ Refuses arguments redeem maximum number first second =
 pub pushesByExample :
     (pushSize 0 ≡ size 1) × (pushSize 1 ≡ size 2) × (pushSize 75 ≡ size 76) × (pushSize 76 ≡ size 78) × (pushSize 255 ≡ size 257)
     × (pushSize 256 ≡ size 259) × (pushSize 65535 ≡ size 65538) × (pushSize 65536 ≡ size 65541)
-    × (pushSize 4294967290 ≡ size 4294967295) × (pushSize 4294967291 ≡ refused sizePasses)
+    × (pushSize 4294967290 ≡ size 4294967295) × (pushSize 4294967291 ≡ unsized sizePasses)
 pushesByExample = (refl, refl, refl, refl, refl, refl, refl, refl, refl, refl)
 
 -- The base with redeem length 0 is 6, so an argument of n bytes gives 6 + n. The empty list; int, temporal, bool, byte, string,
@@ -109,26 +110,26 @@ AtMost (n ∷ l) (m ∷ k) = (n ≤ m) × AtMost l k
 
 -- the same argument, with longer dimensions or the same
 abbrev pub AtMostAs : Argument → Argument → Type 0
-AtMostAs (plain kind) (plain other) = kind ≡ other
-AtMostAs (plain kind) (array e l) = ⊥
-AtMostAs (array e l) (plain kind) = ⊥
+AtMostAs (single kind) (single other) = kind ≡ other
+AtMostAs (single kind) (array e l) = ⊥
+AtMostAs (array e l) (single kind) = ⊥
 AtMostAs (array e l) (array f m) = (e ≡ f) × AtMost l m
 
 -- the arguments of the first in their order, each with longer dimensions or the same, and any between them
 pub data Grown : Arguments → Arguments → Type 0 where
-  same : Grown ends ends
-  longer : {a b : Argument} {r s : Arguments} → AtMostAs a b → Grown r s → Grown (then a r) (then b s)
-  more : {b : Argument} {r s : Arguments} → Grown r s → Grown r (then b s)
+  same : Grown noMore noMore
+  longer : {a b : Argument} {r s : Arguments} → AtMostAs a b → Grown r s → Grown (argument a r) (argument b s)
+  more : {b : Argument} {r s : Arguments} → Grown r s → Grown r (argument b s)
 
 -- what is made of a size that there is
 inv : (s : Size) (f : ℕ → Size) (y : ℕ) → onSize s f ≡ size y → (n : ℕ) × (s ≡ size n) × (f n ≡ size y)
 inv (size n) f y e = (n, refl, e)
-inv (refused r) f y e = absurd (let z : _≡_ {A = ℕ} 0 1 = cc in omega arith)
+inv (unsized r) f y e = absurd (let z : _≡_ {A = ℕ} 0 1 = cc in omega arith)
 
-within-is : (n y : ℕ) → within n ≡ size y → n ≡ y
-within-is n y = by (leb n 4294967295)
+fits-is : (n y : ℕ) → fits n ≡ size y → n ≡ y
+fits-is n y = by (leb n 4294967295)
   where
-    by : (b : Bool) → pick b (size n) (refused sizePasses) ≡ size y → n ≡ y
+    by : (b : Bool) → pick b (size n) (unsized sizePasses) ≡ size y → n ≡ y
     by true e = cc
     by false e = absurd (let z : _≡_ {A = ℕ} 0 1 = cc in omega arith)
 
@@ -157,7 +158,7 @@ prefix-grows n m h =
 
 push-grows : (n m x y : ℕ) → n ≤ m → pushSize n ≡ size x → pushSize m ≡ size y → x ≤ y
 push-grows n m x y h e f =
-    omega (arith, within-is (n + prefix n) x e, within-is (m + prefix m) y f, prefix-grows n m h)
+    omega (arith, fits-is (n + prefix n) x e, fits-is (m + prefix m) y f, prefix-grows n m h)
 
 product-grows : (e f : ℕ) (l m : List ℕ) (x y : ℕ) → e ≤ f → AtMost l m → product e l ≡ size x → product f m ≡ size y → x ≤ y
 product-grows e f [] [] x y h a p q =
@@ -167,17 +168,17 @@ product-grows e f [] [] x y h a p q =
 product-grows e f [] (m ∷ k) x y h a p q = absurd a
 product-grows e f (n ∷ l) [] x y h a p q = absurd a
 product-grows e f (n ∷ l) (m ∷ k) x y h a p q =
-    let u = inv (within (e * n)) (λ w. product w l) x p in
-    let v = inv (within (f * m)) (λ w. product w k) y q in
+    let u = inv (fits (e * n)) (λ w. product w l) x p in
+    let v = inv (fits (f * m)) (λ w. product w k) y q in
     let g : e * n ≤ f * m = omega (arith, mul-le-mul-right n h, mul-le-mul-left f (a .0)) in
-    product-grows (u .0) (v .0) l k x y (omega (arith, within-is (e * n) (u .0) (u .1), within-is (f * m) (v .0) (v .1))) (a .1) (u .2) (v .2)
+    product-grows (u .0) (v .0) l k x y (omega (arith, fits-is (e * n) (u .0) (u .1), fits-is (f * m) (v .0) (v .1))) (a .1) (u .2) (v .2)
 
 argument-grows : (a b : Argument) (x y : ℕ) → AtMostAs a b → argumentSize a ≡ size x → argumentSize b ≡ size y → x ≤ y
-argument-grows (plain kind) (plain other) x y h p q =
+argument-grows (single kind) (single other) x y h p q =
     let e : x ≡ y = cc in
     omega arith
-argument-grows (plain kind) (array e l) x y h p q = absurd h
-argument-grows (array e l) (plain kind) x y h p q = absurd h
+argument-grows (single kind) (array e l) x y h p q = absurd h
+argument-grows (array e l) (single kind) x y h p q = absurd h
 argument-grows (array e l) (array f m) x y h p q =
     let u = inv (product e l) pushSize x p in
     let v = inv (product f m) pushSize y q in
@@ -189,26 +190,26 @@ added-grows same i j x y h p q =
     let q' : j ≡ y = cc in
     omega arith
 added-grows (longer {a} {b} {r} {s} l g) i j x y h p q =
-    let u = inv (argumentSize a) (λ n. onSize (within (i + n)) (λ t. added t r)) x p in
-    let v = inv (argumentSize b) (λ n. onSize (within (j + n)) (λ t. added t s)) y q in
-    let u' = inv (within (i + u .0)) (λ t. added t r) x (u .2) in
-    let v' = inv (within (j + v .0)) (λ t. added t s) y (v .2) in
+    let u = inv (argumentSize a) (λ n. onSize (fits (i + n)) (λ t. added t r)) x p in
+    let v = inv (argumentSize b) (λ n. onSize (fits (j + n)) (λ t. added t s)) y q in
+    let u' = inv (fits (i + u .0)) (λ t. added t r) x (u .2) in
+    let v' = inv (fits (j + v .0)) (λ t. added t s) y (v .2) in
     added-grows g (u' .0) (v' .0) x y
-    (omega (arith, h, within-is (i + u .0) (u' .0) (u' .1), within-is (j + v .0) (v' .0) (v' .1), argument-grows a b (u .0) (v .0) l (u .1) (v .1)))
+    (omega (arith, h, fits-is (i + u .0) (u' .0) (u' .1), fits-is (j + v .0) (v' .0) (v' .1), argument-grows a b (u .0) (v .0) l (u .1) (v .1)))
     (u' .2) (v' .2)
 added-grows (more {b} {r} {s} g) i j x y h p q =
-    let v = inv (argumentSize b) (λ n. onSize (within (j + n)) (λ t. added t s)) y q in
-    let v' = inv (within (j + v .0)) (λ t. added t s) y (v .2) in
-    added-grows g i (v' .0) x y (omega (arith, h, within-is (j + v .0) (v' .0) (v' .1))) p (v' .2)
+    let v = inv (argumentSize b) (λ n. onSize (fits (j + n)) (λ t. added t s)) y q in
+    let v' = inv (fits (j + v .0)) (λ t. added t s) y (v .2) in
+    added-grows g i (v' .0) x y (omega (arith, h, fits-is (j + v .0) (v' .0) (v' .1))) p (v' .2)
 
 -- what an accepted list has
 -- within the maximum, or 33
 abbrev either : Bool → ℕ → ℕ → Estimated
 either b n maximum = pick b (record { answer = accepted; estimate = n }) (record { answer = refusedAt 0 (overMaximum n maximum); estimate = 0 })
 
-accepted-total : (s : Size) (maximum : ℕ) → judged maximum s .answer .number ≡ 0 → s ≡ size (judged maximum s .estimate)
-accepted-total (refused r) maximum e = absurd (refused-number 0 r e)
-accepted-total (size n) maximum e = by (leb n maximum) e
+accepted-summed : (s : Size) (maximum : ℕ) → against maximum s .answer .number ≡ 0 → s ≡ size (against maximum s .estimate)
+accepted-summed (unsized r) maximum e = absurd (refused-number 0 r e)
+accepted-summed (size n) maximum e = by (leb n maximum) e
   where
     by : (b : Bool) → either b n maximum .answer .number ≡ 0 → size n ≡ size (either b n maximum .estimate)
     by true e = refl
@@ -220,10 +221,10 @@ module _ (l m : List ℕ) (redeem most other : ℕ) where
       → estimated l redeem most .estimate ≤ estimated m redeem other .estimate
   unfolding estimated
   neverLower g e f =
-      let x : ℕ = judged most (total l redeem) .estimate in
-      let y : ℕ = judged other (total m redeem) .estimate in
-      let u = inv (base redeem) (λ sum. added sum (argumentsFrom 0 l)) x (accepted-total (total l redeem) most e) in
-      let v = inv (base redeem) (λ sum. added sum (argumentsFrom 0 m)) y (accepted-total (total m redeem) other f) in
+      let x : ℕ = against most (summed l redeem) .estimate in
+      let y : ℕ = against other (summed m redeem) .estimate in
+      let u = inv (base redeem) (λ sum. added sum (argumentsFrom 0 l)) x (accepted-summed (summed l redeem) most e) in
+      let v = inv (base redeem) (λ sum. added sum (argumentsFrom 0 m)) y (accepted-summed (summed m redeem) other f) in
       let z : u .0 ≡ v .0 = cc (u .1, v .1) in
       added-grows g (u .0) (v .0) x y (omega (arith, z)) (u .2) (v .2)
 
@@ -231,19 +232,19 @@ module _ (l m : List ℕ) (redeem most other : ℕ) where
 
 -- whether the list leaves the form, and the arguments before it does
 abbrev pub leaves : Arguments → Bool
-leaves ends = false
+leaves noMore = false
 leaves outside = true
-leaves (then a rest) = leaves rest
+leaves (argument a rest) = leaves rest
 
 abbrev pub before : Arguments → Arguments
-before ends = ends
-before outside = ends
-before (then a rest) = then a (before rest)
+before noMore = noMore
+before outside = noMore
+before (argument a rest) = argument a (before rest)
 
 -- whether the base or one of these arguments passes 4,294,967,295: the sum over them is no size
 abbrev pub passes : Size → Bool
 passes (size n) = false
-passes (refused r) = true
+passes (unsized r) = true
 
 abbrev pub sumBefore : List ℕ → ℕ → Size
 sumBefore arguments redeem = onSize (base redeem) (λ sum. added sum (before (argumentsFrom 0 arguments)))
@@ -251,12 +252,12 @@ sumBefore arguments redeem = onSize (base redeem) (λ sum. added sum (before (ar
 -- a size, or 32
 data Sized : Size → Type 0 where
   has : (n : ℕ) → Sized (size n)
-  over : Sized (refused sizePasses)
+  over : Sized (unsized sizePasses)
 
-within-sized : (n : ℕ) → Sized (within n)
-within-sized n = by (leb n 4294967295)
+fits-sized : (n : ℕ) → Sized (fits n)
+fits-sized n = by (leb n 4294967295)
   where
-    by : (b : Bool) → Sized (pick b (size n) (refused sizePasses))
+    by : (b : Bool) → Sized (pick b (size n) (unsized sizePasses))
     by true = has n
     by false = over
 
@@ -265,56 +266,56 @@ on-sized f (has n) h = h n
 on-sized f over h = over
 
 push-sized : (n : ℕ) → Sized (pushSize n)
-push-sized n = within-sized (n + prefix n)
+push-sized n = fits-sized (n + prefix n)
 
 product-sized : (n : ℕ) (l : List ℕ) → Sized (product n l)
 product-sized n [] = has n
-product-sized n (length ∷ l) = on-sized (λ m. product m l) (within-sized (n * length)) (λ m. product-sized m l)
+product-sized n (length ∷ l) = on-sized (λ m. product m l) (fits-sized (n * length)) (λ m. product-sized m l)
 
 argument-sized : (a : Argument) → Sized (argumentSize a)
-argument-sized (plain int) = push-sized 8
-argument-sized (plain temporal) = push-sized 8
-argument-sized (plain bool) = has 1
-argument-sized (plain byte) = push-sized 1
-argument-sized (plain string) = push-sized 1
-argument-sized (plain pubkey) = push-sized 32
-argument-sized (plain sig) = push-sized 65
-argument-sized (plain datasig) = push-sized 64
+argument-sized (single int) = push-sized 8
+argument-sized (single temporal) = push-sized 8
+argument-sized (single bool) = has 1
+argument-sized (single byte) = push-sized 1
+argument-sized (single string) = push-sized 1
+argument-sized (single pubkey) = push-sized 32
+argument-sized (single sig) = push-sized 65
+argument-sized (single datasig) = push-sized 64
 argument-sized (array e l) = on-sized pushSize (product-sized e l) push-sized
 
 base-sized : (redeem : ℕ) → Sized (base redeem)
 base-sized redeem =
-    on-sized (λ n. onSize (pushSize 4) (λ tag. within (n + tag))) (push-sized redeem)
-    (λ n. on-sized (λ tag. within (n + tag)) (push-sized 4) (λ tag. within-sized (n + tag)))
+    on-sized (λ n. onSize (pushSize 4) (λ tag. fits (n + tag))) (push-sized redeem)
+    (λ n. on-sized (λ tag. fits (n + tag)) (push-sized 4) (λ tag. fits-sized (n + tag)))
 
 added-sized : (r : Arguments) → leaves r ≡ false → (sum : ℕ) → Sized (added sum r)
-added-sized ends e sum = has sum
+added-sized noMore e sum = has sum
 added-sized outside e sum = absurd (let z : _≡_ {A = ℕ} 0 1 = cc in omega arith)
-added-sized (then a r) e sum =
-    on-sized (λ n. onSize (within (sum + n)) (λ s. added s r)) (argument-sized a)
-    (λ n. on-sized (λ s. added s r) (within-sized (sum + n)) (λ s. added-sized r e s))
+added-sized (argument a r) e sum =
+    on-sized (λ n. onSize (fits (sum + n)) (λ s. added s r)) (argument-sized a)
+    (λ n. on-sized (λ s. added s r) (fits-sized (sum + n)) (λ s. added-sized r e s))
 
 before-stays : (r : Arguments) → leaves (before r) ≡ false
-before-stays ends = refl
+before-stays noMore = refl
 before-stays outside = refl
-before-stays (then a r) = before-stays r
+before-stays (argument a r) = before-stays r
 
 -- the arguments before are added, and then there is no size
-added-outside : (r : Arguments) → leaves r ≡ true → (sum : ℕ) → added sum r ≡ onSize (added sum (before r)) (λ n. refused noSize)
-added-outside ends e sum = absurd (let z : _≡_ {A = ℕ} 0 1 = cc in omega arith)
+added-outside : (r : Arguments) → leaves r ≡ true → (sum : ℕ) → added sum r ≡ onSize (added sum (before r)) (λ n. unsized noSize)
+added-outside noMore e sum = absurd (let z : _≡_ {A = ℕ} 0 1 = cc in omega arith)
 added-outside outside e sum = refl
-added-outside (then a r) e sum = by (λ t. added-outside r e t) (argumentSize a)
+added-outside (argument a r) e sum = by (λ t. added-outside r e t) (argumentSize a)
   where
-    summed : ((t : ℕ) → added t r ≡ onSize (added t (before r)) (λ n. refused noSize)) → (s : Size)
-        → onSize s (λ t. added t r) ≡ onSize (onSize s (λ t. added t (before r))) (λ n. refused noSize)
+    summed : ((t : ℕ) → added t r ≡ onSize (added t (before r)) (λ n. unsized noSize)) → (s : Size)
+        → onSize s (λ t. added t r) ≡ onSize (onSize s (λ t. added t (before r))) (λ n. unsized noSize)
     summed f (size t) = f t
-    summed f (refused w) = refl
+    summed f (unsized w) = refl
 
-    by : ((t : ℕ) → added t r ≡ onSize (added t (before r)) (λ n. refused noSize)) → (s : Size)
-        → onSize s (λ n. onSize (within (sum + n)) (λ t. added t r))
-        ≡ onSize (onSize s (λ n. onSize (within (sum + n)) (λ t. added t (before r)))) (λ n. refused noSize)
-    by f (size n) = summed f (within (sum + n))
-    by f (refused w) = refl
+    by : ((t : ℕ) → added t r ≡ onSize (added t (before r)) (λ n. unsized noSize)) → (s : Size)
+        → onSize s (λ n. onSize (fits (sum + n)) (λ t. added t r))
+        ≡ onSize (onSize s (λ n. onSize (fits (sum + n)) (λ t. added t (before r)))) (λ n. unsized noSize)
+    by f (size n) = summed f (fits (sum + n))
+    by f (unsized w) = refl
 
 module _ (l : List ℕ) (redeem maximum : ℕ) where
   abbrev read : Arguments
@@ -326,14 +327,14 @@ module _ (l : List ℕ) (redeem maximum : ℕ) where
   outsideGets e = by (base-sized redeem)
     where
       none-left : {s : Size} → Sized s
-          → judged maximum (onSize s (λ n. refused noSize)) ≡ record { answer = refusedAt 0 (pick (passes s) sizePasses noSize); estimate = 0 }
+          → against maximum (onSize s (λ n. unsized noSize)) ≡ record { answer = refusedAt 0 (pick (passes s) sizePasses noSize); estimate = 0 }
       none-left (has n) = refl
       none-left over = refl
 
       by : {s : Size} → Sized s
-          → judged maximum (onSize s (λ sum. added sum read))
+          → against maximum (onSize s (λ sum. added sum read))
           ≡ record { answer = refusedAt 0 (pick (passes (onSize s (λ sum. added sum (before read)))) sizePasses noSize); estimate = 0 }
-      by (has n) = ap (judged maximum) (added-outside read e n) ∙ none-left (added-sized (before read) (before-stays read) n)
+      by (has n) = ap (against maximum) (added-outside read e n) ∙ none-left (added-sized (before read) (before-stays read) n)
       by over = refl
 
   pub outsideAt31 : estimated l redeem maximum .answer .number ≡ 31 → leaves (argumentsFrom 0 l) ≡ true
@@ -344,7 +345,7 @@ module _ (l : List ℕ) (redeem maximum : ℕ) where
       over-maximum n true h = omega (arith, h)
       over-maximum n false h = omega (arith, h)
 
-      never : {s : Size} → Sized s → judged maximum s .answer .number ≡ 31 → ⊥
+      never : {s : Size} → Sized s → against maximum s .answer .number ≡ 31 → ⊥
       never (has n) h = over-maximum n (leb n maximum) h
       never over h = omega (arith, h)
 
@@ -359,9 +360,9 @@ never z = absurd (omega (arith, z))
 
 -- these arguments and then those
 abbrev joined : Arguments → Arguments → Arguments
-joined ends s = s
+joined noMore s = s
 joined outside s = outside
-joined (then a r) s = then a (joined r s)
+joined (argument a r) s = argument a (joined r s)
 
 -- what is read of a list is read of it with more numbers behind it
 lengths-behind : (count : ℕ) (rest m l : List ℕ) → lengthsOf count rest ≡ some l
@@ -422,7 +423,7 @@ joins zero (type ∷ count ∷ rest) m h e = by (argumentOf type count rest) ref
     by none q f e = never (cc)
     by (some a) q f e =
         let u = argument-behind type count rest m a q in
-        rw (u .0) (ap (then a) (f (u .1) e))
+        rw (u .0) (ap (argument a) (f (u .1) e))
 joins (suc p) (n ∷ rest) m h e = joins p rest m (omega (arith, h)) e
 
 at-most-same : (l : List ℕ) → AtMost l l
@@ -430,18 +431,18 @@ at-most-same [] = tt
 at-most-same (n ∷ l) = (omega arith, at-most-same l)
 
 same-argument : (a : Argument) → AtMostAs a a
-same-argument (plain kind) = refl
+same-argument (single kind) = refl
 same-argument (array e l) = (refl, at-most-same l)
 
-grown-ends : (s : Arguments) → leaves s ≡ false → Grown ends s
-grown-ends ends e = same
-grown-ends outside e = never (cc)
-grown-ends (then a s) e = more (grown-ends s e)
+grown-noMore : (s : Arguments) → leaves s ≡ false → Grown noMore s
+grown-noMore noMore e = same
+grown-noMore outside e = never (cc)
+grown-noMore (argument a s) e = more (grown-noMore s e)
 
 grown-behind : (r s : Arguments) → leaves r ≡ false → leaves (joined r s) ≡ false → Grown r (joined r s)
-grown-behind ends s e f = grown-ends s f
+grown-behind noMore s e f = grown-noMore s f
 grown-behind outside s e f = never (cc)
-grown-behind (then a r) s e f = longer (same-argument a) (grown-behind r s e f)
+grown-behind (argument a r) s e f = longer (same-argument a) (grown-behind r s e f)
 
 -- an accepted list is in the form
 accepted-stays : (l : List ℕ) (redeem maximum : ℕ) → estimated l redeem maximum .answer .number ≡ 0 → leaves (argumentsFrom 0 l) ≡ false

@@ -178,15 +178,15 @@ module _ (l : List ℕ) (at count element : ℕ) where
           by none e = e
           by (some r) e = refl
 
-      whole : lengthsSize element (D.lengthsOf count (drop at l)) ≡ D.onSize (D.within (size * len)) (λ n. lengthsSize n (behind l place left))
+      whole : lengthsSize element (D.lengthsOf count (drop at l)) ≡ D.onSize (D.fits (size * len)) (λ n. lengthsSize n (behind l place left))
       whole = sym (m .same) ∙ ap (lengthsSize size) read ∙ by (behind l place left) behind-read
         where
-          by : (p : Option (List ℕ)) → readable p ≡ true → lengthsSize size (onRead p (λ r. some (len ∷ r))) ≡ D.onSize (D.within (size * len)) (λ n. lengthsSize n p)
+          by : (p : Option (List ℕ)) → readable p ≡ true → lengthsSize size (onRead p (λ r. some (len ∷ r))) ≡ D.onSize (D.fits (size * len)) (λ n. lengthsSize n p)
           by none e = cc
           by (some r) e = refl
 
       module _ (n : ℕ) (e : n ≡ len) where
-        pub product-passes : 4294967295 < size * n → D.refused sizePasses ≡ lengthsSize element (D.lengthsOf count (drop at l))
+        pub product-passes : 4294967295 < size * n → D.unsized sizePasses ≡ lengthsSize element (D.lengthsOf count (drop at l))
         product-passes h =
             let k : 4294967295 < size * len = rw e at h in
             sym (whole ∙ rw (lt-leb (size * len) 4294967295 k))

@@ -89,15 +89,15 @@ module _ (kind count : ℕ) (rest : List ℕ) (h : 0 < count) where
   unfolding arrayAt
   by-array = ap (λ (o : Option D.Argument). ofRead o D.argumentSize) (by-element kind count rest h)
 
-  pub array-fifth : 4 < count → D.refused noSize ≡ arrayAt kind count rest
+  pub array-fifth : 4 < count → D.unsized noSize ≡ arrayAt kind count rest
   array-fifth g = sym (by-array ∙ rw (lt-leb count 4 g) (by (element kind)))
     where
-      by : (o : Option ℕ) → ofRead (onRead o (λ e. none)) D.argumentSize ≡ D.refused noSize
+      by : (o : Option ℕ) → ofRead (onRead o (λ e. none)) D.argumentSize ≡ D.unsized noSize
       by none = refl
       by (some e) = refl
 
   module _ (n : ℕ) (e : n ≡ elementAt kind) where
-    pub array-none : n ≡ 0 → D.refused noSize ≡ arrayAt kind count rest
+    pub array-none : n ≡ 0 → D.unsized noSize ≡ arrayAt kind count rest
     array-none z = sym (by-array ∙ ap (λ (o : Option ℕ). ofRead (arrayOf count rest o) D.argumentSize) (element-none kind (sym e ∙ z)))
 
     module _ (few : count ≤ 4) (z : n ≡ 0 → ⊥) where
@@ -111,10 +111,10 @@ module _ (kind count : ℕ) (rest : List ℕ) (h : 0 < count) where
           by none = refl
           by (some l) = refl
 
-      pub array-outside : (b : Bool) → b ≡ readable (D.lengthsOf count rest) → not b ≡ true → D.refused noSize ≡ arrayAt kind count rest
+      pub array-outside : (b : Bool) → b ≡ readable (D.lengthsOf count rest) → not b ≡ true → D.unsized noSize ≡ arrayAt kind count rest
       array-outside b r f = sym (by-lengths ∙ by (D.lengthsOf count rest) (sym r ∙ not-true b f))
         where
-          by : (o : Option (List ℕ)) → readable o ≡ false → D.onSize (lengthsSize n o) D.pushSize ≡ D.refused noSize
+          by : (o : Option (List ℕ)) → readable o ≡ false → D.onSize (lengthsSize n o) D.pushSize ≡ D.unsized noSize
           by none e = refl
           by (some l) e = cc
 
@@ -125,26 +125,26 @@ module _ (kind count : ℕ) (rest : List ℕ) (h : 0 < count) where
         pub array-size : (m : ℕ) (r : Size) → s ≡ Bytes m → sizeOf r ≡ D.pushSize m → sizeOf r ≡ arrayAt kind count rest
         array-size m r q w = w ∙ sym (by-product ∙ rw q)
 
-        pub array-no : s ≡ NoSize → D.refused noSize ≡ arrayAt kind count rest
+        pub array-no : s ≡ NoSize → D.unsized noSize ≡ arrayAt kind count rest
         array-no q = sym (by-product ∙ rw q)
 
-        pub array-passes : s ≡ Passes → D.refused sizePasses ≡ arrayAt kind count rest
+        pub array-passes : s ≡ Passes → D.unsized sizePasses ≡ arrayAt kind count rest
         array-passes q = sym (by-product ∙ rw q)
 
 -- An argument
 
 -- fewer than two numbers are no argument
-few-left : (m : List ℕ) → length m < 2 → argumentAt m ≡ D.refused noSize
+few-left : (m : List ℕ) → length m < 2 → argumentAt m ≡ D.unsized noSize
 unfolding argumentAt
 few-left [] h = refl
 few-left (x ∷ []) h = refl
 few-left (x ∷ y ∷ m) h = absurd (omega (arith, h))
 
 module _ (l : List ℕ) (at : ℕ) where
-  pub argument-past : length l ≤ at → D.refused noSize ≡ argumentAt (drop at l)
+  pub argument-past : length l ≤ at → D.unsized noSize ≡ argumentAt (drop at l)
   argument-past h = sym (few-left (drop at l) (simp length-drop (omega arith)))
 
-  pub argument-short : length l - at < 2 → D.refused noSize ≡ argumentAt (drop at l)
+  pub argument-short : length l - at < 2 → D.unsized noSize ≡ argumentAt (drop at l)
   argument-short h = sym (few-left (drop at l) (simp length-drop (omega arith)))
 
   module _ (h : 2 ≤ length l - at) where
@@ -160,7 +160,7 @@ module _ (l : List ℕ) (at : ℕ) where
     argument-plain s z e =
         e ∙ by (D.kindOf (getD l at 0)) ∙ sym (by-two ∙ ap (λ n. arrayAt (getD l at 0) n (drop (at + 2) l)) z)
       where
-        by : (k : Option D.Kind) → ofRead k D.plainSize ≡ ofRead (onRead k (λ kind. some (D.plain kind))) D.argumentSize
+        by : (k : Option D.Kind) → ofRead k D.singleSize ≡ ofRead (onRead k (λ kind. some (D.single kind))) D.argumentSize
         by none = refl
         by (some kind) = refl
 
@@ -242,9 +242,9 @@ module _ (l : List ℕ) (base : ℕ) where
         by (some x) r = sized (D.argumentSize x)
           where
             sized : (s : D.Size)
-                → D.onSize s (λ n. D.onSize (D.within (sum + n)) (λ t. D.added t r)) ≡ D.onSize (plus sum s) (λ t. D.added t r)
+                → D.onSize s (λ n. D.onSize (D.fits (sum + n)) (λ t. D.added t r)) ≡ D.onSize (plus sum s) (λ t. D.added t r)
             sized (D.size n) = refl
-            sized (D.refused w) = refl
+            sized (D.unsized w) = refl
 
     module _ (h : at < length l) where
       whole : D.added base (D.argumentsFrom 0 l) ≡ behind (plus sum (argumentAt (drop at l)))
@@ -266,11 +266,11 @@ module _ (l : List ℕ) (base : ℕ) where
         by-sum : D.added base (D.argumentsFrom 0 l) ≡ behind (sizeOf s)
         by-sum = whole ∙ ap (λ (t : D.Size). behind (plus sum t)) (sym is) ∙ ap behind (sym w)
 
-        pub added-none : s ≡ NoSize → D.refused noSize ≡ D.added base (D.argumentsFrom 0 l)
+        pub added-none : s ≡ NoSize → D.unsized noSize ≡ D.added base (D.argumentsFrom 0 l)
         unfolding behind
         added-none q = sym (by-sum ∙ rw q)
 
-        pub added-passes : s ≡ Passes → D.refused sizePasses ≡ D.added base (D.argumentsFrom 0 l)
+        pub added-passes : s ≡ Passes → D.unsized sizePasses ≡ D.added base (D.argumentsFrom 0 l)
         unfolding behind
         added-passes q = sym (by-sum ∙ rw q)
 
@@ -279,13 +279,13 @@ module _ (l : List ℕ) (base : ℕ) where
           argument-whole = by (argumentAt (drop at l)) refl (ap (plus sum) (sym is) ∙ sym w ∙ ap sizeOf q)
             where
               by : (t : D.Size) → argumentAt (drop at l) ≡ t → plus sum t ≡ D.size n → at + (2 + 2 * getD l (at + 1) 0) ≤ length l
-              by (D.refused x) e p = never (cc)
+              by (D.unsized x) e p = never (cc)
               by (D.size y) e p = split (leb (length l) (at + 1)) refl
                 where
                   split : (b : Bool) → leb (length l) (at + 1) ≡ b → at + (2 + 2 * getD l (at + 1) 0) ≤ length l
                   split true f =
                       let g : length l ≤ at + 1 = leb-true (length l) (at + 1) f in
-                      let z : D.refused noSize ≡ D.size y = argument-short l at (omega arith) ∙ e in
+                      let z : D.unsized noSize ≡ D.size y = argument-short l at (omega arith) ∙ e in
                       never (cc)
                   split false f =
                       let g : at + 1 < length l = leb-false (length l) (at + 1) f in

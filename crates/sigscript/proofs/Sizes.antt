@@ -26,28 +26,28 @@ module _ (n : ℕ) where
   push-3 g h =
       rw (lt-leb n 75 (omega arith), lt-leb n 255 g, le-leb n 65535 h, le-leb (n + 3) 4294967295 (omega arith))
 
-  above : 65535 < n → D.pushSize n ≡ D.within (n + 5)
+  above : 65535 < n → D.pushSize n ≡ D.fits (n + 5)
   above g = rw (lt-leb n 75 (omega arith), lt-leb n 255 (omega arith), lt-leb n 65535 g)
 
   pub push-5 : 65535 < n → n ≤ 4294967290 → D.size (n + 5) ≡ D.pushSize n
   push-5 g h = sym (above g ∙ rw (le-leb (n + 5) 4294967295 (omega arith)))
 
-  pub push-passes : 65535 < n → 4294967290 < n → D.refused sizePasses ≡ D.pushSize n
+  pub push-passes : 65535 < n → 4294967290 < n → D.unsized sizePasses ≡ D.pushSize n
   push-passes g h = sym (above g ∙ rw (lt-leb (n + 5) 4294967295 (omega arith)))
 
 -- a sum, by those of the code
 module _ (x : ℕ) (b : Size) where
-  pub sum-none : b ≡ NoSize → D.refused noSize ≡ plus x (sizeOf b)
+  pub sum-none : b ≡ NoSize → D.unsized noSize ≡ plus x (sizeOf b)
   sum-none e = rw e
 
-  pub sum-passed : b ≡ Passes → D.refused sizePasses ≡ plus x (sizeOf b)
+  pub sum-passed : b ≡ Passes → D.unsized sizePasses ≡ plus x (sizeOf b)
   sum-passed e = rw e
 
   module _ (y : ℕ) (e : b ≡ Bytes y) where
-    pub sum-first : 4294967295 < x → D.refused sizePasses ≡ plus x (sizeOf b)
+    pub sum-first : 4294967295 < x → D.unsized sizePasses ≡ plus x (sizeOf b)
     sum-first h = rw (e, lt-leb (x + y) 4294967295 (omega arith))
 
-    pub sum-passes : 4294967295 - x < y → D.refused sizePasses ≡ plus x (sizeOf b)
+    pub sum-passes : 4294967295 - x < y → D.unsized sizePasses ≡ plus x (sizeOf b)
     sum-passes h = rw (e, lt-leb (x + y) 4294967295 (omega arith))
 
     pub sum-size : x ≤ 4294967295 → y ≤ 4294967295 - x → D.size (x + y) ≡ plus x (sizeOf b)
@@ -57,9 +57,9 @@ module _ (x : ℕ) (b : Size) where
 pub base-sum : (redeem : ℕ) → plus 5 (D.pushSize redeem) ≡ D.base redeem
 base-sum redeem = by (D.pushSize redeem)
   where
-    by : (s : D.Size) → plus 5 s ≡ D.onSize s (λ n. D.within (n + 5))
-    by (D.size n) = let e : 5 + n ≡ n + 5 = omega arith in ap D.within e
-    by (D.refused r) = refl
+    by : (s : D.Size) → plus 5 s ≡ D.onSize s (λ n. D.fits (n + 5))
+    by (D.size n) = let e : 5 + n ≡ n + 5 = omega arith in ap D.fits e
+    by (D.unsized r) = refl
 
 -- two sizes have a product of 64 bits
 pub product-fits : (a b : ℕ) → a ≤ 4294967295 → b ≤ 4294967295 → a * b ≤ 18446744065119617025
@@ -81,9 +81,9 @@ kind-past kind h =
     (some D.int ∷ some D.temporal ∷ some D.bool ∷ some D.byte ∷ some D.string ∷ some D.pubkey ∷ some D.sig ∷ some D.datasig ∷ [])
     none h
 
-pub plain-past : (kind : ℕ) → 8 ≤ kind → D.refused noSize ≡ plainAt kind
+pub plain-past : (kind : ℕ) → 8 ≤ kind → D.unsized noSize ≡ plainAt kind
 unfolding plainAt
-plain-past kind h = sym (ap (λ (k : Option D.Kind). ofRead k D.plainSize) (kind-past kind h))
+plain-past kind h = sym (ap (λ (k : Option D.Kind). ofRead k D.singleSize) (kind-past kind h))
 
 pub element-past : (kind : ℕ) → 8 ≤ kind → 0 ≡ elementAt kind
 unfolding elementAt
@@ -91,8 +91,8 @@ element-past kind h = sym (ap (λ (k : Option D.Kind). orZero (onRead k D.elemen
 
 -- the answer
 module _ (n maximum : ℕ) where
-  pub judged-over : maximum < n → record { answer = record { number = 33; offset = 0; first = n; second = maximum }; estimate = 0 } ≡ D.judged maximum (D.size n)
+  pub judged-over : maximum < n → record { answer = record { number = 33; offset = 0; first = n; second = maximum }; estimate = 0 } ≡ D.against maximum (D.size n)
   judged-over h = rw (lt-leb n maximum h)
 
-  pub judged-within : n ≤ maximum → record { answer = record { number = 0; offset = 0; first = 0; second = 0 }; estimate = n } ≡ D.judged maximum (D.size n)
+  pub judged-within : n ≤ maximum → record { answer = record { number = 0; offset = 0; first = 0; second = 0 }; estimate = n } ≡ D.against maximum (D.size n)
   judged-within h = rw (le-leb n maximum h)

@@ -13,8 +13,8 @@ use Rattle.sigscript.specs.declared.Size.the-variants.{Bytes, NoSize, Pa
 -- the size of the definitions
 abbrev pub sizeOf : Size → D.Size
 sizeOf (Bytes n) = D.size n
-sizeOf NoSize = D.refused noSize
-sizeOf Passes = D.refused sizePasses
+sizeOf NoSize = D.unsized noSize
+sizeOf Passes = D.unsized sizePasses
 
 -- the answer of the definitions; offsets are 0
 abbrev pub estimatedOf : Estimated → D.Estimated
@@ -22,16 +22,16 @@ estimatedOf r = record { answer = answer (r .number) 0 (r .first) (r .second); e
 
 -- the sum of a number and a size
 abbrev pub plus : ℕ → D.Size → D.Size
-plus x b = D.onSize b (λ y. D.within (x + y))
+plus x b = D.onSize b (λ y. D.fits (x + y))
 
 -- a size of what was read, else 31
 abbrev pub ofRead : {A : Type 0} → Option A → (A → D.Size) → D.Size
-ofRead none next = D.refused noSize
+ofRead none next = D.unsized noSize
 ofRead (some a) next = next a
 
 -- without dimensions, by the number of the type
 unfoldable pub plainAt : ℕ → D.Size
-plainAt kind = ofRead (D.kindOf kind) D.plainSize
+plainAt kind = ofRead (D.kindOf kind) D.singleSize
 
 -- the bytes of an element, 0 for none
 abbrev pub orZero : Option ℕ → ℕ
@@ -56,6 +56,6 @@ arrayAt kind count rest = ofRead (D.argumentOf kind count rest) D.argumentSize
 
 -- the argument at the front
 unfoldable pub argumentAt : List ℕ → D.Size
-argumentAt [] = D.refused noSize
-argumentAt (kind ∷ []) = D.refused noSize
+argumentAt [] = D.unsized noSize
+argumentAt (kind ∷ []) = D.unsized noSize
 argumentAt (kind ∷ count ∷ rest) = ofRead (D.argumentOf kind count rest) D.argumentSize

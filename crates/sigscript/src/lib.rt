@@ -239,7 +239,7 @@ pub struct Estimated {
 
 // An estimate within the maximum, or 33.
 fn judged(n: u64, maximum: u32) -> Estimated
-    ensures { λ r. ⌜ estimatedOf r ≡ D.judged maximum (D.size n) ⌝ }
+    ensures { λ r. ⌜ estimatedOf r ≡ D.against maximum (D.size n) ⌝ }
 {
     if n > maximum as u64 {
         return Estimated {
@@ -271,7 +271,7 @@ fn refused(number: u32) -> Estimated
 
 // The base and all arguments.
 fn total(arguments: &[u32], redeem: u32) -> Size
-    ensures { λ r. ⌜ sizeOf r ≡ D.total (now (arguments .entry)) redeem ⌝ }
+    ensures { λ r. ⌜ sizeOf r ≡ D.summed (now (arguments .entry)) redeem ⌝ }
 {
     match base(redeem) {
         Size::Bytes(n) => added(arguments, n),
