@@ -23,7 +23,7 @@ onSize (unsized r) next = unsized r
 abbrev pub fits : ℕ → Size
 fits n = pick (leb n 4294967295) (size n) (unsized sizePasses)
 
--- `maximum_canonical_data_push_size`: n bytes of data, with the opcode and the length before them. No bytes are 00 alone.
+-- `maximum_canonical_data_push_size`: n bytes of data, with the opcode and the length before them; of no bytes 00 alone
 abbrev pub pushSize : ℕ → Size
 pushSize n = fits (n + pick (leb n 75) 1 (pick (leb n 255) 2 (pick (leb n 65535) 3 5)))
 
