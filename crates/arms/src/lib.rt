@@ -1,4 +1,7 @@
 // The walkers of arms and conditionals: document 01, section 4.
+
+#![tactic(auto)]
+
 ghost use Rattle.std.specs.Prelude.{◌≡◌, ◌+◌, ◌≤◌};
 ghost use Rattle.definition.specs.Stacks.{Rules};
 ghost use Rattle.stack.specs.View.{Fit};

@@ -1,4 +1,7 @@
 // The assembler: a listing, words parted by one space, into a fragment (document 02, L4).
+
+#![tactic(auto)]
+
 ghost use Rattle.std.specs.Prelude.{◌≡◌, ◌+◌, ◌≤◌, T, length, drop};
 ghost use Rattle.assembling.specs.View.{converted_of, letters_before, judged_of, given_by, assembly_of, Good};
 ghost use Rattle.definition_listings.specs.Assembling as Assembling;

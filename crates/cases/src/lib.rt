@@ -1,5 +1,8 @@
 // The fields of a case, read from a line by the protocol of compare/README.md: numbers in decimal, bytes in hex or in the
 // repeat form. What is read lies within what was lent, whatever the line holds.
+
+#![tactic(auto)]
+
 ghost use Rattle.std.specs.Prelude.{◌≡◌, ◌+◌, ◌≤◌, length};
 ghost use Rattle.cases.specs.Digits.{decimal_digit, hex_digit, octet_at};
 ghost use Rattle.cases.specs.Ranges.{DigitBelow, EndsWithin, CountWithin, PartWithin};

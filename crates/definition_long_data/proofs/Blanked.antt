@@ -25,19 +25,19 @@ either : {X : Type 0} (P : X → Type 0) (b : Bool) {x y : X} → P x → P y �
 either P true h k = h
 either P false h k = k
 
-length-blank : (kept zeros : ℕ) (l : Bytes) → length (blank_from kept zeros l) ≡ length l
-length-blank kept zeros [] = refl
+length-blank : (kept blanks : ℕ) (l : Bytes) → length (blank_from kept blanks l) ≡ length l
+length-blank kept blanks [] = refl
 length-blank zero zero (b ∷ l) =
     ap suc (either (λ m. length m ≡ length l) (long (data_bytes b l)) (length-blank (length_bytes b) (data_bytes b l) l) (length-blank (length_bytes b + data_bytes b l) 0 l))
-length-blank zero (suc zeros) (b ∷ l) = ap suc (length-blank 0 zeros l)
-length-blank (suc kept) zeros (b ∷ l) = ap suc (length-blank kept zeros l)
+length-blank zero (suc blanks) (b ∷ l) = ap suc (length-blank 0 blanks l)
+length-blank (suc kept) blanks (b ∷ l) = ap suc (length-blank kept blanks l)
 
 -- the bytes before the data
-take-blank : (n kept zeros : ℕ) (l : Bytes) → n ≤ kept → take n (blank_from kept zeros l) ≡ take n l
-take-blank zero kept zeros l h = refl
-take-blank (suc n) kept zeros [] h = refl
-take-blank (suc n) zero zeros (b ∷ l) h = absurd (omega arith)
-take-blank (suc n) (suc kept) zeros (b ∷ l) h = ap (λ m. b ∷ m) (take-blank n kept zeros l (omega arith))
+take-blank : (n kept blanks : ℕ) (l : Bytes) → n ≤ kept → take n (blank_from kept blanks l) ≡ take n l
+take-blank zero kept blanks l h = refl
+take-blank (suc n) kept blanks [] h = refl
+take-blank (suc n) zero blanks (b ∷ l) h = absurd (omega arith)
+take-blank (suc n) (suc kept) blanks (b ∷ l) h = ap (λ m. b ∷ m) (take-blank n kept blanks l (omega arith))
 
 -- what stands behind an opcode, blanked
 abbrev behind : ℕ → ℕ → Bytes → Bytes
@@ -144,7 +144,7 @@ code_same after b offset next next' (both_whole e d) h = both_then (record { opc
 
 -- at an opcode, where what stands behind it is blanked alike, and `onward` is known of that
 module _ (b offset : ℕ) (l m : Bytes) (t : behind (length_bytes b) (data_bytes b l) l ≡ behind (length_bytes b) (data_bytes b m) m)
-    (onward : (kept zeros passing : ℕ) → passing ≡ kept + zeros → blank_from kept zeros l ≡ blank_from kept zeros m
+    (onward : (kept blanks passing : ℕ) → passing ≡ kept + blanks → blank_from kept blanks l ≡ blank_from kept blanks m
     → AlikeCode (decode_from passing (offset + 1) l) (decode_from passing (offset + 1) m)) where
   abbrev n : ℕ
   n = length_bytes b
@@ -173,21 +173,21 @@ module _ (b offset : ℕ) (l m : Bytes) (t : behind (length_bytes b) (data_bytes
           from (inl (sym (take-blank (n + size) (n + size) 0 l (omega arith)) ∙ ap (λ r. take (n + size) r) h ∙ take-blank (n + size) (n + size) 0 m (omega arith)))
           (onward (n + size) 0 (n + size) (omega arith) h)
 
-blanked-code : (kept zeros passing offset : ℕ) → passing ≡ kept + zeros → (f g : Bytes) → blank_from kept zeros f ≡ blank_from kept zeros g
+blanked-code : (kept blanks passing offset : ℕ) → passing ≡ kept + blanks → (f g : Bytes) → blank_from kept blanks f ≡ blank_from kept blanks g
     → AlikeCode (decode_from passing offset f) (decode_from passing offset g)
-blanked-code kept zeros passing offset e [] [] h = both_end
-blanked-code kept zeros passing offset e [] (b ∷ g) h = absurd (omega (arith, ap length h, length-blank kept zeros (b ∷ g)))
-blanked-code kept zeros passing offset e (a ∷ f) [] h = absurd (omega (arith, ap length h, length-blank kept zeros (a ∷ f)))
+blanked-code kept blanks passing offset e [] [] h = both_end
+blanked-code kept blanks passing offset e [] (b ∷ g) h = absurd (omega (arith, ap length h, length-blank kept blanks (b ∷ g)))
+blanked-code kept blanks passing offset e (a ∷ f) [] h = absurd (omega (arith, ap length h, length-blank kept blanks (a ∷ f)))
 blanked-code zero zero zero offset e (a ∷ f) (b ∷ g) h =
     let s : a ≡ b = ap (λ r. get_or r 0 0) h in
-    rw (← s) (at-opcode a offset f g (rw (← s) at (ap (λ r. drop 1 r) h)) (λ kept zeros passing e t. blanked-code kept zeros passing (offset + 1) e f g t))
+    rw (← s) (at-opcode a offset f g (rw (← s) at (ap (λ r. drop 1 r) h)) (λ kept blanks passing e t. blanked-code kept blanks passing (offset + 1) e f g t))
 blanked-code zero zero (suc passing) offset e (a ∷ f) (b ∷ g) h = absurd (omega arith)
-blanked-code zero (suc zeros) zero offset e (a ∷ f) (b ∷ g) h = absurd (omega arith)
-blanked-code zero (suc zeros) (suc passing) offset e (a ∷ f) (b ∷ g) h =
-    blanked-code 0 zeros passing (offset + 1) (omega arith) f g (ap (λ r. drop 1 r) h)
-blanked-code (suc kept) zeros zero offset e (a ∷ f) (b ∷ g) h = absurd (omega arith)
-blanked-code (suc kept) zeros (suc passing) offset e (a ∷ f) (b ∷ g) h =
-    blanked-code kept zeros passing (offset + 1) (omega arith) f g (ap (λ r. drop 1 r) h)
+blanked-code zero (suc blanks) zero offset e (a ∷ f) (b ∷ g) h = absurd (omega arith)
+blanked-code zero (suc blanks) (suc passing) offset e (a ∷ f) (b ∷ g) h =
+    blanked-code 0 blanks passing (offset + 1) (omega arith) f g (ap (λ r. drop 1 r) h)
+blanked-code (suc kept) blanks zero offset e (a ∷ f) (b ∷ g) h = absurd (omega arith)
+blanked-code (suc kept) blanks (suc passing) offset e (a ∷ f) (b ∷ g) h =
+    blanked-code kept blanks passing (offset + 1) (omega arith) f g (ap (λ r. drop 1 r) h)
 
 -- The request's relation implies the wider one.
 pub blanked_alike : (f g : Bytes) → Blanked f g → Alike f g
@@ -218,8 +218,8 @@ break_off_alike f g h = malformed-alike (blanked_alike f g h).1
 
 -- A fragment and itself blanked
 
-blank-again : (kept zeros : ℕ) (l : Bytes) → blank_from kept zeros (blank_from kept zeros l) ≡ blank_from kept zeros l
-blank-again kept zeros [] = refl
+blank-again : (kept blanks : ℕ) (l : Bytes) → blank_from kept blanks (blank_from kept blanks l) ≡ blank_from kept blanks l
+blank-again kept blanks [] = refl
 blank-again zero zero (b ∷ l) =
     ap (λ r. b ∷ r) (ap (λ k. behind (length_bytes b) k rest) same ∙ by (long (data_bytes b l)) (blank_from (length_bytes b) (data_bytes b l)) (blank_from (length_bytes b + data_bytes b l) 0)
     (blank-again (length_bytes b) (data_bytes b l) l) (blank-again (length_bytes b + data_bytes b l) 0 l))
@@ -233,8 +233,8 @@ blank-again zero zero (b ∷ l) =
     by : (x : Bool) (g h : Bytes → Bytes) → g (g l) ≡ g l → h (h l) ≡ h l → pick x (g (pick x (g l) (h l))) (h (pick x (g l) (h l))) ≡ pick x (g l) (h l)
     by true g h e d = e
     by false g h e d = d
-blank-again zero (suc zeros) (b ∷ l) = ap (λ r. 0x00 ∷ r) (blank-again 0 zeros l)
-blank-again (suc kept) zeros (b ∷ l) = ap (λ r. b ∷ r) (blank-again kept zeros l)
+blank-again zero (suc blanks) (b ∷ l) = ap (λ r. 0x00 ∷ r) (blank-again 0 blanks l)
+blank-again (suc kept) blanks (b ∷ l) = ap (λ r. b ∷ r) (blank-again kept blanks l)
 
 -- "Candidates share papers with signatures blanked; it must not matter": a fragment is related to itself blanked
 pub blank_related : (f : Bytes) → Blanked (blank f) f

@@ -146,6 +146,9 @@ module _ (p q : Bytes) (begins : take (header_size p) p ≡ take (header_size p)
   count_same : entry_count p ≡ entry_count q
   count_same = field-same 0 (omega arith)
 
+  size_same : header_size p ≡ header_size q
+  size_same = ap (λ n. 8 + 6 * n) count_same
+
   state-same : state_fields p ≡ state_fields q
   state-same = field-same 2 (omega arith)
 
@@ -155,7 +158,7 @@ module _ (p q : Bytes) (begins : take (header_size p) p ≡ take (header_size p)
   -- the same header is good in both or in neither
   header-same : length p ≡ length q → good_header p ≡ good_header q
   unfolding good_header
-  header-same e = rw (e, entries-same, field-same 4 (omega arith), field-same 6 (omega arith), count_same)
+  header-same e = cc (e, entries-same, size_same, count_same, field-same 4 (omega arith), field-same 6 (omega arith))
 
   each-body : (es : List Entry) → EachPart Alike p q (bodies es) → EachAlike (body_fragments p es) (body_fragments q es)
   each-body [] h = no_more

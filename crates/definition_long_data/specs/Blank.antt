@@ -18,14 +18,14 @@ length_bytes opcode = pick (eqb opcode 0x4c) 1 (pick (eqb opcode 0x4d) 2 (pick (
 abbrev pub data_bytes : ℕ → Bytes → ℕ
 data_bytes opcode rest = pick (leb 0x01 opcode && leb opcode 0x4b) opcode (number (take (length_bytes opcode) rest))
 
--- These bytes with 00 in place of long data. To the instruction before belong `kept` of them, which stay, and then `zeros`, which
+-- These bytes with 00 in place of long data. To the instruction before belong `kept` of them, which stay, and then `blanks`, which
 -- become 00. 51 09 and nine times 07 become 51 09 and nine times 00; 4c 20 07 07, which is broken off, becomes 4c 20 00 00.
 abbrev pub blank_from : ℕ → ℕ → Bytes → Bytes
-blank_from kept zeros [] = []
+blank_from kept blanks [] = []
 blank_from zero zero (b ∷ rest) =
     b ∷ pick (long (data_bytes b rest)) (blank_from (length_bytes b) (data_bytes b rest) rest) (blank_from (length_bytes b + data_bytes b rest) 0 rest)
-blank_from zero (suc zeros) (b ∷ rest) = 0x00 ∷ blank_from 0 zeros rest
-blank_from (suc kept) zeros (b ∷ rest) = b ∷ blank_from kept zeros rest
+blank_from zero (suc blanks) (b ∷ rest) = 0x00 ∷ blank_from 0 blanks rest
+blank_from (suc kept) blanks (b ∷ rest) = b ∷ blank_from kept blanks rest
 
 -- a fragment, blanked
 unfoldable pub blank : Bytes → Bytes

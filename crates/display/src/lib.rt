@@ -1,4 +1,7 @@
 // The display: document 01, section 6.
+
+#![tactic(auto)]
+
 ghost use Rattle.std.specs.Prelude.{◌≡◌, drop};
 // `Papers.display` is the display of document 01, section 6, in crates/definition/specs/Papers.antt.
 ghost use Rattle.definition.specs.Papers as Papers;

@@ -1,4 +1,7 @@
 // The stacks that a verdict ends with, in the form that a caller reads.
+
+#![tactic(auto)]
+
 ghost use Rattle.std.specs.Prelude.{◌≡◌, ℕ, ◌+◌, ◌<◌, get_or};
 ghost use Rattle.definition.specs.Walk.{unknown};
 ghost use Rattle.decode.specs.View.{item_of};

@@ -1,5 +1,8 @@
 // The functions for C and Rust callers. Numbers pass as themselves, a slice as a pointer and then a length, an array as a
 // pointer. Nothing is asked of the caller beyond that: bad input is refused with a number of document 01 or 02.
+
+#![tactic(auto)]
+
 ghost use Rattle.std.specs.Prelude.{[], ◌∷◌, ◌≡◌, ◌+◌, ◌≤◌, length, take, drop};
 ghost use Rattle.definition.specs.Lines.{printed};
 ghost use Rattle.definition_listings.specs.Assembling.{assembled};

@@ -1,4 +1,7 @@
 // What is wrong with the header of a paper, found and put into words: what stands behind verdict number 19.
+
+#![tactic(auto)]
+
 ghost use Rattle.std.proofs.Math.Option.{none, some};
 ghost use Rattle.std.specs.Prelude.{◌≡◌, ℕ, ◌+◌, ◌*◌, ◌≤◌, ◌<◌, ltb, length};
 ghost use Rattle.definition.specs.Basics.{pick};

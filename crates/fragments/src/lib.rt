@@ -1,5 +1,8 @@
 // For callers that show a fragment: what is marked of fragment k, the bodies in order and then the initialiser. No bytes and
 // heights 0 where there is none.
+
+#![tactic(auto)]
+
 ghost use Rattle.std.specs.Prelude.{◌≡◌};
 ghost use Rattle.header.specs.View.{fragment_at};
 

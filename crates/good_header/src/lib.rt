@@ -1,4 +1,7 @@
 // Whether the header of a paper is right: document 01, section 6.
+
+#![tactic(auto)]
+
 ghost use Rattle.std.specs.Prelude.{◌≡◌, ◌+◌, ◌*◌, ◌≤◌, min, length};
 // `Papers.f` is the f of document 01, section 6, in crates/definition/specs/Papers.antt.
 ghost use Rattle.definition.specs.Papers as Papers;

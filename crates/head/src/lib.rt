@@ -2,6 +2,9 @@
 // Each function over the struct is thin: the work is crate decode's `decode_at`, and `offset_after`.
 // The promises say the sequence: a new head has the whole code of its fragment left, and a read yields what the code left
 // yields first and leaves the rest.
+
+#![tactic(auto)]
+
 ghost use Rattle.std.specs.Prelude.{◌≡◌};
 ghost use Rattle.definition.specs.Decoding.{decode};
 ghost use Rattle.decode.specs.View.{decoded_at, yield_of, yielded, rest};

@@ -1,4 +1,7 @@
 // Reading a paper: its fields, the dispatch check, its parts (document 01, section 6).
+
+#![tactic(auto)]
+
 ghost use Rattle.std.specs.Prelude.{List, ◌≡◌, ℕ, ◌<◌, max, length};
 // `Papers.f` is the f of document 01, section 6, in crates/definition/specs/Papers.antt.
 ghost use Rattle.definition.specs.Papers as Papers;

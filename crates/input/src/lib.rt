@@ -1,4 +1,7 @@
 // Reading standard input. No contract can speak of what is read: a read that fails is told apart from the end of the input.
+
+#![tactic(auto)]
+
 ghost use Rattle.io.specs.Counts.{IsPrefixLen};
 
 // Whether a read failed, and how many bytes were read where none did.

@@ -1,4 +1,7 @@
 // The limit check: document 01, section 6.
+
+#![tactic(auto)]
+
 ghost use Rattle.std.specs.Prelude.{◌≡◌};
 ghost use Rattle.std.proofs.Math.Option.{none};
 ghost use Rattle.definition.specs.Papers.{limits_of, limit_check};

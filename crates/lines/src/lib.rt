@@ -1,5 +1,8 @@
 // The lines that `stackmark` prints: document 01, section 6. A text is written into lent bytes from an index on; the answer
 // is the index after it.
+
+#![tactic(auto)]
+
 ghost use Rattle.std.specs.Prelude.{◌≡◌, ◌+◌, ◌≤◌, length};
 ghost use Rattle.definition.specs.Lines.{text, name, refused_line, printed};
 ghost use Rattle.definition.specs.Papers.{entry_count, fragments, mark_from, mark_paper};

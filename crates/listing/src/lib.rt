@@ -1,4 +1,7 @@
 // The lister: a fragment into the words of a listing (document 02, L4).
+
+#![tactic(auto)]
+
 ghost use Rattle.std.proofs.Math.Option.{none};
 ghost use Rattle.std.specs.Prelude.{◌≡◌, ◌+◌, ◌^◌, ◌≤◌, ◌<◌, T, length};
 ghost use Rattle.assembling.specs.View.{converted_of};

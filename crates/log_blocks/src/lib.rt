@@ -2,6 +2,9 @@
 // is put from an index on; the answer is the index after it. A line has at most 256 bytes, and indices stay at most
 // 1,099,511,627,776, so that no sum wraps. Conditionals go by the classes of lent rows: what is put is the same beside whatever
 // options.
+
+#![tactic(auto)]
+
 ghost use Rattle.std.specs.Prelude.{◌+◌, ◌*◌, ◌≤◌, ◌<◌, length};
 ghost use Rattle.definition_rules.specs.Maps.{Options, rules_by};
 ghost use Rattle.opcodes.specs.View.{ClassRows};

@@ -1,6 +1,9 @@
 // The lines that `stacklog` prints around the rows, each written into lent bytes, and the function that does it says which
 // line it is. A text is written from an index on; the answer is the index after it. Each line is of at most 256 bytes, and is
 // written from the start on. Conditionals go by the classes of lent rows: a line is the same beside whatever options.
+
+#![tactic(auto)]
+
 ghost use Rattle.std.specs.Prelude.{[], ◌≡◌, ◌+◌, ◌-◌, ◌*◌, ◌≤◌, length};
 ghost use Rattle.definition.specs.Lines.{text};
 ghost use Rattle.definition_rules.specs.Maps.{Options, rules_by};

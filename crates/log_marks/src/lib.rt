@@ -1,4 +1,7 @@
 // Marking a paper for its log: what is told of each fragment is kept.
+
+#![tactic(auto)]
+
 ghost use Rattle.std.specs.Prelude.{◌≡◌, ◌≤◌, length};
 ghost use Rattle.definition_rules.specs.Maps.{rules_by};
 ghost use Rattle.definition.specs.Papers.{fragments, mark_from, mark_paper};

@@ -1,6 +1,9 @@
 // The rows of the log as `stacklog` prints them, each written into lent bytes, and the function that does it says which row it
 // is. A text is written from an index on; the answer is the index after it. Conditionals go by the classes of lent rows: a row is
 // the same beside whatever options.
+
+#![tactic(auto)]
+
 ghost use Rattle.std.specs.Prelude.{[], ◌∷◌, ◌≡◌, ◌+◌, ◌-◌, ◌*◌, ◌≤◌, ◌<◌, min, max, T, length, take, get_or, replicate};
 ghost use Rattle.definition.specs.Classes.{class_at};
 ghost use Rattle.definition.specs.Lines.{decimal};

@@ -1,4 +1,7 @@
 // All that `stacklog` prints of a paper, written into lent bytes; also by a lent map, limit and mode.
+
+#![tactic(auto)]
+
 ghost use Rattle.std.specs.Prelude.{[], ◌≡◌, ◌+◌, ◌*◌, ◌≤◌, ◌<◌, length, take};
 ghost use Rattle.definition_rules.specs.Maps.{rules_by};
 ghost use Rattle.definition_rules.specs.Maps as Maps;

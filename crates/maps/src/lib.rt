@@ -1,4 +1,7 @@
 // Lent opcode maps and limits: document 02, request L6; and the maps of the rule years, request L8.
+
+#![tactic(auto)]
+
 ghost use Rattle.std.specs.Prelude.{true, ◌&&◌, not, ◌≡◌, ◌<◌, leb, eqb, length};
 ghost use Rattle.definition.specs.Classes.{class_number};
 ghost use Rattle.definition_rules.specs.Maps.{first_row, rows_of, good_rows, good_map, good_limit};

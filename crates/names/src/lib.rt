@@ -1,4 +1,7 @@
 // The names of the opcodes, and the code of a name (document 02, L4).
+
+#![tactic(auto)]
+
 ghost use Rattle.std.specs.Prelude.{◌≡◌, ◌≤◌, ◌<◌, T, length, get_or};
 ghost use Rattle.definition_listings.specs.Assembling as Assembling;
 ghost use Rattle.definition_listings.specs.OpcodeNames.{name_table};

@@ -1,4 +1,7 @@
 // The number form: document 01, section 1.
+
+#![tactic(auto)]
+
 ghost use Rattle.std.specs.Prelude.{◌≡◌, ◌≤◌};
 // `Decoding.f` is the f of document 01, section 1, in crates/definition/specs/Decoding.antt.
 ghost use Rattle.definition.specs.Decoding as Decoding;

@@ -1,4 +1,7 @@
 // The class of each opcode: document 01, section 2.
+
+#![tactic(auto)]
+
 ghost use Rattle.std.specs.Prelude.{◌≡◌, get_or};
 ghost use Rattle.definition.specs.Classes.{class_number};
 ghost use Rattle.opcodes.specs.View.{ClassRows, BuiltInRows};

@@ -1,4 +1,7 @@
 // Marking a paper: document 01, section 6.
+
+#![tactic(auto)]
+
 ghost use Rattle.std.specs.Prelude.{◌≡◌, ◌+◌, ◌*◌, ◌≤◌, min, length, drop};
 ghost use Rattle.definition.specs.Papers.{part_at, bytes_of, fragments, mark_from, mark_paper, EachTrue};
 ghost use Rattle.definition_rules.specs.Maps.{rules_by, rules_of, mark_paper_with};

@@ -1,4 +1,7 @@
 // How answers are put into the places that a caller in another language lends.
+
+#![tactic(auto)]
+
 ghost use Rattle.std.specs.Prelude.{[], ◌∷◌, ◌≡◌, suc, ◌+◌, ◌≤◌, min, length, take};
 ghost use Rattle.lines.specs.View.{Within};
 ghost use Rattle.definition.specs.Refusals.{greatest_number};

@@ -1,5 +1,8 @@
 // The words of the verdict numbers: document 01, section 7, and document 02. A text is written into lent bytes from an index
 // on; the answer is the index after it.
+
+#![tactic(auto)]
+
 ghost use Rattle.std.specs.Prelude.{◌++◌, ◌+◌, ◌≤◌, length};
 ghost use Rattle.definition.specs.Lines.{decimal};
 ghost use Rattle.definition_listings.specs.Hex.{hex_byte};

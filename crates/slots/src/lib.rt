@@ -1,6 +1,9 @@
 // A slot of the stacks: a code and bytes, in two arrays of 244. A code of 0 to 8 is an exact item of so many bytes, which
 // stand in `bytes` as one number, the first byte the lowest; 9 is an unknown item; 10 + v is the exact item of the one byte
 // v, and such an item, v at most 245, is always written so.
+
+#![tactic(auto)]
+
 ghost use Rattle.std.specs.Prelude.{◌≡◌, true, length, ◌+◌, ◌≤◌, ◌<◌};
 ghost use Rattle.slots.specs.View.{slots, code_of, sufficient, Canon, Sound};
 ghost use Rattle.slots.specs.Parts.{Suffice, Copied, Turned, Joined, Each, JoinedAt, common_code, CommonAt, InSlot, code_length};

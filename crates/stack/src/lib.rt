@@ -1,4 +1,7 @@
 // The two stacks, by value, and what the ordinary opcodes do to them: document 01, section 3.
+
+#![tactic(auto)]
+
 ghost use Rattle.std.specs.Prelude.{◌≡◌, true, false, ℕ, ◌+◌, ◌≤◌, ◌<◌};
 ghost use Rattle.definition.specs.Classes.{DEPTH, SIZE, PICK, ZK};
 ghost use Rattle.definition.specs.Stacks.{push_item, drop_items, copy_items, rotate_items, tuck_top, nip_second, move_to_alt, move_from_alt, pop_index, zk_drop, plain_step};

@@ -1,4 +1,7 @@
 // The analysis of a fragment: document 01, sections 4 and 7.
+
+#![tactic(auto)]
+
 ghost use Rattle.std.specs.Prelude.{List, ◌≡◌, ℕ, ◌+◌, ◌*◌, ◌≤◌, length};
 ghost use Rattle.definition.specs.Stacks.{Rules, built_in};
 ghost use Rattle.definition.specs.Decoding.{decode, instructions};

@@ -3,6 +3,9 @@
 //
 //     p push 51     d drop     c DUP     r ROT     t to alt     f from alt     e a plain effect (2 and 1)
 //     u a plain effect (0 and 1)     j join with the start
+
+#![tactic(auto)]
+
 ghost use Rattle.std.specs.Prelude.{◌≤◌};
 ghost use Rattle.stack.specs.View.{Fit};
 

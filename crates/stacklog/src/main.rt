@@ -1,5 +1,8 @@
 // `stacklog` reads a paper from standard input, marks it and prints its log as a person reads it: for each fragment a line for
 // each instruction met, and the verdict in words. No contract can speak of what a program reads or writes: the work is `logged`.
+
+#![tactic(auto)]
+
 ghost use Rattle.std.specs.Prelude.{◌++◌, ◌≡◌, leb, length, drop};
 ghost use Rattle.definition.specs.Basics.{pick};
 ghost use Rattle.log_text.specs.LogText.{stacklog};

@@ -1,5 +1,8 @@
 // `stackmark` reads a paper from standard input, marks it and prints the lines of document 01, section 6. No contract can
 // speak of what a program reads or writes: the work is `marked`.
+
+#![tactic(auto)]
+
 ghost use Rattle.std.specs.Prelude.{◌≡◌};
 ghost use Rattle.definition.specs.Lines.{stackmark};
 ghost use Rattle.lines.specs.View.{lines_in, Within};

@@ -1,4 +1,7 @@
 // Sums over a sitting: document 02, request L1.
+
+#![tactic(auto)]
+
 ghost use Rattle.std.specs.Prelude.{true, ◌≡◌, ◌≤◌, eqb, length, get_or};
 ghost use Rattle.definition.specs.Basics.{pick};
 ghost use Rattle.definition_sums.specs.Sums as Sums;

@@ -1,4 +1,7 @@
 // The bench tally: document 01, section 4.
+
+#![tactic(auto)]
+
 ghost use Rattle.std.specs.Prelude.{◌≡◌, max, eqb};
 ghost use Rattle.definition.specs.Basics.{pick};
 ghost use Rattle.definition.specs.Walk as Walk;

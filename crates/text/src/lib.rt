@@ -1,4 +1,7 @@
 // Words and numbers written into lent bytes: each from an index on; the answer is the index after it.
+
+#![tactic(auto)]
+
 ghost use Rattle.std.specs.Prelude.{[], ◌∷◌, ◌++◌, ◌≡◌, ◌+◌, ◌≤◌, ◌<◌, length};
 ghost use Rattle.definition.specs.Lines.{decimal};
 ghost use Rattle.definition_listings.specs.Hex.{hex_digit, hex_byte};

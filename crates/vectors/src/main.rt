@@ -5,6 +5,9 @@
 //
 //     cp compare/list/cases.txt crates/vectors/stdin
 //     cp compare/list/answers.txt crates/vectors/stdout
+
+#![tactic(auto)]
+
 ghost use Rattle.std.specs.Prelude.{◌≡◌, ◌+◌, ◌≤◌, length};
 ghost use Rattle.definition.specs.Walk as Walk;
 ghost use Rattle.definition.specs.Walk.{Verdict};

@@ -1,4 +1,7 @@
 // The walk over instructions that are no conditionals: document 01, section 4.
+
+#![tactic(auto)]
+
 ghost use Rattle.std.specs.Prelude.{◌≡◌, ℕ, ◌+◌, ◌*◌, ◌≤◌, ◌<◌, max, length, set};
 ghost use Rattle.stack.specs.View.{Fit};
 ghost use Rattle.definition_rules.specs.Maps.{built_in_options, rules_by};

@@ -1,4 +1,7 @@
 // The bytes of a word of a listing, a push in its shortest length form (document 02, L4).
+
+#![tactic(auto)]
+
 ghost use Rattle.std.specs.Prelude.{true, ◌≡◌, ◌+◌, ◌≤◌, T, length};
 ghost use Rattle.std.proofs.Math.Option.{some};
 ghost use Rattle.definition_listings.specs.Assembling as Assembling;

@@ -1,4 +1,7 @@
 // The words of a listing as they are read: whether a word is in the form, and how many bytes it has (document 02, L4).
+
+#![tactic(auto)]
+
 ghost use Rattle.std.specs.Prelude.{true, false, ◌≡◌, ◌+◌, ◌≤◌, T, length};
 ghost use Rattle.definition_listings.specs.Assembling as Assembling;
 ghost use Rattle.names.specs.Tables.{all_letters, starts_right, codes_right};
