@@ -23,7 +23,7 @@ const LONGEST: usize = 20100;
 const LONG_TAIL: usize = 100;
 
 // How far the output is filled with the answer, or that the line is bad.
-#[derive(Drop)]
+#[derive(Clone, Copy)]
 enum Answered {
     Written(usize),
     Bad,
@@ -31,7 +31,7 @@ enum Answered {
 
 // How the reading stands: the characters of a line that are held, the number of this line, and how far the output is
 // filled.
-#[derive(Drop)]
+#[derive(Clone, Copy)]
 struct Reading {
     held: usize,
     number: u64,
@@ -39,7 +39,7 @@ struct Reading {
 }
 
 // What a read gave: characters, after which the reading stands so, or the end of the input.
-#[derive(Drop)]
+#[derive(Clone, Copy)]
 enum Progress {
     More(Reading),
     End,
