@@ -1,6 +1,3 @@
--- `tally::gain` meets its contract: a walk of its MIR, by hand. The borrow is opened, the struct is copied out and passed to `gained`, and the borrow is closed at the tally that comes back.
--- All that it knows of `gained` is that it meets its contract. What a struct of numbers owns is made anew from its relation.
--- Assumes nothing.
 use mathlib.Core.Path.{◌≡◌, refl, ap}
 use Prim.Native.Nat.{ℕ, ◌<◌, ◌^◌}
 use mathlib.Core.List.{List, [], ◌∷◌}
@@ -33,7 +30,6 @@ use denote.Struct.Steps.{spelt}
 use denote.Struct.Laws as LL
 use denote.Triple.Entry.{on_entry}
 use denote.Triple.Spec.{Meets, triple_of}
-use denote.Triple.Statement.{Contract, Triple}
 use denote.Triple.Call.{calls_at}
 use denote.Triple.Clauses.{ensured, lasts}
 use denote.Triple.Table.{entered, cited}
@@ -54,8 +50,12 @@ use Rattle.tally.proofs.gained.Symbol.{name as #tally·gained}
 use Rattle.tally.proofs.gained.Met as gained-thm
 use Rattle.tally.specs.contracts.gain.Key.{name as #tally·gain}
 use Rattle.tally.specs.contracts.gain as gain
-use Rattle.tally.proofs.gain.Statement as stated
 use Rattle.tally.proofs.gain.Code as code
+use Rattle.tally.proofs.gain.Goals as goal
+
+-- `tally::gain` meets its contract: a walk of its MIR, by hand. The borrow is opened, the struct is copied out and passed to `gained`, and the borrow is closed at the tally that comes back.
+-- All that it knows of `gained` is that it meets its contract. What a struct of numbers owns is made anew from its relation.
+-- Assumes nothing.
 
 abbrev stayed : Stays (gain.ended).signature.params (gain.ended).kept
 stayed = (stay_ref (0 ∷ []) tt (plain (λ _. T.the_row)), (stay_none (λ _. u32) yes, (stay_none (λ _. usize) yes, (stay_none (λ _. u32) yes, tt))))
