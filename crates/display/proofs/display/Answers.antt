@@ -1,4 +1,3 @@
-use borrow.Author.Rules.{rules}
 use Rattle.display.proofs.Shown.{display-body, display-init, display-none}
 use Rattle.display.proofs.display.Goals as goal
 

@@ -1,6 +1,5 @@
 use mathlib.Core.Path.{◌≡◌, sym, ◌∙◌}
 use native.Mathlib.Omega.{arith}
-use borrow.Author.Rules.{rules}
 use Rattle.decode.specs.View.{decoded_at}
 use Rattle.decode.specs.declared.Decoded.TheVariants.{At, Malformed}
 use Rattle.decode.proofs.Bytes.{slice-bytes}
@@ -20,13 +19,17 @@ not-whole : (c : In-Malformed) → decoded_at c.args.fragment.now c.args.offset 
 not-whole c = sym c.decode_at.ensures.same ∙ c.in-Malformed.is
 
 pub slice_bounds-result-count : goal.slice_bounds-result-count
-slice_bounds-result-count c = omega (arith, (found (goal.at.slice_bounds-result-count c).In-At).onward, (found (goal.at.slice_bounds-result-count c).In-At).within)
+slice_bounds-result-count c =
+    let f = found (goal.at.slice_bounds-result-count c).In-At in
+    omega (arith, f.onward, f.within)
 
-part-result-start : tie.Need-slice-bounds-result-start
-part-result-start c = omega (arith, (found c).onward, (found c).within)
+pub slice_bounds-result-start : goal.slice_bounds-result-start
+slice_bounds-result-start c =
+    let f = found (goal.at.slice_bounds-result-start c).In-At in
+    omega (arith, f.onward, f.within)
 
-part-result-end : tie.Need-slice-bounds-result-end
-part-result-end c = omega (arith, (found c).within)
+pub slice_bounds-result-end : goal.slice_bounds-result-end
+slice_bounds-result-end c = omega (arith, (found (goal.at.slice_bounds-result-end c).In-At).within)
 
 pub returns-in-At : goal.returns-in-At
 returns-in-At c = shown-instruction _ _ _ (decoded (goal.at.returns-in-At c).In-At)
@@ -37,8 +40,8 @@ returns-in-End c = shown-end _ _ (sym c.decode_at.ensures.same ∙ c.in-End.is)
 pub slice_bounds-result-count-in-Malformed : goal.slice_bounds-result-count-in-Malformed
 slice_bounds-result-count-in-Malformed c = omega (arith, (code-malformed _ _ (not-whole (goal.at.slice_bounds-result-count-in-Malformed c).In-Malformed)).1)
 
-part-result-start-3 : tie.Need-slice-bounds-result-start-3
-part-result-start-3 c = omega (arith, (code-malformed _ _ (not-whole c)).1)
+pub slice_bounds-result-start-in-Malformed : goal.slice_bounds-result-start-in-Malformed
+slice_bounds-result-start-in-Malformed c = omega (arith, (code-malformed _ _ (not-whole (goal.at.slice_bounds-result-start-in-Malformed c).In-Malformed)).1)
 
 pub returns-in-Malformed : goal.returns-in-Malformed
 returns-in-Malformed c = shown-malformed _ _ (not-whole (goal.at.returns-in-Malformed c).In-Malformed)

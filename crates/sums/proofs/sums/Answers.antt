@@ -1,5 +1,4 @@
 use mathlib.Core.Path.{sym, ap, ◌∙◌}
-use borrow.Author.Rules.{rules}
 use Rattle.sums.specs.View.{sums_of}
 use Rattle.sums.proofs.Summing.{bad-length}
 use Rattle.sums.proofs.sums.Goals as goal

@@ -1,10 +1,6 @@
-use mathlib.Core.Path.{ap, ◌∙◌}
-use Prim.Native.Nat.{◌+◌, ◌-◌, ◌≤◌, ◌<◌}
-use native.Mathlib.Omega.{arith}
-use borrow.Author.Rules.{rules}
-use lib.ListN.{length, get_or}
-use Rattle.sums.specs.View.{sums_of}
-use Rattle.sums.proofs.Summing.{Summing, good-bound, good-even, summing-none, pair-within, past-greatest, summing-more, all-summed}
+use Prim.Native.Nat.{◌-◌}
+use lib.ListN.{length}
+use Rattle.sums.proofs.Summing.{Summing}
 use Rattle.sums.proofs.sums_of_pairs.Given as goal
 
 abbrev pub invariant-loop-k : goal.invariant-loop-k
