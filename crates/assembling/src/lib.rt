@@ -11,7 +11,7 @@ ghost use Rattle.names.specs.Tables.{all_letters, starts_right, codes_right};
 ghost use Rattle.text.specs.View.{Written};
 
 // An answer: the number, 0 where all went well, the offset of what was refused, and how many bytes were written.
-#[derive(Drop)]
+#[derive(Clone, Copy)]
 pub struct Converted {
     pub number: u32,
     pub offset: usize,
@@ -35,7 +35,7 @@ fn word_end(listing: &[u8], start: usize) -> usize
 }
 
 // How many bytes a listing gives, or where its first strange word is.
-#[derive(Drop)]
+#[derive(Clone, Copy)]
 enum Judged {
     Gives(usize),
     Strays(usize),

@@ -8,35 +8,35 @@ ghost use Rattle.cases.specs.Digits.{decimal_digit, hex_digit, octet_at};
 ghost use Rattle.cases.specs.Ranges.{DigitBelow, EndsWithin, CountWithin, PartWithin};
 
 // What a character is as a digit.
-#[derive(Drop)]
+#[derive(Clone, Copy)]
 pub enum Digit {
     Value(u8),
     Other,
 }
 
 // A number in decimal, and the index after it.
-#[derive(Drop)]
+#[derive(Clone, Copy)]
 pub enum Field {
     Number { value: u32, next: usize },
     NoNumber,
 }
 
 // A byte in hex.
-#[derive(Drop)]
+#[derive(Clone, Copy)]
 pub enum Octet {
     Byte(u8),
     NoByte,
 }
 
 // So many bytes at the start of the lent code.
-#[derive(Drop)]
+#[derive(Clone, Copy)]
 pub enum Count {
     Bytes(usize),
     NoBytes,
 }
 
 // So many bytes in the lent code, and the index after them and a space.
-#[derive(Drop)]
+#[derive(Clone, Copy)]
 pub enum Part {
     Read { count: usize, next: usize },
     NoPart,

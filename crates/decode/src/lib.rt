@@ -12,7 +12,7 @@ ghost use Rattle.definition.specs.Walk.{known};
 ghost use Rattle.decode.specs.View.{value_of, decoded_front, decoded_at, code_at, data_start, yield_of, yielded, counted_of, count_in};
 
 // What is known of an item: nothing, or its length and its bytes as one number, the first byte the lowest.
-#[derive(Drop)]
+#[derive(Clone, Copy)]
 pub enum Value {
     Unknown,
     Exact { len: u8, bytes: u64 },
@@ -20,7 +20,7 @@ pub enum Value {
 
 // One instruction: its opcode, its offset, its literal as the marker knows it, and where the next one starts. In this order of
 // the fields the compiled decoder is as short as it is where `Malformed` carries no offset.
-#[derive(Drop)]
+#[derive(Clone, Copy)]
 pub struct Instruction {
     pub offset: usize,
     pub literal: Value,
@@ -29,7 +29,7 @@ pub struct Instruction {
 }
 
 // What stands at an offset: an instruction, the end, or, with its offset, one whose length or data bytes are missing.
-#[derive(Drop)]
+#[derive(Clone, Copy)]
 pub enum Decoded {
     At(Instruction),
     End,
@@ -37,7 +37,7 @@ pub enum Decoded {
 }
 
 // How many instructions a fragment has, or the offset at which it is malformed.
-#[derive(Drop)]
+#[derive(Clone, Copy)]
 pub enum Counted {
     Whole(usize),
     Malformed(usize),

@@ -70,6 +70,11 @@ models_rows (m ∷ k) [] = false
 models_rows (m ∷ k) (n ∷ l) = models_number m n && models_rows k l
 
 class-gained : (c : Class) → T (gained c) → Models (ordinary unmodelled) c
+class-gained IF t = elim t [ ]
+class-gained NOTIF t = elim t [ ]
+class-gained ELSE t = elim t [ ]
+class-gained ENDIF t = elim t [ ]
+class-gained RETURN t = elim t [ ]
 class-gained (ordinary o) t = gains_ordinary o
 class-gained (plain pops pushes) t = gains_plain pops pushes
 
@@ -84,6 +89,8 @@ number-models m n t = by (eqb m n) refl t
 
 rows-model : (k l : List ℕ) → T (models_rows k l) → (code : ℕ) → Models (class_at (get_or k code 0)) (class_at (get_or l code 0))
 rows-model [] [] t code = keeps _
+rows-model [] (n ∷ l) t code = elim t [ ]
+rows-model (m ∷ k) [] t code = elim t [ ]
 rows-model (m ∷ k) (n ∷ l) t zero = number-models m n (and_yes (models_number m n) (models_rows k l) t).0
 rows-model (m ∷ k) (n ∷ l) t (suc code) = rows-model k l (and_yes (models_number m n) (models_rows k l) t).1 code
 

@@ -16,7 +16,7 @@ use stack::Stacks;
 
 // So many items of main, from bottom to top, and then so many of alt, from bottom to top. Of each item its length, 0 to 8, or
 // 255 if it is unknown, and its bytes as one number, the first byte the lowest, or 0. Unused places are 255 and 0.
-#[derive(Drop)]
+#[derive(Clone, Copy)]
 pub struct EndStacks {
     pub main: u32,
     pub alt: u32,

@@ -13,7 +13,7 @@ ghost use Rattle.faults.specs.Faults.{part_fault, fault, part_name, fault_words}
 ghost use Rattle.faults.specs.View.{fault_of};
 
 // A fault; parts are counted from 0, the initialiser and then the bodies.
-#[derive(Drop)]
+#[derive(Clone, Copy)]
 pub enum Fault {
     Nothing,
     Short { bytes: usize },

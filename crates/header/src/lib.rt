@@ -40,7 +40,7 @@ pub fn larger(a: u32, b: u32) -> u32
 }
 
 // What the dispatch check finds: each entry fits, or the first that does not, with its sum.
-#[derive(Drop)]
+#[derive(Clone, Copy)]
 pub enum Dispatch {
     Fits,
     Over { entry: usize, sum: u32 },

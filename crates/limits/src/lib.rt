@@ -17,7 +17,7 @@ const MAX_SCRIPTS_SIZE: u64 = 10000;
 const NO_COST_OPCODE: u8 = 0x60;
 
 // Number, offset and two figures.
-#[derive(Drop)]
+#[derive(Clone, Copy)]
 pub struct Answer {
     pub number: u32,
     pub offset: usize,

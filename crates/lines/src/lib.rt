@@ -105,7 +105,7 @@ pub fn write_accepted(out: &mut [u8], at: usize) -> usize
 }
 
 // The index after a text whose last line tells the verdict, and the verdict's number.
-#[derive(Drop)]
+#[derive(Clone, Copy)]
 struct Told {
     next: usize,
     number: u32,
@@ -244,7 +244,7 @@ fn write_lines_with(
 }
 
 // So many bytes of text, and zeros behind them; and the number of the verdict that the text tells.
-#[derive(Drop)]
+#[derive(Clone, Copy)]
 pub struct Lines {
     pub bytes: [u8; 4096],
     pub size: usize,

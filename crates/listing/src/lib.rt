@@ -69,7 +69,7 @@ fn word_length(opcode: u8, offset: usize, next: usize, starts: &[u16]) -> usize
 }
 
 // How many letters a listing has, where they are within the room that is lent.
-#[derive(Drop)]
+#[derive(Clone, Copy)]
 enum Measured {
     Fits(usize),
     Short,

@@ -14,7 +14,7 @@ ghost use Rattle.log_lines.specs.Log.{opener, other_main, arms, verdict_line};
 
 // What is told of a fragment's verdict: number, offset and two figures, the rows written, the peak, whether it has an end, and
 // the heights there.
-#[derive(Drop)]
+#[derive(Clone, Copy)]
 pub struct Told {
     pub number: u32,
     pub offset: usize,

@@ -19,7 +19,7 @@ use walk::Options;
 
 // What is told of a paper: the fragments accepted, `count` of them, the first in `told`; the entry that the paper's verdict is
 // about; and the fragment or the paper that was refused, all 0 where none was.
-#[derive(Drop)]
+#[derive(Clone, Copy)]
 pub struct Marked {
     pub entry: usize,
     pub last: Told,

@@ -18,7 +18,7 @@ use log_marks::Marked;
 use walk::Options;
 
 // The verdict's number, and the size of the text.
-#[derive(Drop)]
+#[derive(Clone, Copy)]
 pub struct LogText {
     pub number: u32,
     pub size: usize,
@@ -88,7 +88,7 @@ fn put_last(text: &mut [u8], at: usize, go: bool, entry: usize, t: Told) -> usiz
 }
 
 // The next index, and the next row.
-#[derive(Drop)]
+#[derive(Clone, Copy)]
 struct Place {
     at: usize,
     from: usize,

@@ -422,7 +422,7 @@ pub fn all_codes() -> [u8; 512]
 }
 
 // A word that is no data, as it is read: outside the form, or the byte of a code.
-#[derive(Drop)]
+#[derive(Clone, Copy)]
 pub enum Word {
     Strange,
     Code(u8),

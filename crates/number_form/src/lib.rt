@@ -14,7 +14,7 @@ ghost use Rattle.number_form.specs.View.{read_of, indexed};
 use decode::Value;
 
 // A value read as an index.
-#[derive(Drop)]
+#[derive(Clone, Copy)]
 pub enum Index {
     Unknown,
     NoNumber,

@@ -20,7 +20,7 @@ use walk::Options;
 
 // The verdict on a paper: the entry that it is about (E for the initialiser), number, offset and two figures, the rows
 // written, the peak. A paper has no end stacks.
-#[derive(Drop)]
+#[derive(Clone, Copy)]
 pub struct PaperVerdict {
     pub entry: usize,
     pub number: u32,

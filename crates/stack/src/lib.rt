@@ -21,7 +21,7 @@ use slots::{
 
 // Both stacks lie in the same 244 slots: main from the bottom, alt from the top end. A slot has a code and bytes, as the
 // crate slots has them. The two heights lie between the arrays: each array is then copied by itself, where it is written.
-#[derive(Drop)]
+#[derive(Clone, Copy)]
 pub struct Stacks {
     pub bytes: [u64; 244],
     pub mains: u32,
@@ -31,7 +31,7 @@ pub struct Stacks {
 
 // The refusals of a walk, 5 to 16 of section 7, 24 and 25 of request L2 and 30 of request L7, with those of their figures that are
 // not fixed.
-#[derive(Drop)]
+#[derive(Clone, Copy)]
 pub enum Refusal {
     Nesting,
     StacksFull { wanted: u32, limit: u32 },
@@ -50,21 +50,21 @@ pub enum Refusal {
     OpenIf,
 }
 
-#[derive(Drop)]
+#[derive(Clone, Copy)]
 pub enum Answer {
     Done,
     Refused(Refusal),
 }
 
 // What each method returns: the changed stacks, or a refusal.
-#[derive(Drop)]
+#[derive(Clone, Copy)]
 pub struct Stepped {
     pub stacks: Stacks,
     pub answer: Answer,
 }
 
 // An index or a count popped from main, or why there is none.
-#[derive(Drop)]
+#[derive(Clone, Copy)]
 pub enum Count {
     At(u64),
     Refused(Refusal),

@@ -23,7 +23,7 @@ use stack::{Refusal, Stacks};
 use walk::{Options, Stop, Walk};
 
 // The verdict: number, offset and two figures, the rows written, the peak, and the end stacks where there is an end.
-#[derive(Drop)]
+#[derive(Clone, Copy)]
 pub struct Verdict {
     pub number: u32,
     pub offset: usize,
@@ -36,7 +36,7 @@ pub struct Verdict {
 }
 
 // The verdict with the heights of its end in place of the end stacks; 0 and 0 where there is none.
-#[derive(Drop)]
+#[derive(Clone, Copy)]
 pub struct Summary {
     pub number: u32,
     pub offset: usize,
@@ -50,14 +50,14 @@ pub struct Summary {
 }
 
 // How an analysis starts: refused before the walk, or with the walk.
-#[derive(Drop)]
+#[derive(Clone, Copy)]
 enum Start {
     Refused(Summary),
     Walks,
 }
 
 // The number and the figures of a refusal.
-#[derive(Drop)]
+#[derive(Clone, Copy)]
 struct Figures {
     number: u32,
     first: u64,

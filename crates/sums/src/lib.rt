@@ -15,7 +15,7 @@ pub const GREATEST_NUMBER: u32 = 30;
 pub const NUMBERS: usize = 31;
 
 // 0 or 23; how often each verdict number occurred, from 0 to the greatest in use; sum and count of the peaks of the accepted.
-#[derive(Drop)]
+#[derive(Clone, Copy)]
 pub struct SittingSums {
     pub number: u32,
     pub counts: [u32; NUMBERS],

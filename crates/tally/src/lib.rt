@@ -9,7 +9,7 @@ ghost use Rattle.definition.specs.Walk.{Verdict};
 ghost use Rattle.tally.specs.View.{tally_of, tallied, tallied_of, Gives};
 
 // Fragments, accepted ones, rows, and the greatest peak.
-#[derive(Drop)]
+#[derive(Clone, Copy)]
 pub struct Tally {
     pub fragments: u32,
     pub accepts: u32,
@@ -18,7 +18,7 @@ pub struct Tally {
 }
 
 // The tally afterwards, and the answer, 0 or 22.
-#[derive(Drop)]
+#[derive(Clone, Copy)]
 pub struct Tallied {
     pub tally: Tally,
     pub answer: u32,

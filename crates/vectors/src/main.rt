@@ -24,7 +24,7 @@ const LONGEST: usize = 20100;
 const LONG_TAIL: usize = 100;
 
 // How far the output is filled with the answer, or that the line is bad.
-#[derive(Drop)]
+#[derive(Clone, Copy)]
 enum Answered {
     Written(usize),
     Bad,
@@ -40,7 +40,7 @@ struct Reading {
 }
 
 // What a read gave: characters, after which the reading stands so, or the end of the input.
-#[derive(Drop)]
+#[derive(Clone, Copy)]
 enum Progress {
     More(Reading),
     End,

@@ -17,7 +17,7 @@ const DEAD: u16 = 65535;
 
 // What a walk goes by besides the classes: the most items that the stacks hold together (request L6), and whether literals above
 // 520 bytes are refused, the examined mode (request L7).
-#[derive(Drop)]
+#[derive(Clone, Copy)]
 pub struct Options {
     pub limit: u32,
     pub examined: bool,
@@ -38,7 +38,7 @@ impl Options {
 
 // How a walk stands: it runs, or has stopped at the end, at an instruction of a conditional, whose row is written, or
 // with a refusal.
-#[derive(Drop)]
+#[derive(Clone, Copy)]
 pub enum Stop {
     Running,
     End,
@@ -50,7 +50,7 @@ pub enum Stop {
 
 // Where a walk stands: its arm (the stacks, and whether it is live), the offset of the next instruction, that of the one
 // met last, the rows written, the peak.
-#[derive(Drop)]
+#[derive(Clone, Copy)]
 pub struct Walk {
     pub stacks: Stacks,
     pub live: bool,
@@ -115,7 +115,7 @@ fn stopped(
 }
 
 // Where the walk over a dead arm stands: the offset of the next instruction, that of the one met last, the rows written.
-#[derive(Drop)]
+#[derive(Clone, Copy)]
 struct Skipped {
     at: usize,
     last: usize,

@@ -1,0 +1,13 @@
+use Prim.Native.Nat.{◌-◌}
+use Rattle.slots.proofs.Laws.{Copying, copying-none, copying-down, turned}
+use borrow.Author.Rules.{rules}
+use Rattle.slots.proofs.rotate_codes.Goals as goal
+
+pub loop-j-init : goal.loop-j-init
+loop-j-init c = search (copying-none)
+
+pub loop-j-preserved : goal.loop-j-preserved
+loop-j-preserved c = search (copying-down)
+
+pub returns : goal.returns
+returns c = search (turned)
