@@ -24,5 +24,5 @@ loop-n-preserved g c = record {
   bytes =
       subst (Consumes _ _)
       (sym (take-put_mid_further _ _ _ _ _ c.loop-n.invariant.within c.in-Ok.ensures.bound.0))
-      (Consumes-trans _ _ _ _ _ c.loop-n.invariant.bytes c.in-Ok.ensures.bytes.0)
+      (Consumes-trans _ _ _ _ _ c.loop-n.invariant.bytes c.in-Ok.ensures.bytes.0);
 }
