@@ -1,23 +1,17 @@
 -- An input cut at 8,001 bytes, and one that is not.
-use mathlib.Core.List.{List, ◌++◌}
-use mathlib.Core.Path.{◌≡◌, sym, subst}
-use Prim.Native.Nat.{ℕ, ◌≤◌}
-use lib.Dec.{leb}
-use lib.ListN.{length, take, drop, replicate}
-use lib.Seq.{take_all}
-use Rattle.definition.specs.Basics.{Bytes, pick}
-use Rattle.log_text.specs.LogText.{stacklog}
-use Rattle.log_text.specs.View.{Logs}
-use Rattle.log_text.specs.declared.LogText.{LogText}
+use Rattle.std.proofs.Common.{◌≡◌, ◌≤◌, length, take, refl, ap, take_all}
+use Rattle.std.specs.Prelude.{replicate}
+use Rattle.definition.specs.Basics.{Bytes}
+use Rattle.definition.specs.Stacks.{built_in}
+use Rattle.log_text.specs.LogText.{log_text, stacklog}
 
--- what is promised of the size and of the lent bytes
-abbrev Promised : Bytes → Bytes → ℕ → Bytes → Type 0
-Promised t lent size new = (size ≡ length t) × (new ≡ pick (leb (length t) (length lent)) (t ++ drop (length t) lent) lent)
+pub stacklog_cut : (input : Bytes) → stacklog input ≡ log_text built_in (take 8001 input) (replicate 24000 0)
+unfolding stacklog
+stacklog_cut input = refl
 
-module _ (input lent : Bytes) (r : LogText) (log : List ℕ) (new : Bytes) where
-  pub input-cut : Logs (take 8001 input) (replicate 24000 0) lent r log new → Promised (stacklog input) lent r.size new
-  unfolding stacklog
-  input-cut w = (w.size, w.written)
+pub stacklog_whole : (input : Bytes) → length input ≤ 8001 → stacklog input ≡ log_text built_in input (replicate 24000 0)
+unfolding stacklog
+stacklog_whole input h = ap (λ (l : Bytes). log_text built_in l (replicate 24000 0)) (take_all 8001 input h)
 
-  pub input-whole : length input ≤ 8001 → Logs input (replicate 24000 0) lent r log new → Promised (stacklog input) lent r.size new
-  input-whole h w = input-cut (subst (λ (l : Bytes). Logs l (replicate 24000 0) lent r log new) (sym (take_all 8001 input h)) w)
+-- what is printed of an input, whether it is cut or not
+pub ruleset inputs = (stacklog_cut, stacklog_whole)

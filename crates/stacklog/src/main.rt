@@ -9,6 +9,7 @@ ghost use Rattle.log_text.specs.LogText.{stacklog};
 
 // The text that is printed of an input, written into the lent bytes where there is room for it; the answer is its size. At most
 // 8,001 bytes of the input are read, and a log of 24,000 numbers is lent.
+#[tactic(auto, using(crate::proofs::Inputs::inputs))]
 fn logged(input: &[u8], text: &mut [u8]) -> usize
     ensures size { result ≡ length (stacklog input.now) }
     ensures written { text.new

@@ -10,6 +10,7 @@ ghost use Rattle.lines.specs.View.{lines_in, Within};
 use lines::Lines;
 
 // The lines that are printed of an input: at most 8,001 bytes of it are read, and a log of 24,000 numbers is lent.
+#[tactic(auto, using(crate::proofs::Inputs::inputs))]
 fn marked(input: &[u8]) -> Lines
     ensures same { result ≡ lines_in result.number (stackmark input.now) }
     ensures within { Within result }

@@ -93,7 +93,14 @@ fn put_field(rt: &impl Print, out: &mut [u8], used: usize, n: u64) -> usize
 }
 
 // A verdict's offset and figures, and the end of the line.
-fn put_place(rt: &impl Print, out: &mut [u8], used: usize, offset: usize, first: u64, second: u64) -> usize
+fn put_place(
+    rt: &impl Print,
+    out: &mut [u8],
+    used: usize,
+    offset: usize,
+    first: u64,
+    second: u64,
+) -> usize
     ensures { result ≤ length out.new }
 {
     let k = put_field(rt, out, used, offset as u64);
@@ -229,7 +236,14 @@ fn put_limits(rt: &impl Print, out: &mut [u8], used: usize, a: limits::Answer) -
 }
 
 // `limits BYTES`, from BYTES on.
-fn limit_check(rt: &impl Print, line: &[u8], from: usize, code: &mut [u8], out: &mut [u8], used: usize) -> Answered
+fn limit_check(
+    rt: &impl Print,
+    line: &[u8],
+    from: usize,
+    code: &mut [u8],
+    out: &mut [u8],
+    used: usize,
+) -> Answered
     requires { used ≤ length out.old }
     ensures { WrittenWithin (length out.new) result }
 {
@@ -330,7 +344,14 @@ fn displayed_from(
 }
 
 // `display BODY INIT OFFSET MARK`, from BODY on.
-fn displayed(rt: &impl Print, line: &[u8], from: usize, code: &mut [u8], out: &mut [u8], used: usize) -> Answered
+fn displayed(
+    rt: &impl Print,
+    line: &[u8],
+    from: usize,
+    code: &mut [u8],
+    out: &mut [u8],
+    used: usize,
+) -> Answered
     requires { used ≤ length out.old }
     ensures { WrittenWithin (length out.new) result }
 {
