@@ -1,13 +1,13 @@
 -- Laws of texts: one written behind another, and numbers in decimal.
 use mathlib.Core.Bool.{Bool, true, false}
-use mathlib.Core.List.{List, [], ◌∷◌, ◌++◌, append_assoc, append-nil}
+use mathlib.Core.List.{[], ◌∷◌, ◌++◌, append_assoc}
 use mathlib.Core.Path.{◌≡◌, refl, sym, ap, subst, ◌∙◌}
-use Prim.Native.Nat.{ℕ, zero, suc, ◌+◌, ◌*◌, ◌/◌, ◌%◌, ◌^◌, ◌≤◌, ◌<◌}
+use Prim.Native.Nat.{ℕ, zero, suc, ◌+◌, ◌/◌, ◌%◌, ◌^◌, ◌≤◌, ◌<◌}
 use native.Mathlib.Omega.{arith}
 use borrow.Author.Tests.{lt-ltb, le-ltb, ltb-true, ltb-false}
 use lib.Dec.{ltb}
-use lib.ListN.{length, take, drop, set, get_or, length-append, length-take, length-drop}
-use lib.Seq.{paste, paste-zero, paste-suc, take_at, drop-append-add, drop-drop, take-length, set_split, length-take-le}
+use lib.ListN.{length, take, drop, set, get_or, length-append}
+use lib.Seq.{paste, paste-suc, take_at, drop-append-add, drop-drop, take-length, set_split, length-take-le}
 use Rattle.definition.specs.Basics.{Bytes, pick}
 use Rattle.definition.specs.Lines.{decimal_within, decimal}
 use Rattle.definition_listings.specs.Hex.{hex_digit, hex_byte}
