@@ -8,7 +8,7 @@ use borrow.Author.Tests.{le-leb, lt-leb, not-true, not-false}
 use lib.Dec.{ltb, leb}
 use lib.ListN.{length}
 use Rattle.definition.specs.Basics.{Bytes}
-use Rattle.definition.specs.Papers.{Part, field, part_at, entries_at, entry_count, entries, initialiser, bodies, within, share, shares_none, good_parts, good_header}
+use Rattle.definition.specs.Papers.{header_size, Part, field, part_at, entries_at, entry_count, entries, initialiser, bodies, within, share, shares_none, good_parts, good_header}
 use Rattle.good_header.specs.View.{parts_at}
 
 -- Parts
@@ -123,4 +123,6 @@ module _ (p : Bytes) where
         unfolding good_header
         header-parts h r g =
             let q : initialiser p ∷ bodies (entries p) ≡ parts_at p 4 (n + 1) = parts_are p ∙ ap (λ k. parts_at p 4 (k + 1)) (sym e) in
-            g ∙ ap (λ l. good_parts (8 + 6 * n) (length p) l) (sym q) ∙ rw (← e, le-leb 8 (length p) long, le-leb 1 n some, le-leb n 32 few, le-leb (8 + 6 * n) (length p) h)
+            let s : 8 + 6 * n ≡ header_size p = ap (λ k. 8 + 6 * k) e in
+            g ∙ ap (λ l. good_parts (8 + 6 * n) (length p) l) (sym q)
+            ∙ ap (λ k. good_parts k (length p) (initialiser p ∷ bodies (entries p))) s ∙ rw (← e, le-leb 8 (length p) long, le-leb 1 n some, le-leb n 32 few, le-leb (8 + 6 * n) (length p) h)

@@ -59,7 +59,8 @@ module _ (limit : ℕ) (p : Bytes) (n : ℕ) (e : n ≡ entry_count p) where
       pub dispatching-more : parameters + fields + 3 ≤ limit → Dispatching limit p n (k + 1)
       unfolding dispatch
       dispatching-more h R log m =
-          i R log m ∙ ap (λ es. dispatch R p k es log) (entries-more p n k more) ∙ rw (← f, ← g, m, le-ltb limit (parameters + fields + 3) h)
+          let fits : parameters + fields + 3 ≤ R.limit = omega arith in
+          i R log m ∙ ap (λ es. dispatch R p k es log) (entries-more p n k more) ∙ rw (← f, ← g, le-ltb R.limit (parameters + fields + 3) fits)
 
 -- The most parameters
 

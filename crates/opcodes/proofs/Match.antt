@@ -7,7 +7,7 @@ use mathlib.Core.Path.{◌≡◌, refl}
 use Prim.Native.Nat.{ℕ, ◌-◌, ◌≤◌, ◌<◌}
 use native.Mathlib.Omega.{arith}
 use lib.Dec.{T, eqb, eqb→eq}
-use mir.Syntax.{Body, skip, seq, assign, block, loop, cond, switch, exit, return, call, Arms, arm, default, no_default}
+use mir.Syntax.{Body, skip, seq, assign, block, loop, cond, switch, exit, return, unreachable, call, call_v, lend_static, Arms, arm, default, no_default}
 use mir.Val.{has_key}
 use types.Run.{OneOf, hit}
 use Rattle.opcodes.proofs.Every.{every, at}
@@ -33,7 +33,10 @@ arms_of (cond test then else) = []
 arms_of (switch number arms) = keys_of arms []
 arms_of (exit blocks) = []
 arms_of return = []
+arms_of unreachable = []
 arms_of (call function arguments target) = []
+arms_of (call_v function types arguments target) = []
+arms_of (lend_static target item region) = []
 
 -- x is none of them
 abbrev pub Rest : List (List ℕ) → ℕ → Type 0

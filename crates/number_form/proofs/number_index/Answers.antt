@@ -14,18 +14,18 @@ returns-then-len-gt8 c = read-long c.args.len c.args.bytes (omega arith)
 
 pub returns-then-not-minimal : goal.returns-then-not-minimal
 returns-then-not-minimal c = let a = c.args in
-    read-not-minimal a.len a.bytes (omega arith) (sym c.minimal.ensures ∙ not-true c.minimal.result c.if-not-minimal.true)
+    read-not-minimal a.len a.bytes (omega arith) (sym c.minimal.ensures ∙ c.if-not-minimal.true)
 
 pub returns-then-last_byte-ge128 : goal.returns-then-last_byte-ge128
 returns-then-last_byte-ge128 c = let a = c.args in
     let m = c.minimal in
-    read-negative a.len a.bytes c.last_byte.result (omega arith) (sym m.ensures ∙ not-false m.result c.if-not-minimal.false) c.last_byte.ensures (omega arith)
+    read-negative a.len a.bytes c.last_byte.result (omega arith) (sym m.ensures ∙ c.if-not-minimal.false) c.last_byte.ensures (omega arith)
 
-rem-t9 : tie.Need-nonzero-rem-t9
-rem-t9 c = shift-positive (c.wide.result * 8 - 1) (omega arith)
+pub nonzero_rem-result : goal.nonzero_rem-result
+nonzero_rem-result c = shift-positive (c.wide.result * 8 - 1) (omega arith)
 
 pub returns : goal.returns
 returns c = let a = c.args in
     let m = c.minimal in
     let b = c.last_byte in
-    read-index a.len c.wide.result a.bytes b.result (omega arith) (omega arith) c.wide.ensures (sym m.ensures ∙ not-false m.result c.if-not-minimal.false) b.ensures (omega arith)
+    read-index a.len c.wide.result a.bytes b.result (omega arith) (omega arith) c.wide.ensures (sym m.ensures ∙ c.if-not-minimal.false) b.ensures (omega arith)
