@@ -22,14 +22,8 @@ pub returns-then-number-gt-GREATEST_NUMBER : goal.returns-then-number-gt-GREATES
 returns-then-number-gt-GREATEST_NUMBER c = ap sums_of c.answer.ensures
     ∙ past-greatest _ _ _ _ c.loop-k.invariant (has-peak (goal.at.returns-then-number-gt-GREATEST_NUMBER c).In-loop-k) c.if-number-gt-GREATEST_NUMBER.true
 
-pub bounds-counts-number : goal.bounds-counts-number
-bounds-counts-number c = omega (arith, c.if-number-gt-GREATEST_NUMBER.false)
-
 pub overflow_add-counts : goal.overflow_add-counts
-overflow_add-counts c = omega (arith, good-bound _ c.requires, c.loop-k-test.true, c.loop-k.invariant.few _ c.if-number-gt-GREATEST_NUMBER.false)
-
-pub bounds-counts-number-in-loop-k : goal.bounds-counts-number-in-loop-k
-bounds-counts-number-in-loop-k c = omega (arith, c.if-number-gt-GREATEST_NUMBER.false)
+overflow_add-counts c = omega (arith, good-bound _ c.requires, c.loop-k.invariant.few _ c.if-number-gt-GREATEST_NUMBER.false)
 
 pub bounds-sitting-k-in-loop-k : goal.bounds-sitting-k-in-loop-k
 bounds-sitting-k-in-loop-k c = has-peak (goal.at.bounds-sitting-k-in-loop-k c).In-loop-k
