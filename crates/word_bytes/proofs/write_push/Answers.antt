@@ -17,5 +17,6 @@ pub write_data-requires-clause-n_in_bounds : goal.write_data-requires-clause-n_i
 write_data-requires-clause-n_in_bounds c = omega (arith, known-length c.args.word.now c.requires.word_value c.requires.word_value_2, c.write_head-next.ensures.ends)
 
 pub returns : goal.returns
-returns c = let word = c.args.word.now in
+returns c =
+    let word = c.args.word.now in
     push-written word (length word / 2 - 1) (known-data word c.requires.word_value c.requires.word_value_2) (omega arith) c.write_head-next.ensures c.write_data.ensures
