@@ -79,13 +79,18 @@ fn run(letters: &[u8], start: Stacks) -> Stacks
     t.stacks
 }
 
-fn main() {
+// A read or a write that fails is said on standard error.
+fn main(rt: HostRuntime) {
     let mut letters = [0u8; 40000];
-    let n = io::read_full(0, &mut letters);
+    let i = input::read_input(&mut rt.stdin(), &mut letters);
+    if i.failed {
+        let _ = rt.eprintln("stack_bench: cannot read standard input");
+        return;
+    }
+    let n = i.size;
     let start = Stacks::new(200, 0);
     let s = run(&letters[..n], start);
-    io::print_decimal(1, s.mains as u64);
-    io::write_all(1, b" ");
-    io::print_decimal(1, s.alts as u64);
-    io::write_all(1, b"\n");
+    if println!(rt; "{} {}", s.mains, s.alts).is_err() {
+        let _ = rt.eprintln("stack_bench: cannot write to standard output");
+    }
 }

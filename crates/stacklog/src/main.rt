@@ -34,21 +34,21 @@ fn room() -> [u8; 700000]
 }
 
 // A read or a write that fails is said on standard error, and is no verdict.
-fn main() {
+fn main(rt: HostRuntime) {
     let mut paper = [0u8; 8001];
-    let i = input::read_input(&mut paper);
+    let i = input::read_input(&mut rt.stdin(), &mut paper);
     if i.failed {
-        io::write_all(2, b"stacklog: cannot read standard input\n");
+        let _ = rt.eprintln("stacklog: cannot read standard input");
         return;
     }
     let n = i.size;
     let mut text = room();
     let size = logged(&paper[..n], &mut text);
     if size > 700000 {
-        io::write_all(2, b"stacklog: the log is too long\n");
+        let _ = rt.eprintln("stacklog: the log is too long");
         return;
     }
-    if !io::write_all(1, &text[..size]) {
-        io::write_all(2, b"stacklog: cannot write to standard output\n");
+    if rt.write_all(&text[..size]).is_err() {
+        let _ = rt.eprintln("stacklog: cannot write to standard output");
     }
 }

@@ -22,18 +22,18 @@ fn marked(input: &[u8]) -> Lines
 }
 
 // A read or a write that fails is said on standard error, and is no verdict.
-fn main() {
+fn main(rt: HostRuntime) {
     let mut paper = [0u8; 8001];
-    let i = input::read_input(&mut paper);
+    let i = input::read_input(&mut rt.stdin(), &mut paper);
     if i.failed {
-        io::write_all(2, b"stackmark: cannot read standard input\n");
+        let _ = rt.eprintln("stackmark: cannot read standard input");
         return;
     }
     let n = i.size;
     let l = marked(&paper[..n]);
     let bytes = l.bytes;
     let size = l.size;
-    if !io::write_all(1, &bytes[..size]) {
-        io::write_all(2, b"stackmark: cannot write to standard output\n");
+    if rt.write_all(&bytes[..size]).is_err() {
+        let _ = rt.eprintln("stackmark: cannot write to standard output");
     }
 }

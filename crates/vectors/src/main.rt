@@ -14,7 +14,8 @@ ghost use Rattle.definition.specs.Walk.{Verdict};
 ghost use Rattle.tally.specs.View.{tally_of, tallied_of, Gives};
 ghost use Rattle.vectors.specs.Ranges.{WrittenWithin, Held, StillHeld};
 
-use cases::{Count, Field, Part, begins, bytes, height, next_part, number, numbers, space};
+use cases::{Count, Field, Part, begins, bytes, height, next_part, numbers};
+use std::io::Read;
 
 // The longest line that is understood.
 const LONGEST: usize = 20100;
@@ -46,14 +47,14 @@ enum Progress {
 }
 
 // A character more in the output, which is written first where it is full.
-fn put(out: &mut [u8], used: usize, b: u8) -> usize
+fn put(rt: &impl Print, out: &mut [u8], used: usize, b: u8) -> usize
     ensures { result ≤ length out.new }
 {
     if used < out.len() {
         out[used] = b;
         return used + 1;
     }
-    io::write_all(1, out);
+    let _ = rt.write_all(out);
     if out.len() == 0 {
         return 0;
     }
@@ -62,67 +63,63 @@ fn put(out: &mut [u8], used: usize, b: u8) -> usize
 }
 
 // Characters more in the output.
-fn put_text(out: &mut [u8], used: usize, text: &[u8]) -> usize
+fn put_text(rt: &impl Print, out: &mut [u8], used: usize, text: &[u8]) -> usize
     requires { used ≤ length out.old }
     ensures { result ≤ length out.new }
 {
     let mut n = used;
-    let mut i = 0;
-    while i < text.len() {
-        n = put(out, n, text[i]);
-        i += 1;
+    for b in text {
+        n = put(rt, out, n, *b);
     }
     n
 }
 
 // A number.
-fn put_number(out: &mut [u8], used: usize, n: u64) -> usize
+fn put_number(rt: &impl Print, out: &mut [u8], used: usize, n: u64) -> usize
     requires { used ≤ length out.old }
     ensures { result ≤ length out.new }
 {
     let mut digits = [0u8; 20];
-    let k = io::decimal(n, &mut digits);
-    put_text(out, used, &digits[..k])
+    let k = text::write_number(&mut digits, 0, n);
+    put_text(rt, out, used, &digits[..k])
 }
 
 // A space and a number.
-fn put_field(out: &mut [u8], used: usize, n: u64) -> usize
+fn put_field(rt: &impl Print, out: &mut [u8], used: usize, n: u64) -> usize
     ensures { result ≤ length out.new }
 {
-    let m = put(out, used, 32);
-    put_number(out, m, n)
+    let m = put(rt, out, used, 32);
+    put_number(rt, out, m, n)
 }
 
 // A verdict's offset and figures, and the end of the line.
-fn put_place(out: &mut [u8], used: usize, offset: usize, first: u64, second: u64) -> usize
+fn put_place(rt: &impl Print, out: &mut [u8], used: usize, offset: usize, first: u64, second: u64) -> usize
     ensures { result ≤ length out.new }
 {
-    let k = put_field(out, used, offset as u64);
-    let m = put_field(out, k, first);
-    let n = put_field(out, m, second);
-    put(out, n, 10)
+    let k = put_field(rt, out, used, offset as u64);
+    let m = put_field(rt, out, k, first);
+    let n = put_field(rt, out, m, second);
+    put(rt, out, n, 10)
 }
 
 // A byte in hex.
-fn put_byte(out: &mut [u8], used: usize, b: u8) -> usize
+fn put_byte(rt: &impl Print, out: &mut [u8], used: usize, b: u8) -> usize
     requires { used ≤ length out.old }
     ensures { result ≤ length out.new }
 {
-    let mut digits = [0u8; 16];
-    let k = io::hex(b as u64, 2, &mut digits);
-    put_text(out, used, &digits[..k])
+    let mut digits = [0u8; 2];
+    let k = text::write_hex(&mut digits, 0, b as u64);
+    put_text(rt, out, used, &digits[..k])
 }
 
 // Bytes in hex.
-fn put_hex(out: &mut [u8], used: usize, part: &[u8]) -> usize
+fn put_hex(rt: &impl Print, out: &mut [u8], used: usize, part: &[u8]) -> usize
     requires { used ≤ length out.old }
     ensures { result ≤ length out.new }
 {
     let mut n = used;
-    let mut i = 0;
-    while i < part.len() {
-        n = put_byte(out, n, part[i]);
-        i += 1;
+    for b in part {
+        n = put_byte(rt, out, n, *b);
     }
     n
 }
@@ -143,25 +140,26 @@ fn tail(part: &[u8]) -> usize
 }
 
 // BYTES: `-` for none, or hex, a long tail of equal bytes in the repeat form.
-fn put_bytes(out: &mut [u8], used: usize, part: &[u8]) -> usize
+fn put_bytes(rt: &impl Print, out: &mut [u8], used: usize, part: &[u8]) -> usize
     requires { used ≤ length out.old }
     ensures { result ≤ length out.new }
 {
     if part.len() == 0 {
-        return put(out, used, 45);
+        return put(rt, out, used, 45);
     }
     let times = tail(part);
     if times < LONG_TAIL {
-        return put_hex(out, used, part);
+        return put_hex(rt, out, used, part);
     }
     let shown = part.len() - times + 1;
-    let m = put_hex(out, used, &part[..shown]);
-    let n = put(out, m, 42);
-    put_number(out, n, times as u64)
+    let m = put_hex(rt, out, used, &part[..shown]);
+    let n = put(rt, out, m, 42);
+    put_number(rt, out, n, times as u64)
 }
 
 // The answer to a fragment. Where the Rust lacks the limit, 1 and 5, it is `fragment outside`.
 fn put_fragment(
+    rt: &impl Print,
     out: &mut [u8],
     used: usize,
     number: u32,
@@ -172,19 +170,20 @@ fn put_fragment(
     requires { used ≤ length out.old }
     ensures { result ≤ length out.new }
 {
-    let m = put_text(out, used, b"fragment");
+    let m = put_text(rt, out, used, b"fragment");
     if number == 1 {
-        return put_text(out, m, b" outside\n");
+        return put_text(rt, out, m, b" outside\n");
     }
     if number == 5 {
-        return put_text(out, m, b" outside\n");
+        return put_text(rt, out, m, b" outside\n");
     }
-    let n = put_field(out, m, number as u64);
-    put_place(out, n, offset, first, second)
+    let n = put_field(rt, out, m, number as u64);
+    put_place(rt, out, n, offset, first, second)
 }
 
 // `fragment MAIN ALT BYTES`, from MAIN on.
 fn fragment(
+    rt: &impl Print,
     line: &[u8],
     from: usize,
     code: &mut [u8],
@@ -216,21 +215,21 @@ fn fragment(
         return Answered::Bad;
     };
     let v = stack_analysis::analyze_heights(&code[..n], main, alt, log);
-    Answered::Written(put_fragment(out, used, v.number, v.offset, v.first, v.second))
+    Answered::Written(put_fragment(rt, out, used, v.number, v.offset, v.first, v.second))
 }
 
 // The answer to a limit check.
-fn put_limits(out: &mut [u8], used: usize, a: limits::Answer) -> usize
+fn put_limits(rt: &impl Print, out: &mut [u8], used: usize, a: limits::Answer) -> usize
     requires { used ≤ length out.old }
     ensures { result ≤ length out.new }
 {
-    let m = put_text(out, used, b"limits");
-    let n = put_field(out, m, a.number as u64);
-    put_place(out, n, a.offset, a.first, a.second)
+    let m = put_text(rt, out, used, b"limits");
+    let n = put_field(rt, out, m, a.number as u64);
+    put_place(rt, out, n, a.offset, a.first, a.second)
 }
 
 // `limits BYTES`, from BYTES on.
-fn limit_check(line: &[u8], from: usize, code: &mut [u8], out: &mut [u8], used: usize) -> Answered
+fn limit_check(rt: &impl Print, line: &[u8], from: usize, code: &mut [u8], out: &mut [u8], used: usize) -> Answered
     requires { used ≤ length out.old }
     ensures { WrittenWithin (length out.new) result }
 {
@@ -239,6 +238,7 @@ fn limit_check(line: &[u8], from: usize, code: &mut [u8], out: &mut [u8], used: 
         return Answered::Bad;
     };
     Answered::Written(put_limits(
+        rt,
         out,
         used,
         limits::validate_txscript_bytecode_limits(&code[..n]),
@@ -246,21 +246,22 @@ fn limit_check(line: &[u8], from: usize, code: &mut [u8], out: &mut [u8], used: 
 }
 
 // The answer to a paper. Where the Rust lacks the limit, 5, it is `paper outside`; no fragment of a paper is refused with 1.
-fn put_paper(out: &mut [u8], used: usize, v: paper::PaperVerdict) -> usize
+fn put_paper(rt: &impl Print, out: &mut [u8], used: usize, v: paper::PaperVerdict) -> usize
     requires { used ≤ length out.old }
     ensures { result ≤ length out.new }
 {
-    let m = put_text(out, used, b"paper");
+    let m = put_text(rt, out, used, b"paper");
     if v.number == 5 {
-        return put_text(out, m, b" outside\n");
+        return put_text(rt, out, m, b" outside\n");
     }
-    let k = put_field(out, m, v.number as u64);
-    let n = put_field(out, k, v.entry as u64);
-    put_place(out, n, v.offset, v.first, v.second)
+    let k = put_field(rt, out, m, v.number as u64);
+    let n = put_field(rt, out, k, v.entry as u64);
+    put_place(rt, out, n, v.offset, v.first, v.second)
 }
 
 // `paper BYTES`, from BYTES on.
 fn marked_paper(
+    rt: &impl Print,
     line: &[u8],
     from: usize,
     code: &mut [u8],
@@ -275,11 +276,12 @@ fn marked_paper(
     let Count::Bytes(n) = count else {
         return Answered::Bad;
     };
-    Answered::Written(put_paper(out, used, paper::mark_paper(&code[..n], log)))
+    Answered::Written(put_paper(rt, out, used, paper::mark_paper(&code[..n], log)))
 }
 
 // The answer to a display of the body, which has the first `count` bytes, and of the initialiser, which has the others.
 fn put_display(
+    rt: &impl Print,
     out: &mut [u8],
     used: usize,
     both: &[u8],
@@ -291,17 +293,19 @@ fn put_display(
     requires count_in_bounds { count ≤ length both.now }
     ensures { result ≤ length out.new }
 {
-    let m = put_text(out, used, b"display ");
+    let m = put_text(rt, out, used, b"display ");
     let n = put_bytes(
+        rt,
         out,
         m,
         display::display(&both[..count], &both[count..], offset as usize, mark),
     );
-    put(out, n, 10)
+    put(rt, out, n, 10)
 }
 
 // `INIT OFFSET MARK` of a display whose body has the first `body` bytes of code.
 fn displayed_from(
+    rt: &impl Print,
     line: &[u8],
     from: usize,
     code: &mut [u8],
@@ -322,11 +326,11 @@ fn displayed_from(
         return Answered::Bad;
     }
     let all = body + init;
-    Answered::Written(put_display(out, used, &code[..all], body, f[0], f[1]))
+    Answered::Written(put_display(rt, out, used, &code[..all], body, f[0], f[1]))
 }
 
 // `display BODY INIT OFFSET MARK`, from BODY on.
-fn displayed(line: &[u8], from: usize, code: &mut [u8], out: &mut [u8], used: usize) -> Answered
+fn displayed(rt: &impl Print, line: &[u8], from: usize, code: &mut [u8], out: &mut [u8], used: usize) -> Answered
     requires { used ≤ length out.old }
     ensures { WrittenWithin (length out.new) result }
 {
@@ -334,7 +338,7 @@ fn displayed(line: &[u8], from: usize, code: &mut [u8], out: &mut [u8], used: us
     let Part::Read { count: body, next } = p else {
         return Answered::Bad;
     };
-    displayed_from(line, next, code, body, out, used)
+    displayed_from(rt, line, next, code, body, out, used)
 }
 
 // The tally with one verdict more, of this number, rows and peak, or 22 with the tally as it was: `gain`, on a tally that
@@ -351,25 +355,25 @@ fn gain_once(t: tally::Tally, number: u32, rows: usize, peak: u32) -> tally::Tal
 }
 
 // A tally's counters, and the end of the line.
-fn put_counters(out: &mut [u8], used: usize, t: tally::Tally) -> usize
+fn put_counters(rt: &impl Print, out: &mut [u8], used: usize, t: tally::Tally) -> usize
     ensures { result ≤ length out.new }
 {
-    let i = put_field(out, used, t.fragments as u64);
-    let j = put_field(out, i, t.accepts as u64);
-    let k = put_field(out, j, t.rows as u64);
-    let m = put_field(out, k, t.peak as u64);
-    put(out, m, 10)
+    let i = put_field(rt, out, used, t.fragments as u64);
+    let j = put_field(rt, out, i, t.accepts as u64);
+    let k = put_field(rt, out, j, t.rows as u64);
+    let m = put_field(rt, out, k, t.peak as u64);
+    put(rt, out, m, 10)
 }
 
 // The answer to a tally, and the tally afterwards.
-fn put_tally(out: &mut [u8], used: usize, r: tally::Tallied) -> usize
+fn put_tally(rt: &impl Print, out: &mut [u8], used: usize, r: tally::Tallied) -> usize
     requires { used ≤ length out.old }
     ensures { result ≤ length out.new }
 {
     let t = r.tally;
-    let m = put_text(out, used, b"tally");
-    let n = put_field(out, m, r.answer as u64);
-    put_counters(out, n, t)
+    let m = put_text(rt, out, used, b"tally");
+    let n = put_field(rt, out, m, r.answer as u64);
+    put_counters(rt, out, n, t)
 }
 
 // A field of a line as a verdict's rows.
@@ -380,7 +384,7 @@ fn wide(x: u32) -> usize
 }
 
 // `tally FRAGMENTS ACCEPTED ROWS PEAK NUMBER VROWS VPEAK`, from FRAGMENTS on.
-fn tallied(line: &[u8], from: usize, out: &mut [u8], used: usize) -> Answered
+fn tallied(rt: &impl Print, line: &[u8], from: usize, out: &mut [u8], used: usize) -> Answered
     requires { used ≤ length out.old }
     ensures { WrittenWithin (length out.new) result }
 {
@@ -394,11 +398,12 @@ fn tallied(line: &[u8], from: usize, out: &mut [u8], used: usize) -> Answered
         rows: f[2],
         peak: f[3],
     };
-    Answered::Written(put_tally(out, used, gain_once(t, f[4], wide(f[5]), f[6])))
+    Answered::Written(put_tally(rt, out, used, gain_once(t, f[4], wide(f[5]), f[6])))
 }
 
 // Answers a line that is understood, by its first word.
 fn understood(
+    rt: &impl Print,
     line: &[u8],
     code: &mut [u8],
     log: &mut [u16],
@@ -412,25 +417,26 @@ fn understood(
         return Answered::Bad;
     }
     if begins(line, b"fragment ") {
-        return fragment(line, 9, code, log, out, used);
+        return fragment(rt, line, 9, code, log, out, used);
     }
     if begins(line, b"limits ") {
-        return limit_check(line, 7, code, out, used);
+        return limit_check(rt, line, 7, code, out, used);
     }
     if begins(line, b"paper ") {
-        return marked_paper(line, 6, code, log, out, used);
+        return marked_paper(rt, line, 6, code, log, out, used);
     }
     if begins(line, b"display ") {
-        return displayed(line, 8, code, out, used);
+        return displayed(rt, line, 8, code, out, used);
     }
     if begins(line, b"tally ") {
-        return tallied(line, 6, out, used);
+        return tallied(rt, line, 6, out, used);
     }
     Answered::Bad
 }
 
 // Answers a line.
 fn answer(
+    rt: &impl Print,
     line: &[u8],
     number: u64,
     code: &mut [u8],
@@ -441,21 +447,22 @@ fn answer(
     requires { used ≤ length out.old }
     ensures { result ≤ length out.new }
 {
-    let a = understood(line, code, log, out, used);
+    let a = understood(rt, line, code, log, out, used);
     match a {
         Answered::Written(n) => {
             return n;
         }
         Answered::Bad => {
-            let m = put_text(out, used, b"bad line");
-            let n = put_field(out, m, number);
-            return put(out, n, 10);
+            let m = put_text(rt, out, used, b"bad line");
+            let n = put_field(rt, out, m, number);
+            return put(rt, out, n, 10);
         }
     }
 }
 
 // The next character: the end of a line, which is answered, or one that is held where there is room.
 fn character(
+    rt: &impl Print,
     b: u8,
     r: Reading,
     line: &mut [u8],
@@ -470,10 +477,10 @@ fn character(
     let number = r.number;
     let used = r.used;
     if b == 10 {
-        let n = answer(&line[..held], number, code, log, out, used);
+        let n = answer(rt, &line[..held], number, code, log, out, used);
         return Reading {
             held: 0,
-            number: std::num::wrapping_add_u64(number, 1),
+            number: number.wrapping_add(1),
             used: n,
         };
     }
@@ -490,6 +497,7 @@ fn character(
 
 // The characters of a block.
 fn characters(
+    rt: &impl Print,
     block: &[u8],
     start: Reading,
     line: &mut [u8],
@@ -501,21 +509,19 @@ fn characters(
     ensures { Held (length line.new) (length out.new) result }
 {
     let mut r = start;
-    let mut i = 0;
-    while i < block.len() {
-        r = character(block[i], r, line, code, log, out);
-        i += 1;
+    for b in block {
+        r = character(rt, *b, r, line, code, log, out);
     }
     r
 }
 
 // Writes the output as far as it is filled.
-fn flush(r: Reading, out: &[u8]) -> Reading
+fn flush(rt: &impl Print, r: Reading, out: &[u8]) -> Reading
     requires { r.used ≤ length out.now }
     ensures { (result.held ≡ r.held) × (result.used ≡ 0) }
 {
     let used = r.used;
-    io::write_all(1, &out[..used]);
+    let _ = rt.write_all(&out[..used]);
     Reading {
         held: r.held,
         number: r.number,
@@ -525,6 +531,8 @@ fn flush(r: Reading, out: &[u8]) -> Reading
 
 // Reads a block, of any length, and answers the lines that end in it.
 fn read_block(
+    rt: &impl Print,
+    source: &mut impl Read,
     r: Reading,
     line: &mut [u8],
     code: &mut [u8],
@@ -534,53 +542,73 @@ fn read_block(
     requires { Held (length line.old) (length out.old) r }
     ensures { StillHeld (length line.new) (length out.new) result }
 {
-    let mut block = io::large_buffer();
-    let got = libc::read(0, &mut block);
-    if got <= 0 {
+    let mut block = [0u8; 65536];
+    let Ok(n) = source.read(&mut block) else {
+        return Progress::End;
+    };
+    if n == 0 {
         return Progress::End;
     }
-    let n = io::count(got, &block);
-    let after = characters(&block[..n], r, line, code, log, out);
-    Progress::More(flush(after, out))
+    let after = characters(rt, &block[..n], r, line, code, log, out);
+    Progress::More(flush(rt, after, out))
 }
 
 // At the end of the input: a last line that no newline ends is answered.
-fn last_line(r: Reading, line: &[u8], code: &mut [u8], log: &mut [u16], out: &mut [u8])
+fn last_line(
+    rt: &impl Print,
+    r: Reading,
+    line: &[u8],
+    code: &mut [u8],
+    log: &mut [u16],
+    out: &mut [u8],
+)
     requires { Held (length line.now) (length out.old) r }
 {
     let held = r.held;
     if held > 0 {
-        let n = answer(&line[..held], r.number, code, log, out, r.used);
-        io::write_all(1, &out[..n]);
+        let n = answer(rt, &line[..held], r.number, code, log, out, r.used);
+        let _ = rt.write_all(&out[..n]);
     }
 }
 
 // Answers every line of the input. Nothing says that an input ends, so the blocks are counted, from a number that no run
 // uses up.
-fn replay(line: &mut [u8], code: &mut [u8], log: &mut [u16], out: &mut [u8]) {
+fn replay(
+    rt: &impl Print,
+    source: &mut impl Read,
+    line: &mut [u8],
+    code: &mut [u8],
+    log: &mut [u16],
+    out: &mut [u8],
+) {
     let mut r = Reading {
         held: 0,
         number: 1,
         used: 0,
     };
-    let mut blocks = u64::MAX;
-    while blocks > 0 {
-        let p = read_block(r, line, code, log, out);
+    for _ in 0..u64::MAX {
+        let p = read_block(rt, source, r, line, code, log, out);
         let Progress::More(n) = p else {
-            last_line(r, line, code, log, out);
+            last_line(rt, r, line, code, log, out);
             return;
         };
         r = n;
-        blocks -= 1;
     }
 }
 
 // Room for a line that is one character too long, for the bytes of a case, body and initialiser together, for the log of
 // a fragment that is not too long, and for answers.
-fn main() {
+fn main(rt: HostRuntime) {
     let mut line = [0u8; 20101];
     let mut code = [0u8; 40000];
     let mut log = [0u16; 30000];
     let mut out = [0u8; 65536];
-    replay(&mut line, &mut code, &mut log, &mut out);
+    replay(
+        &rt,
+        &mut rt.stdin(),
+        &mut line,
+        &mut code,
+        &mut log,
+        &mut out,
+    );
 }
