@@ -1,22 +1,19 @@
 -- The words of a listing, one after another.
 use mathlib.Core.Bool.{Bool, true, false}
-use mathlib.Core.List.{List, [], ◌∷◌, ◌++◌, append_assoc, append-nil}
+use mathlib.Core.List.{[], ◌∷◌, ◌++◌, append_assoc, append-nil}
 use mathlib.Core.Option.{Option, none, some}
-use mathlib.Core.Path.{◌≡◌, refl, sym, ap, subst, ◌∙◌}
-use Prim.Native.Nat.{ℕ, zero, suc, ◌+◌, ◌-◌, ◌*◌, ◌≤◌, ◌<◌}
+use mathlib.Core.Path.{◌≡◌, refl, sym, ap, ◌∙◌}
+use Prim.Native.Nat.{ℕ, suc, ◌+◌, ◌-◌, ◌≤◌, ◌<◌}
 use native.Mathlib.Omega.{arith}
 use borrow.Author.Tests.{eq-eqb, ne_eqb, eqb-true, eqb-false}
-use lib.Dec.{leb, eqb}
+use lib.Dec.{eqb}
 use lib.ListN.{length, take, drop, get_or, length-append, length-take, length-drop, drop_of_length-le}
 use lib.Seq.{drop-cons, drop-drop, take_all}
 use Rattle.definition.specs.Basics.{Bytes, pick}
 use Rattle.definition_listings.specs.Assembling.{word_read, in_front, words_from, words, Assembly, gives, strange, on_word, assembly}
-use Rattle.definition_listings.specs.Shortest.{in_form}
-use Rattle.assembling.specs.declared.Judged.{Judged}
 use Rattle.assembling.specs.declared.Judged.TheVariants.{Gives, Strays}
 use Rattle.words.specs.View.{bytes_of, Sized}
-use Rattle.assembling.specs.View.{letters_before, judged_of, given_by}
-use Rattle.names.proofs.Names.{never}
+use Rattle.assembling.specs.View.{letters_before, judged_of}
 
 -- The end of a word
 

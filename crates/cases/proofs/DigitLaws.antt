@@ -6,7 +6,6 @@ use native.Mathlib.Omega.{arith}
 use borrow.Author.Tests.{lt-ltb, le-ltb, le-leb, lt-leb}
 use lib.ListN.{length, get_or}
 use Rattle.cases.specs.Digits.{decimal_digit, hex_digit, octet_at, octet_of}
-use Rattle.cases.specs.declared.Digit.{Digit}
 use Rattle.cases.specs.declared.Digit.TheVariants.{Value, Other}
 use Rattle.cases.specs.declared.Octet.TheVariants.{Byte, NoByte}
 

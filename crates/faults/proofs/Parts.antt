@@ -161,4 +161,5 @@ module _ (p : Bytes) where
         fault-parts h {r} g =
             let q : initialiser p ∷ bodies (entries p) ≡ parts_at p 4 (n + 1) = parts_are p ∙ ap (λ k. parts_at p 4 (k + 1)) (sym e) in
             g ∙ ap (part_fault (8 + 6 * n) (length p) 0) (sym q)
+            ∙ ap (λ k. part_fault (8 + 6 * k) (length p) 0 (initialiser p ∷ bodies (entries p))) e
             ∙ rw (← e, le-ltb (length p) 8 long, ne_eqb n 0 more, le-ltb 32 n few, le-ltb (length p) (8 + 6 * n) h)

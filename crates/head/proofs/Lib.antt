@@ -1,2 +1,1 @@
-pub mod Facts
 pub mod Sequence

@@ -1,5 +1,5 @@
 -- The code left behind what is read, and all that is read of code: its instructions in order, then the end or 3, again and again.
-use mathlib.Core.List.{List, [], ◌∷◌, ◌++◌, map}
+use mathlib.Core.List.{List, ◌∷◌, ◌++◌, map}
 use mathlib.Core.Path.{◌≡◌, refl, sym, ap, ◌∙◌}
 use Prim.Native.Nat.{ℕ, zero, suc, ◌+◌}
 use native.Mathlib.Omega.{arith}
@@ -11,10 +11,6 @@ use Rattle.decode.specs.declared.Decoded.{Decoded}
 use Rattle.decode.specs.declared.Decoded.TheVariants.{At, End, Malformed}
 use Rattle.decode.proofs.Codes.{code-behind, code-ends, code-malformed}
 use Rattle.head.specs.View.{offset_after, yields, at_last}
-
--- what was found is x
-pub offset-is : (p : ℕ) {d x : Decoded} → d ≡ x → offset_after x p ≡ offset_after d p
-offset-is p e = sym (ap (λ (y : Decoded). offset_after y p) e)
 
 -- behind an instruction the rest of the code is left; at the end, and at 3, the same code
 pub left_after : (s : Bytes) (p n : ℕ) (d : Decoded) → d ≡ decoded_at s p → n ≡ offset_after d p → code_at s n ≡ rest (code_at s p)

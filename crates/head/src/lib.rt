@@ -12,7 +12,7 @@ ghost use Rattle.head.specs.View.{left, offset_after};
 
 use decode::Decoded;
 
-#[derive(Drop)]
+#[derive(Clone, Copy)]
 pub struct Head<'a> {
     pub fragment: &'a [u8],
     pub offset: usize,

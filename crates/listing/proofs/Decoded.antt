@@ -1,14 +1,14 @@
 -- The data of a push in its fragment, and the code behind an instruction.
-use mathlib.Core.Bool.{Bool, true, false, ◌&&◌}
+use mathlib.Core.Bool.{Bool, true, false}
 use mathlib.Core.List.{List, [], ◌∷◌, ◌++◌, append_assoc, append-nil}
-use mathlib.Core.Option.{Option, none, some}
+use mathlib.Core.Option.{none}
 use mathlib.Core.Path.{◌≡◌, refl, sym, ap, subst, ◌∙◌}
-use Prim.Native.Nat.{ℕ, zero, suc, ◌+◌, ◌-◌, ◌*◌, ◌≤◌, ◌<◌}
+use Prim.Native.Nat.{ℕ, zero, suc, ◌+◌, ◌-◌, ◌≤◌, ◌<◌}
 use native.Mathlib.Omega.{arith}
-use borrow.Author.Tests.{le-leb, lt-leb, eq-eqb, ne_eqb, leb-true, leb-false, eqb-true, eqb-false}
+use borrow.Author.Tests.{le-leb, leb-true, leb-false, eqb-true, eqb-false}
 use lib.Dec.{leb, eqb, leb-zero}
-use lib.ListN.{length, take, drop, get_or, length-append, length-take, length-drop, drop_of_length-le}
-use lib.Seq.{drop-cons, drop-drop}
+use lib.ListN.{length, take, drop, length-drop, drop_of_length-le}
+use lib.Seq.{drop-drop}
 use Rattle.definition.specs.Basics.{Bytes, pick}
 use Rattle.definition.specs.Decoding.{number, Front, whole, short, alone, pushes, sized, front, Code, ends, malformed, then, on_front, decode_from, decode, instructions, malformed_at}
 use Rattle.definition.specs.Decoding as D
@@ -16,7 +16,7 @@ use Rattle.definition.specs.Lines.{text}
 use Rattle.definition_listings.specs.Listing.{data_word, code_word, word_of, parted}
 use Rattle.decode.specs.View.{decoded_front, decoded_rest, decoded_at, code_at}
 use Rattle.decode.specs.declared.Instruction.{Instruction}
-use Rattle.decode.specs.declared.Decoded.TheVariants.{At, End, Malformed}
+use Rattle.decode.specs.declared.Decoded.TheVariants.{At}
 use Rattle.decode.proofs.Codes.{InstructionAt}
 use Rattle.decode.proofs.Fronts.{front-4c, front-4d, front-4e}
 use Rattle.listing.specs.View.{length_bytes, data_start, word_at}

@@ -1,15 +1,13 @@
 -- The listing of a fragment, from instruction to instruction.
-use mathlib.Core.Bool.{Bool, true, false}
-use mathlib.Core.List.{List, [], ◌∷◌, ◌++◌, append_assoc, append-nil}
-use mathlib.Core.Option.{Option, none, some}
-use mathlib.Core.Path.{◌≡◌, refl, sym, ap, subst, ◌∙◌}
-use Prim.Native.Nat.{ℕ, zero, suc, ◌+◌, ◌-◌, ◌*◌, ◌≤◌, ◌<◌}
+use mathlib.Core.List.{[], ◌∷◌, ◌++◌, append_assoc, append-nil}
+use mathlib.Core.Option.{none}
+use mathlib.Core.Path.{◌≡◌, refl, sym, ap, ◌∙◌}
+use Prim.Native.Nat.{ℕ, ◌+◌, ◌-◌, ◌≤◌, ◌<◌}
 use native.Mathlib.Omega.{arith}
-use lib.ListN.{length, take, drop, length-append}
+use lib.ListN.{length, length-append}
 use Rattle.definition.specs.Basics.{Bytes}
 use Rattle.definition.specs.Decoding.{Code, decode, instructions, malformed_at}
-use Rattle.definition.specs.Decoding as D
-use Rattle.definition_listings.specs.Listing.{word_of, parted}
+use Rattle.definition_listings.specs.Listing.{parted}
 use Rattle.definition.specs.Replay.{AreBytes}
 use Rattle.decode.specs.View.{decoded_at, code_at}
 use Rattle.decode.specs.declared.Instruction.{Instruction}
@@ -18,7 +16,6 @@ use Rattle.decode.specs.declared.Decoded.TheVariants.{At, End, Malformed}
 use Rattle.decode.proofs.Codes.{InstructionAt, code-start, code-instruction, code-ends, code-malformed}
 use Rattle.listing.specs.declared.Measured.TheVariants as M
 use Rattle.listing.specs.View.{data_start, word_at, word_length, listing_of, Measures}
-use Rattle.names.proofs.Names.{never}
 use Rattle.listing.proofs.Lengths.{length-word}
 use Rattle.listing.proofs.Decoded.{the_instruction, data-least, word-is, after, parted-first, after-end, goes_on_lem}
 

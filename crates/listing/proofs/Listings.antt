@@ -1,20 +1,18 @@
 -- The second pass of the lister, and its answers.
-use mathlib.Core.Bool.{Bool, true, false}
-use mathlib.Core.List.{List, [], ◌∷◌, ◌++◌, append_assoc, append-nil}
+use mathlib.Core.List.{[], ◌∷◌, ◌++◌, append_assoc, append-nil}
 use mathlib.Core.Option.{Option, none, some}
 use mathlib.Core.Path.{◌≡◌, refl, sym, ap, subst, ◌∙◌}
-use Prim.Native.Nat.{ℕ, zero, suc, ◌+◌, ◌-◌, ◌*◌, ◌≤◌, ◌<◌}
+use Prim.Native.Nat.{ℕ, suc, ◌+◌, ◌-◌, ◌*◌, ◌≤◌, ◌<◌}
 use native.Mathlib.Omega.{arith}
 use borrow.Author.Tests.{le-leb, lt-leb}
-use lib.Dec.{T, leb}
-use lib.ListN.{length, take, drop, get_or, length-append, length-take, length-drop}
+use lib.ListN.{length, take, drop, get_or, length-append}
 use lib.Seq.{take-suc, take_all}
 use Rattle.definition.specs.Basics.{Bytes, pick}
 use Rattle.definition.specs.Classes.{class_number}
 use Rattle.definition.specs.Decoding.{Code, decode, instructions, malformed_at}
 use Rattle.definition_listings.specs.Hex.{hex_byte}
 use Rattle.definition.specs.Lines.{text}
-use Rattle.definition_listings.specs.Listing.{hex_bytes, data_word, code_word, parted, Converted, unwritten, put, on_decoded, listed}
+use Rattle.definition_listings.specs.Listing.{hex_bytes, data_word, code_word, parted, Converted, unwritten, on_decoded, listed}
 use Rattle.definition.specs.Refusals.{refused_at, malformed_fragment, output_short}
 use Rattle.definition.specs.Replay.{AreBytes}
 use Rattle.decode.specs.View.{decoded_at, code_at, Count, counted_of, count_by, count_in}
@@ -23,17 +21,17 @@ use Rattle.decode.specs.declared.Decoded.{Decoded}
 use Rattle.decode.specs.declared.Decoded.TheVariants.{At, End, Malformed}
 use Rattle.decode.specs.declared.Counted.{Counted}
 use Rattle.decode.specs.declared.Counted.TheVariants as C
-use Rattle.decode.proofs.Codes.{InstructionAt, code-ends, code-malformed}
+use Rattle.decode.proofs.Codes.{code-ends, code-malformed}
 use Rattle.text.specs.View.{Written}
 use Rattle.text.proofs.Texts.{written_as, then-written}
 use Rattle.listing.specs.declared.Measured.{Measured}
 use Rattle.listing.specs.declared.Measured.TheVariants as M
-use Rattle.listing.specs.View.{data_start, length_bytes, word_at, word_length, listing_of, Measures, short_of}
+use Rattle.listing.specs.View.{data_start, length_bytes, word_at, listing_of, Measures, short_of}
 use Rattle.names.proofs.Names.{never}
 use Rattle.word_bytes.proofs.Writing.{none_written}
 use Rattle.assembling.proofs.Assembling.{from_start}
 use Rattle.listing.proofs.Lengths.{hex-length, unmodelled-word}
-use Rattle.listing.proofs.Listed.{Before, before-start, word, stands, last_word, with-word, more-word, before_more}
+use Rattle.listing.proofs.Listed.{Before, before-start, word, last_word, with-word, more-word, before_more}
 use Rattle.listing.proofs.Decoded.{after}
 
 -- Bytes in hexadecimal

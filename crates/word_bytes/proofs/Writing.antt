@@ -1,22 +1,22 @@
 -- The bytes of words, written into lent bytes.
-use mathlib.Core.Bool.{Bool, true, false}
-use mathlib.Core.List.{List, [], ◌∷◌, ◌++◌, append_assoc, append-nil}
+use mathlib.Core.Bool.{true}
+use mathlib.Core.List.{[], ◌∷◌, ◌++◌}
 use mathlib.Core.Option.{Option, none, some}
 use mathlib.Core.Path.{◌≡◌, refl, sym, ap, subst, ◌∙◌}
 use Prim.Native.Nat.{ℕ, zero, suc, ◌+◌, ◌-◌, ◌*◌, ◌/◌, ◌%◌, ◌≤◌, ◌<◌}
 use native.Mathlib.Omega.{arith}
-use lib.ListN.{length, take, drop, get_or, set, length-append, length-take, length-drop, length-set}
+use lib.ListN.{length, drop, get_or, set, length-append, length-set}
 use lib.Seq.{get_or-take, get_or-drop, paste, paste-zero}
-use Rattle.definition.specs.Basics.{Bytes, pick}
+use Rattle.definition.specs.Basics.{Bytes}
 use Rattle.definition_listings.specs.Assembling.{on_read, digit_read, hex_read, word_read}
-use Rattle.definition_listings.specs.Shortest.{push_of, in_form, lowest_first}
-use Rattle.text.specs.View.{placed, Written}
+use Rattle.definition_listings.specs.Shortest.{in_form, lowest_first}
+use Rattle.text.specs.View.{Written}
 use Rattle.text.proofs.Texts.{written_as, then-written, byte-written, word_more, word-written}
 use Rattle.names.specs.declared.Word.{Word}
 use Rattle.names.specs.declared.Word.TheVariants.{Strange, Code}
 use Rattle.words.specs.View.{opens, digit_or, data_letters, DataWord, Reads, head_of, bytes_of}
 use Rattle.names.proofs.Names.{never}
-use Rattle.words.proofs.Words.{hex-length, digit-bound, data-known}
+use Rattle.words.proofs.Words.{digit-bound, data-known}
 use Rattle.words.proofs.Sizes.{head-4b, head-4c, head-4d, head-4e, data_of, data-size, data-read}
 
 pub none_written : (lent : Bytes) (at : ℕ) → Written lent at [] lent at

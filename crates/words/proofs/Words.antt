@@ -3,23 +3,22 @@ use mathlib.Core.Bool.{Bool, true, false, not, ◌&&◌}
 use mathlib.Core.List.{List, [], ◌∷◌, ◌++◌}
 use mathlib.Core.Option.{Option, none, some}
 use mathlib.Core.Path.{◌≡◌, refl, sym, ap, subst, ◌∙◌}
-use Prim.Native.Nat.{ℕ, zero, suc, ◌+◌, ◌-◌, ◌*◌, ◌/◌, ◌%◌, ◌≤◌, ◌<◌}
+use Prim.Native.Nat.{ℕ, suc, ◌+◌, ◌-◌, ◌*◌, ◌/◌, ◌%◌, ◌≤◌, ◌<◌}
 use native.Mathlib.Omega.{arith}
 use borrow.Author.Tests.{le-leb, lt-leb, eq-eqb, ne_eqb, eqb-true, leb-true, leb-false, not-true, not-false}
-use lib.Dec.{T, leb, eqb, leb→le}
+use lib.Dec.{leb, eqb, leb→le}
 use lib.ListN.{length, take, drop, get_or, length-append, length-take, length-drop, drop_of_length-le}
 use mir.Facts.{and_yes}
 use lib.Seq.{drop-cons, take-suc, take_all, take_at, get_or-drop, get_or-append_seam}
 use Rattle.definition.specs.Basics.{Bytes, pick}
 use Rattle.definition.specs.Classes.{class_number}
 use Rattle.definition_listings.specs.Assembling.{same, on_read, digit_read, hex_read, before_end, push_read, unmodelled_read, code_in, word_read}
-use Rattle.definition_listings.specs.Shortest.{push_of, in_form, lowest_first}
+use Rattle.definition_listings.specs.Shortest.{push_of, in_form}
 use Rattle.definition_listings.specs.OpcodeNames.{Named, name_table}
 use Rattle.names.specs.declared.Word.{Word}
-use Rattle.names.specs.declared.Word.TheVariants.{Strange, Code}
 use Rattle.names.specs.View.{name_word}
-use Rattle.words.specs.View.{opens, hex_code, digit_or, is_digit, all_digits, data_letters, DataWord, Reads, bytes_of, Sized}
-use Rattle.names.proofs.Names.{never, holds, same-equal, true-or-false}
+use Rattle.words.specs.View.{opens, hex_code, digit_or, is_digit, all_digits, data_letters, DataWord, Reads, Sized}
+use Rattle.names.proofs.Names.{never, holds, true-or-false}
 
 -- Hexadecimal
 

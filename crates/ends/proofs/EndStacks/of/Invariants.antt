@@ -1,0 +1,14 @@
+use mathlib.Core.Path.{ap, ◌∙◌}
+use Prim.Native.Nat.{◌-◌, ◌≤◌, ◌<◌}
+use Rattle.ends.specs.View.{item_length, item_number}
+use Rattle.slots.specs.View.{slots, cells}
+use Rattle.ends.proofs.Packing.{slot-within, Ending, ending-none, ending-more, ends-are}
+use borrow.Author.Rules.{rules}
+use native.Mathlib.Omega.{arith}
+use Rattle.ends.proofs.EndStacks.of.Given as goal
+
+abbrev pub invariant-loop-k : goal.invariant-loop-k
+invariant-loop-k l = (Ending (slots l.all l.codes) l.m l.k l.lens l.bytes) × (l.k ≤ l.count)
+
+abbrev pub decreases-loop-k : goal.decreases-loop-k
+decreases-loop-k l = l.count - l.k

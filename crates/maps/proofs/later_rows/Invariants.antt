@@ -1,0 +1,13 @@
+use Prim.Native.Nat.{◌≤◌, ◌-◌}
+use mathlib.Core.Path.{refl}
+use borrow.Author.Rules.{rules}
+use native.Mathlib.Omega.{arith}
+use Rattle.maps.specs.View.{JudgedUpTo}
+use Rattle.maps.proofs.Judging.{judged-later, judged-all}
+use Rattle.maps.proofs.later_rows.Given as goal
+
+abbrev pub invariant-loop-code : goal.invariant-loop-code
+invariant-loop-code l = (JudgedUpTo l.rows l.code l.good) × (0x61 ≤ l.code) × (l.code ≤ 256)
+
+abbrev pub decreases-loop-code : goal.decreases-loop-code
+decreases-loop-code l = 256 - l.code

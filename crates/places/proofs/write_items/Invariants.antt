@@ -1,0 +1,12 @@
+use Prim.Native.Nat.{◌+◌, ◌-◌, ◌≤◌}
+use lib.ListN.{length-set}
+use native.Mathlib.Omega.{arith}
+use borrow.Author.Rules.{rules}
+use Rattle.places.proofs.Items.{Listing, listing_none, listing-more, too-few-items, all_listed}
+use Rattle.places.proofs.write_items.Given as goal
+
+abbrev pub invariant-loop-k : goal.invariant-loop-k
+invariant-loop-k l = (Listing l.lens l.bytes l.initial.items l.k l.items) × (l.k ≤ l.count)
+
+abbrev pub decreases-loop-k : goal.decreases-loop-k
+decreases-loop-k l = l.count - l.k

@@ -1,0 +1,14 @@
+use mathlib.Core.Path.{◌∙◌}
+use Prim.Native.Nat.{◌-◌, ◌≤◌}
+use lib.ListN.{length, length-set}
+use native.Mathlib.Omega.{arith}
+use borrow.Author.Rules.{rules}
+use Rattle.places.proofs.Places.{too_few}
+use Rattle.places.proofs.Sittings.{Counts, counts-none, counts-more, sums-written, kept-3}
+use Rattle.places.proofs.write_sums.Given as goal
+
+abbrev pub invariant-loop-k : goal.invariant-loop-k
+invariant-loop-k l = (Counts l.initial.out l.counts l.k l.out) × (l.k ≤ length l.counts)
+
+abbrev pub decreases-loop-k : goal.decreases-loop-k
+decreases-loop-k l = length l.counts - l.k
