@@ -1,7 +1,6 @@
 -- Request L7 by example, beyond what `OtherRules` of the crate definition has of fragments and replays: what is no literal, and papers.
 use mathlib.Core.List.{[], ◌∷◌}
 use mathlib.Core.Path.{◌≡◌, refl}
-use Prim.Native.Nat.{ℕ}
 use lib.ListN.{replicate}
 use Rattle.definition.specs.Basics.{Bytes}
 use Rattle.definition.specs.Decoding.{front, decode, serialize, deserialize}
