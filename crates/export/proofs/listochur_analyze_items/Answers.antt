@@ -3,7 +3,6 @@ use mathlib.Core.Path.{ap, ◌∙◌}
 use Prim.Native.Nat.{ℕ}
 use Rattle.places.specs.View.{written}
 use Rattle.places.proofs.Items.{verdict-is}
-use borrow.Author.Rules.{rules}
 use Rattle.export.proofs.listochur_analyze_items.Goals as goal
 
 pub returns : goal.returns

@@ -1,7 +1,6 @@
 use mathlib.Core.Path.{ap, ◌∙◌}
 use Rattle.definition.specs.Refusals.{Answer}
 use Rattle.places.specs.View.{written, answer_numbers}
-use borrow.Author.Rules.{rules}
 use Rattle.export.proofs.listochur_check_limits.Goals as goal
 
 pub returns : goal.returns

@@ -1,5 +1,4 @@
 use Rattle.places.proofs.Counters.{gain-answer, gain-counters}
-use borrow.Author.Rules.{rules}
 use Rattle.export.proofs.listochur_gain.Goals as goal
 
 pub returns : goal.returns

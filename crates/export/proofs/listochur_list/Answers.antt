@@ -1,7 +1,6 @@
 use mathlib.Core.Path.{ap, ◌∙◌}
 use Rattle.definition_listings.specs.Listing.{Converted}
 use Rattle.places.specs.View.{written, converted_numbers}
-use borrow.Author.Rules.{rules}
 use Rattle.export.proofs.listochur_list.Goals as goal
 
 pub returns : goal.returns

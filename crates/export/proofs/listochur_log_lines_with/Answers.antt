@@ -3,7 +3,6 @@ use mathlib.Core.Path.{ap, ◌∙◌}
 use Prim.Native.Nat.{ℕ}
 use Rattle.places.specs.View.{written}
 use Rattle.places.proofs.Places.{where-room}
-use borrow.Author.Rules.{rules}
 use Rattle.export.proofs.listochur_log_lines_with.Goals as goal
 
 pub returns : goal.returns

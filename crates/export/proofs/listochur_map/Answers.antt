@@ -1,5 +1,4 @@
 use Rattle.places.proofs.Places.{where-room}
-use borrow.Author.Rules.{rules}
 use Rattle.export.proofs.listochur_map.Goals as goal
 
 pub returns-clause-size : goal.returns-clause-size

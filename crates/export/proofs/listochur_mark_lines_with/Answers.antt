@@ -3,7 +3,6 @@ use mathlib.Core.Path.{ap, ◌∙◌}
 use Prim.Native.Nat.{ℕ}
 use Rattle.places.specs.View.{written}
 use Rattle.places.proofs.Places.{held_number, held-size, held-text}
-use borrow.Author.Rules.{rules}
 use native.Mathlib.Omega.{arith}
 use Rattle.export.proofs.listochur_mark_lines_with.Goals as goal
 

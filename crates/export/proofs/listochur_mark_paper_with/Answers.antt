@@ -2,7 +2,6 @@ use mathlib.Core.Path.{ap, ◌∙◌}
 use Rattle.definition.specs.Papers.{PaperVerdict}
 use Rattle.paper.specs.View.{paper_of}
 use Rattle.places.specs.View.{written, paper_numbers}
-use borrow.Author.Rules.{rules}
 use Rattle.export.proofs.listochur_mark_paper_with.Goals as goal
 
 pub returns : goal.returns

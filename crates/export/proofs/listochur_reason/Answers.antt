@@ -4,7 +4,6 @@ use Prim.Native.Nat.{ℕ}
 use lib.ListN.{length-take}
 use Rattle.places.specs.View.{written}
 use Rattle.places.proofs.Places.{first-size, first-text}
-use borrow.Author.Rules.{rules}
 use native.Mathlib.Omega.{arith}
 use Rattle.export.proofs.listochur_reason.Goals as goal
 

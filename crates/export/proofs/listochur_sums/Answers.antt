@@ -1,7 +1,6 @@
 use mathlib.Core.Path.{ap, ◌∙◌}
 use Rattle.definition_sums.specs.Sums.{SittingSums}
 use Rattle.places.specs.View.{written, sums_numbers}
-use borrow.Author.Rules.{rules}
 use Rattle.export.proofs.listochur_sums.Goals as goal
 
 pub returns : goal.returns
