@@ -168,7 +168,7 @@ fn the_first_run_is_not_silent() {
     let tree = Tree::without_build();
     tree.0.folder("bin");
     tree.0.program("bin/cargo", b"#!/bin/sh\n");
-    tree.0.program("bin/rt", b"#!/bin/sh\necho \"rt: chose --jobs 2 for one\"\necho \"logic=proved functions=3\"\n[ $1 = version ]\n");
+    tree.0.program("bin/rt", b"#!/bin/sh\nprintf 'rt: chose --jobs 2 for one\\nlogic=proved functions=3\\n'\n[ $1 = version ]\n");
     let path = format!("{}:{}", tree.0.0.join("bin").display(), std::env::var("PATH").unwrap());
     let mut command = Command::new(tree.script("mark"));
     let ran = ran(command.arg("good").env("PATH", path).current_dir(&tree.0.0), b"");

@@ -9,11 +9,7 @@ fn main() {
         .map(PathBuf::from)
         .unwrap_or_else(|| PathBuf::from(env::var_os("CARGO_MANIFEST_DIR").unwrap()).join("../../crates/export/out"));
     let library = folder.join("libexport.a");
-    assert!(
-        library.is_file(),
-        "{} is missing: run `rt lib` in crates/export first, or set LISTOCHUR_LIB",
-        library.display()
-    );
+    assert!(library.is_file(), "{} is missing: run `rt lib` in crates/export first, or set LISTOCHUR_LIB", library.display());
     println!("cargo::rerun-if-changed={}", library.display());
     println!("cargo::rustc-link-search=native={}", folder.display());
     println!("cargo::rustc-link-lib=static=export");
