@@ -3,8 +3,5 @@ use Rattle.sums.specs.View.{sums_of}
 use Rattle.sums.proofs.Summing.{bad-length}
 use Rattle.sums.proofs.sums.Goals as goal
 
-pub sums_of_pairs-requires : goal.sums_of_pairs-requires
-sums_of_pairs-requires c = sym c.good_length.ensures ∙ c.if-good_length.true
-
 pub returns : goal.returns
 returns c = ap sums_of c.answer.ensures ∙ bad-length _ (sym c.good_length.ensures ∙ c.if-good_length.false)

@@ -22,14 +22,8 @@ pub returns-then-number-gt-GREATEST_NUMBER : goal.returns-then-number-gt-GREATES
 returns-then-number-gt-GREATEST_NUMBER c = ap sums_of c.answer.ensures
     ∙ past-greatest _ _ _ _ c.loop-k.invariant (has-peak (goal.at.returns-then-number-gt-GREATEST_NUMBER c).In-loop-k) c.if-number-gt-GREATEST_NUMBER.true
 
-pub bounds-counts-number : goal.bounds-counts-number
-bounds-counts-number c = omega (arith, c.if-number-gt-GREATEST_NUMBER.false)
-
 pub overflow_add-counts : goal.overflow_add-counts
-overflow_add-counts c = omega (arith, good-bound _ c.requires, c.loop-k-test.true, c.loop-k.invariant.few _ c.if-number-gt-GREATEST_NUMBER.false)
-
-pub bounds-counts-number-in-loop-k : goal.bounds-counts-number-in-loop-k
-bounds-counts-number-in-loop-k c = omega (arith, c.if-number-gt-GREATEST_NUMBER.false)
+overflow_add-counts c = omega (arith, good-bound _ c.requires, c.loop-k.invariant.few (get_or c.args.sitting.now c.loop-k.k 0) (omega arith))
 
 pub bounds-sitting-k-in-loop-k : goal.bounds-sitting-k-in-loop-k
 bounds-sitting-k-in-loop-k c = has-peak (goal.at.bounds-sitting-k-in-loop-k c).In-loop-k
@@ -38,7 +32,7 @@ pub overflow_add-sum : goal.overflow_add-sum
 overflow_add-sum c = omega (arith, good-bound _ c.requires, c.loop-k-test.true, c.loop-k.invariant.small, c.accepted_peak-sum.ensures.most, peak-fits (goal.at.overflow_add-sum c).After-accepted_peak-sum)
 
 pub loop-k-preserved : goal.loop-k-preserved
-loop-k-preserved c = summing-more _ _ _ _ c.loop-k.invariant (has-peak (goal.at.loop-k-preserved c).In-loop-k) c.if-number-gt-GREATEST_NUMBER.false (peak-fits (goal.at.loop-k-preserved c).After-accepted_peak-sum) _ c.accepted_peak-sum.ensures.same c.accepted_peak-sum.ensures.most
+loop-k-preserved c = summing-more _ _ _ _ c.loop-k.invariant (has-peak (goal.at.loop-k-preserved c).In-loop-k) (omega arith) (peak-fits (goal.at.loop-k-preserved c).After-accepted_peak-sum) _ c.accepted_peak-sum.ensures.same c.accepted_peak-sum.ensures.most
 
 pub returns : goal.returns
 returns c = ap sums_of c.answer-2.ensures ∙ all-summed _ _ _ _ c.loop-k.invariant c.requires c.loop-k-test.false
