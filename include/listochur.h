@@ -1,7 +1,7 @@
 /*
- * Listochur: a proved stack marker for Kaspa script, for C callers on x86-64 Linux. Link libexport.a, which
- * `rt staticlib export` writes to target/staticlib. The numbers are those of document 01, section 7, and of the requests of
- * document 02.
+ * Listochur: a proved stack marker for Kaspa script, for C callers on x86-64 Linux. Link libexport.a, which `rt lib`, run in
+ * crates/export, writes to crates/export/out. The numbers are those of document 01, section 7, and of the requests of document
+ * 02.
  *
  * Each function takes every input: what is bad about it is refused with a number, so a caller has nothing to test first.
  * A slice passes as a pointer and then the number of its elements. As everywhere in C, this much is the caller's:

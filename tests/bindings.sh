@@ -6,17 +6,17 @@ cd "$(dirname "$0")/.."
 work=$(mktemp -d)
 trap 'rm -rf "$work"' EXIT
 
-rt staticlib export
+(cd crates/export && rt lib)
 
 for program in example test; do
-    "${CC:-cc}" -std=c11 -Wall -Wextra -Wpedantic -Werror -O2 -I include "bindings/c/$program.c" target/staticlib/libexport.a \
+    "${CC:-cc}" -std=c11 -Wall -Wextra -Wpedantic -Werror -O2 -I include "bindings/c/$program.c" crates/export/out/libexport.a \
         -o "$work/$program"
 done
 "$work/test"
 "$work/example" >"$work/c.txt"
 diff bindings/expected.txt "$work/c.txt"
 
-export LISTOCHUR_LIB=$PWD/target/staticlib
+export LISTOCHUR_LIB=$PWD/crates/export/out
 cargo test --offline --quiet --manifest-path bindings/rust/Cargo.toml
 cargo run --offline --quiet --manifest-path bindings/rust/Cargo.toml --example mark >"$work/rust.txt"
 diff bindings/expected.txt "$work/rust.txt"

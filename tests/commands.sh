@@ -1,7 +1,7 @@
 #!/bin/sh
-# Tries ./build, ./mark, ./log and ./listochur: in a copy of what they are made of, with programs in the place of rt and cargo
-# that say when they were called, and at the end in this repository. Needs a build: ./build. Says how many passed, and exits 1
-# on a failure.
+# Tries ./build, ./mark, ./log, ./listochur and .ci/run: in a copy of what they are made of, with programs in the place of rt and
+# cargo that say when they were called, and at the end in this repository. Needs a build: ./build. Says how many passed, and
+# exits 1 on a failure.
 root=$(cd "$(dirname "$0")/.." && pwd) || exit 1
 . "$root/tools/command.sh"
 if ! is_built || [ -n "$(changed)" ]; then
@@ -60,17 +60,23 @@ cp "$root/examples/sample.paper" "$work/good" && cp "$root/examples/main-dry.pap
 tree="$work/a tree"
 new_tree() {
     rm -rf "$tree"
-    mkdir -p "$tree/tools" "$tree/include" "$tree/crates/one/src" "$tree/crates/one/specs" "$tree/crates/one/proofs/f" \
-        "$tree/crates/one/must-fail" "$tree/bindings/rust/src" "$tree/cli/src" || exit 1
+    mkdir -p "$tree/.ci" "$tree/tools" "$tree/include" "$tree/crates/one/src" "$tree/crates/one/specs" \
+        "$tree/crates/one/proofs/f" "$tree/crates/one/must-fail" "$tree/crates/export" "$tree/crates/stackmark" \
+        "$tree/crates/stacklog" "$tree/bindings/rust/src" "$tree/cli/src" || exit 1
     cp "$root/build" "$root/mark" "$root/log" "$root/listochur" "$tree/"
-    cp "$root/tools/command.sh" "$tree/tools/"
+    cp "$root/.ci/run" "$tree/.ci/"
+    cp "$root/tools/command.sh" "$root/tools/program.sh" "$tree/tools/"
     cp "$root/include/listochur.h" "$tree/include/"
     cp "$root/cli/Cargo.toml" "$root/cli/Cargo.lock" "$tree/cli/"
     cp "$root/bindings/rust/Cargo.toml" "$tree/bindings/rust/"
-    echo 'export: one' >"$tree/crates.txt"
-    for file in crates/one/src/lib.rt crates/one/specs/Lib.antt crates/one/proofs/f/Proof.antt bindings/rust/build.rs \
+    echo 'export staticlib: one' >"$tree/crates.txt"
+    for file in crates/one/src/lib.rt crates/one/specs/Lib.antt crates/one/proofs/f/Answers.antt bindings/rust/build.rs \
         bindings/rust/src/lib.rs cli/src/main.rs crates/one/must-fail/x.edit; do
         : >"$tree/$file"
+    done
+    for name in stackmark stacklog; do
+        echo "a paper for $name" >"$tree/crates/$name/stdin"
+        echo "$name: a paper for $name" >"$tree/crates/$name/stdout"
     done
     : >"$work/calls"
 }
@@ -79,18 +85,28 @@ new_tree() {
 mkdir "$work/bin" "$work/elsewhere"
 cat >"$work/bin/rt" <<END
 #!/bin/sh
-echo "rt \$*" >>"$work/calls"
+echo "rt \$* in \${PWD##*/}" >>"$work/calls"
 ! grep -qs "^\$1\$" "$work/during" || { sleep 0.05; touch "$tree/crates/one/src/lib.rt"; rm "$work/during"; }
 case \$1 in
 version) echo "a kit" ;;
-check)
-    echo "rt: one proved (3 s)"
-    [ ! -f "$work/fail" ] || { echo "rt: one NOT PROVED"; echo "why it is not"; exit 1; }
+lib)
+    echo "rt: chose --jobs 2 for one"
+    echo "fn one::f: proved"
+    [ ! -f "$work/fail" ] || { echo "why it is not"; echo "logic=not-proved"; exit 1; }
     sleep 0.3
+    echo "logic=proved functions=1"
+    mkdir -p out && echo library >out/libexport.a
     ;;
-staticlib)
-    mkdir -p target/staticlib && echo library >target/staticlib/libexport.a
-    echo "rt: one proved (unchanged since it was last proved)"
+run)
+    name=\${PWD##*/}
+    printf 'rt: chose --jobs 2 for %s\nlogic=proved functions=1\n' "\$name" >&2
+    mkdir -p out && : >"out/\$name"
+    printf '%s: ' "\$name" && cat && cat "$work/more" 2>/dev/null
+    exit 0
+    ;;
+ci)
+    cat "$work/ci"
+    exit "\$(cat "$work/ci.status")"
     ;;
 esac
 END
@@ -135,11 +151,13 @@ is "nothing was called" "$(calls '')" -eq 0
 try "$tree/mark" "$work/good"
 gives "the first run" 0 "$good"
 says "the first run" "about six minutes"
-says "the first run" "build: one proved (3 s)"
-says "the first run" "build: export proved"
+says "the first run" "build: one proved ("
+says "the first run" "build: the library is proved and written"
+says "the first run" "build: stackmark proved ("
+says "the first run" "build: stacklog proved ("
 says "the first run" "the folder of the Rust's sources is not here"
-is "proved once" "$(calls 'rt staticlib export')" -eq 1
-is "programs proved too" "$(calls 'rt check stackmark stacklog one')" -eq 1
+is "proved once" "$(calls 'rt lib in export')" -eq 1
+is "programs proved too" "$(calls 'rt run in stackmark')$(calls 'rt run in stacklog')" = 11
 is "built once" "$(calls 'cargo build --release --offline')" -eq 1
 
 # After that nothing is called and nothing is written
@@ -297,7 +315,7 @@ fi
 [ -n "$as" ] || echo "tests/commands.sh: not root, so nothing was tried as another user"
 
 # A build that is older than its sources marks nothing
-for file in crates.txt crates/one/src/lib.rt crates/one/specs/Lib.antt crates/one/proofs/f/Proof.antt bindings/rust/build.rs \
+for file in crates.txt crates/one/src/lib.rt crates/one/specs/Lib.antt crates/one/proofs/f/Answers.antt bindings/rust/build.rs \
     bindings/rust/src/lib.rs bindings/rust/Cargo.toml cli/src/main.rs cli/Cargo.toml cli/Cargo.lock; do
     touch "$tree/$file"
     for name in mark log; do
@@ -313,14 +331,14 @@ for file in crates.txt crates/one/src/lib.rt crates/one/specs/Lib.antt crates/on
     gives "marked after a change of $file" 0 "$good"
     sleep 0.02
 done
-rm "$tree/crates/one/proofs/f/Proof.antt"
+rm "$tree/crates/one/proofs/f/Answers.antt"
 try "$tree/mark" "$work/good"
 gives "after a file is gone" 2 ""
 : >"$work/calls"
 try "$tree/build"
 try "$tree/mark" "$work/good"
 gives "built after a file is gone" 0 "$good"
-is "proved again after a file is gone" "$(calls 'rt staticlib')" -eq 1
+is "proved again after a file is gone" "$(calls 'rt lib')" -eq 1
 touch "$tree/crates/one/must-fail/x.edit"
 try "$tree/mark" "$work/good"
 gives "an edit that must be refused is no source" 0 "$good"
@@ -330,21 +348,21 @@ gives "an edit that must be refused is no source" 0 "$good"
 sleep 0.02
 touch "$tree/cli/src/main.rs"
 try "$tree/build"
-is "the command alone" "$(calls 'rt staticlib')" -eq 0
+is "the command alone" "$(calls 'rt lib')" -eq 0
 is "the command alone, built" "$(calls 'cargo')" -eq 1
 try "$tree/build" --again
-is "all again" "$(calls 'rt staticlib')" -eq 1
-# the gate removes target/
-rm -rf "$tree/target"
+is "all again" "$(calls 'rt lib')" -eq 1
+# the gate sets crates/*/out aside
+rm -rf "$tree"/crates/*/out
 try "$tree/mark" "$work/good"
-gives "without target/" 0 "$good"
+gives "without out/" 0 "$good"
 : >"$work/calls"
 sleep 0.02
 touch "$tree/cli/src/main.rs"
 try "$tree/build"
-is "the command alone, without target/" "$(calls 'rt staticlib')" -eq 0
+is "the command alone, without out/" "$(calls 'rt lib')" -eq 0
 try "$tree/mark" "$work/good"
-gives "built without target/" 0 "$good"
+gives "built without out/" 0 "$good"
 
 # The Rust's driver is built where its sources come, and again where compare/ changes
 : >"$work/calls"
@@ -376,7 +394,7 @@ gives "without a driver" 0 "$good"
 unset LISTOCHUR_SHARED
 
 # A source that changes during the build is newer than it
-for step in check staticlib cargo; do
+for step in lib run cargo; do
     sleep 0.02
     touch "$tree/crates.txt"
     echo $step >"$work/during"
@@ -388,7 +406,7 @@ for step in check staticlib cargo; do
     try "$tree/build"
     try "$tree/mark" "$work/good"
     gives "built after a change during $step" 0 "$good"
-    [ $step = cargo ] || is "proved after a change during $step" "$(calls 'rt staticlib')" -eq 1
+    [ $step = cargo ] || is "proved after a change during $step" "$(calls 'rt lib')" -eq 1
 done
 
 # First runs at once: one builds, the others wait
@@ -402,7 +420,7 @@ for i in 1 2 3 4 5 6; do
     [ "$(cat "$work/first.$i")" != "$good" ] || same=$((same + 1))
 done
 is "six first runs are right" "$same" -eq 6
-is "and one of them has built" "$(calls 'rt staticlib')" -eq 1
+is "and one of them has built" "$(calls 'rt lib')" -eq 1
 cat "$work"/first.*.err >"$work/err"
 err=$(cat "$work/err")
 says "the others" "another build is under way"
@@ -413,8 +431,17 @@ new_tree
 try "$tree/mark" "$work/good"
 gives "a build that fails" 2 ""
 says "a build that fails" "why it is not"
+says "a build that fails" "failed: rt lib"
+has "$err" "fn one::f"
+is "a build that fails: what is proved is not shown" $? -eq 1
 is "a build that fails leaves none" ! -e "$tree/built/listochur"
 rm "$work/fail"
+echo "a line more" >"$work/more"
+try "$tree/mark" "$work/good"
+gives "a program that prints something else" 2 ""
+says "a program that prints something else" "stackmark prints something else"
+is "a program that prints something else: no build" ! -e "$tree/built/listochur"
+rm "$work/more"
 try "$tree/mark" "$work/good"
 gives "the next one" 0 "$good"
 sleep 0.02
@@ -441,6 +468,38 @@ is "a word that is not understood" "$status" -eq 2
 says "a word that is not understood" "usage: ./build"
 try "$tree/build" --install
 is "no folder to install to" "$status" -eq 2
+
+# The gate: the status of rt ci, and 1 where an edit is bad; the last line is rt's
+new_tree
+# gate STATUS LINE..: rt ci prints these lines and ends so
+gate() {
+    echo "$1" >"$work/ci.status"
+    shift
+    printf '%s\n' "$@" >"$work/ci"
+    cd "$work/elsewhere" || exit 1
+    try "$tree/.ci/run"
+    cd "$work" || exit 1
+}
+passed_line="45 passed, 0 failed"
+gate 0 "rt: ok; handles allowed: none; must-fail edits: 45 refused; done" "$passed_line"
+is "the gate" "$status" -eq 0
+is "the gate: what rt prints" "$out" = "$(cat "$work/ci")"
+is "the gate: called" "$(calls 'rt ci in a tree')" -eq 1
+gate 0 "rt: ok; handles allowed: none; must-fail edits: 45 refused, 2 of them only by a limit; done" "$passed_line"
+is "the gate, two by a limit" "$status" -eq 0
+for bad in 1 10; do
+    gate 0 "rt: ok; handles allowed: none; must-fail edits: 45 refused, $bad bad; done" "$passed_line"
+    is "the gate, $bad bad" "$status" -eq 1
+    is "the gate, $bad bad: said" "$(grep -c 'edits are bad' "$work/out")" -eq 1
+    is "the gate, $bad bad: the last line" "$(tail -n 1 "$work/out")" = "$passed_line"
+done
+gate 0 "a line that says: rt: ok; must-fail edits: 45 refused, 1 bad" "$passed_line"
+is "the gate, another line" "$status" -eq 0
+gate 1 "rt: FAILED: one" "44 passed, 1 failed"
+is "the gate fails" "$status" -eq 1
+is "the gate fails: the last line" "$(tail -n 1 "$work/out")" = "44 passed, 1 failed"
+gate 2 "0 passed, 1 failed"
+is "the gate stops" "$status" -eq 2
 
 # In this repository: what is installed works without it
 PATH=$path

@@ -1,8 +1,8 @@
 # What the tests of the programs share; the caller has set `name`, the program's, and sources this file.
 root=$(cd "$(dirname "$0")/.." && pwd) || exit 1
-program=$root/target/bin/$name
+program=$root/crates/$name/out/$name
 if [ ! -x "$program" ]; then
-    echo "tests/$name.sh: $program is missing: run rt check $name" >&2
+    echo "tests/$name.sh: $program is missing: run tools/program.sh $name" >&2
     exit 1
 fi
 work=$(mktemp -d) || exit 1

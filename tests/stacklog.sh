@@ -1,6 +1,6 @@
 #!/bin/sh
-# Runs target/bin/stacklog, which `rt check stacklog` builds, on papers of every kind, and compares what it prints. Says how
-# many passed, and exits 1 on a difference.
+# Runs the program stacklog, which `tools/program.sh stacklog` builds, on papers of every kind, and compares what it prints. Says
+# how many passed, and exits 1 on a difference.
 name=stacklog
 . "$(dirname "$0")/common.sh"
 

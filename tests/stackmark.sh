@@ -1,6 +1,6 @@
 #!/bin/sh
-# Runs target/bin/stackmark, which `rt check stackmark` builds, on papers of every kind, and compares what it prints. Says how
-# many passed, and exits 1 on a difference.
+# Runs the program stackmark, which `tools/program.sh stackmark` builds, on papers of every kind, and compares what it prints. Says
+# how many passed, and exits 1 on a difference.
 name=stackmark
 . "$(dirname "$0")/common.sh"
 

@@ -5,25 +5,41 @@
 name=stackmark
 . "$(dirname "$0")/common.sh"
 
-# prints TREE LINES BYTES..: of a paper of one entry without parameters, with this body, `stackmark` of that tree prints these
-# lines
+# body TREE NAME LINES BYTES..: of a paper of one entry without parameters, with this body, `stackmark` of that tree is to print
+# these lines
+body() {
+    file=$work/$1.bodies/$2
+    lines=$3
+    shift 3
+    hex 01 00 00 00 0e 00 00 00 00 00 0e 00 "$(printf %02x $#)" 00 "$@" >"$file"
+    printf "$lines" >"$file.stdout"
+}
+
+# prints TREE: it does, of each body, and so does the interpreter
 prints() {
-    tree=$1
-    lines=$2
-    shift 2
-    hex 01 00 00 00 0e 00 00 00 00 00 0e 00 "$(printf %02x $#)" 00 "$@" >"$work/$tree/crates/stackmark/stdin"
-    printf "$lines" >"$work/$tree/crates/stackmark/stdout"
-    if (cd "$work/$tree" && rt try stackmark) >"$work/out" 2>&1; then
-        passed=$((passed + 1))
-    else
-        failed=$((failed + 1))
-        echo "$*, in the $tree tree:"
-        sed 's/^/    /' "$work/out"
-    fi
+    (cd "$work/$1/crates/stackmark" && rt try --cases "$work/$1.bodies") >"$work/out" 2>&1
+    for file in "$work/$1.bodies"/*.stdout; do
+        tried=${file##*/}
+        tried=${tried%.stdout}
+        if grep -q "^case=$tried run=ended status=0 runners=2 output=expected " "$work/out"; then
+            passed=$((passed + 1))
+        else
+            failed=$((failed + 1))
+            echo "$tried, in the $1 tree:"
+            sed 's/^/    /' "$work/out"
+        fi
+    done
 }
 
 for tree in whole trial; do
-    mkdir "$work/$tree" && cp "$root/crates.txt" "$work/$tree" && cp -r "$root/crates" "$work/$tree" || exit 1
+    mkdir "$work/$tree" "$work/$tree.bodies" && cp "$root/crates.txt" "$work/$tree" || exit 1
+    for crate in "$root"/crates/*; do
+        mkdir -p "$work/$tree/crates/${crate##*/}" || exit 1
+        # without out/, which is rt's own
+        for part in "$crate"/*; do
+            [ "${part##*/}" = out ] || cp -r "$part" "$work/$tree/crates/${crate##*/}" || exit 1
+        done
+    done
 done
 sed -i 's|^    NOTHING, // 61$|    UNMODELLED, // 61|' "$work/trial/crates/opcodes/src/lib.rt"
 if cmp -s "$work/whole/crates/opcodes/src/lib.rt" "$work/trial/crates/opcodes/src/lib.rt"; then
@@ -31,10 +47,12 @@ if cmp -s "$work/whole/crates/opcodes/src/lib.rt" "$work/trial/crates/opcodes/sr
     exit 1
 fi
 
-prints whole 'entry 0 peak 0 end 0 0\naccepted\n' 61
-prints trial 'refused 11 at 0 0 97 0\n' 61
-prints whole 'entry 0 peak 0 end none\naccepted\n' 6a 61
-prints trial 'entry 0 peak 0 end none\naccepted\n' 6a 61
+body whole live 'entry 0 peak 0 end 0 0\naccepted\n' 61
+body trial live 'refused 11 at 0 0 97 0\n' 61
+body whole dead 'entry 0 peak 0 end none\naccepted\n' 6a 61
+body trial dead 'entry 0 peak 0 end none\naccepted\n' 6a 61
+prints whole
+prints trial
 
 echo "tests/trial_table.sh: $passed passed, $failed failed"
 [ "$failed" -eq 0 ]

@@ -1,7 +1,7 @@
 # What ./mark, ./log, ./listochur and ./build share; the caller has set `root`, the repository's folder, and sources this file.
 
-# What ./build leaves: the command, the library that is linked into it, the time of its sources. Not in target/, which
-# `rt ci` removes.
+# What ./build leaves: the command, the library that is linked into it, the time of its sources. Not in crates/*/out, which is
+# rt's own, and which `rt ci` sets aside while it runs.
 built=$root/built
 
 # proved_newer FILE, command_newer FILE: the sources of the proved library, or those of the command besides, that have changed

@@ -1,13 +1,13 @@
 #!/bin/sh
-# Instructions of one stack operation, by callgrind, over target/bin/stack_bench: docs/SPEED.md, "Stack operations".
+# Instructions of one stack operation, by callgrind, over the program stack_bench: docs/SPEED.md, "Stack operations".
 #
 #     tools/stack_counts.sh
 #
-# A count is that of 4,000 repetitions less that of none, for one repetition. `rt check stack_bench` builds the program.
+# A count is that of 4,000 repetitions less that of none, for one repetition. `tools/program.sh stack_bench` builds it.
 set -e
 cd "$(dirname "$0")/.."
-program=target/bin/stack_bench
-[ -x "$program" ] || { echo "no $program: run 'rt check stack_bench'" >&2; exit 2; }
+program=crates/stack_bench/out/stack_bench
+[ -x "$program" ] || { echo "no $program: run 'tools/program.sh stack_bench'" >&2; exit 2; }
 work=$(mktemp -d)
 trap 'rm -rf "$work"' EXIT
 

@@ -8,10 +8,10 @@ use std::process::Command;
 use command::marking::Marker;
 use common::{Folder, ROOT, ran};
 
-/// A program that `rt check` leaves.
+/// A program that `rt run` leaves.
 fn program(name: &str) -> PathBuf {
-    let path = PathBuf::from(format!("{ROOT}/target/bin/{name}"));
-    assert!(path.is_file(), "{} is missing: run ./build, or rt check {name}", path.display());
+    let path = PathBuf::from(format!("{ROOT}/crates/{name}/out/{name}"));
+    assert!(path.is_file(), "{} is missing: run ./build, or tools/program.sh {name}", path.display());
     path
 }
 

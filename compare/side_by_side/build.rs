@@ -1,4 +1,5 @@
-//! Links the static library that `rt staticlib export` writes: LISTOCHUR_LIB names its folder, ../../target/staticlib by default.
+//! Links the static library that `rt lib` writes in crates/export: LISTOCHUR_LIB names its folder, ../../crates/export/out by
+//! default.
 use std::env;
 use std::path::PathBuf;
 
@@ -6,13 +7,9 @@ fn main() {
     println!("cargo::rerun-if-env-changed=LISTOCHUR_LIB");
     let folder = env::var_os("LISTOCHUR_LIB")
         .map(PathBuf::from)
-        .unwrap_or_else(|| PathBuf::from(env::var_os("CARGO_MANIFEST_DIR").unwrap()).join("../../target/staticlib"));
+        .unwrap_or_else(|| PathBuf::from(env::var_os("CARGO_MANIFEST_DIR").unwrap()).join("../../crates/export/out"));
     let library = folder.join("libexport.a");
-    assert!(
-        library.is_file(),
-        "{} is missing: run `rt staticlib export` at the repository's root first, or set LISTOCHUR_LIB",
-        library.display()
-    );
+    assert!(library.is_file(), "{} is missing: run `rt lib` in crates/export first, or set LISTOCHUR_LIB", library.display());
     println!("cargo::rerun-if-changed={}", library.display());
     println!("cargo::rustc-link-search=native={}", folder.display());
     println!("cargo::rustc-link-lib=static=export");

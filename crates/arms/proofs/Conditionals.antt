@@ -2,18 +2,17 @@
 use mathlib.Core.Bool.{Bool, true, false, ◌&&◌}
 use mathlib.Core.List.{List, [], ◌∷◌}
 use mathlib.Core.Path.{◌≡◌, refl, sym, ap, subst, ◌∙◌}
-use Prim.Native.Nat.{ℕ, suc, ◌+◌, ◌≤◌, ◌<◌, max}
+use Prim.Native.Nat.{ℕ, ◌<◌}
 use native.Mathlib.Omega.{arith}
 use borrow.Author.Tests.{lt-ltb, le-ltb, eqb-true, eq-eqb}
-use lib.Dec.{eqb, ltb}
+use lib.Dec.{eqb}
 use lib.ListN.{length}
 use Rattle.definition.specs.Basics.{Bytes, pick}
-use Rattle.definition.specs.Decoding.{instructions}
 use Rattle.definition.specs.Stacks as S
 use Rattle.definition.specs.Stacks.{Rules, Outcome, drop_items}
 use Rattle.definition.proofs.Sound.{opened}
-use Rattle.definition.specs.Walk.{Item, unknown, exact, Arm, dead, live, FirstArm, not_ended, ended, Frame, Move, moves, refuses, same_bytes, join_item, join_items, join_stacks, on_outcome, join, opens, on_if, conditional, follow, at_end, walk, answered}
-use Rattle.stack.specs.View.{view, outcome, refusal_of, Fit, Says}
+use Rattle.definition.specs.Walk.{Item, unknown, exact, Arm, dead, live, not_ended, ended, Frame, Move, moves, refuses, same_bytes, join_item, join_items, join_stacks, on_outcome, join, on_if, conditional, follow, answered}
+use Rattle.stack.specs.View.{view, outcome, Fit, Says}
 use Rattle.stack.specs.declared.Stacks.{Stacks}
 use Rattle.stack.specs.declared.Stepped.{Stepped}
 use Rattle.stack.specs.declared.Refusal.{Refusal}

@@ -1,18 +1,16 @@
 -- The arm walker and the conditional walker call each other.
 use mathlib.Core.List.{List, [], ◌∷◌}
-use mathlib.Core.Logic.{◌⊎◌, ⊎_elim}
+use mathlib.Core.Logic.{⊎_elim}
 use mathlib.Core.Path.{◌≡◌, refl, sym, ap, ◌∙◌}
-use Prim.Native.Nat.{ℕ, suc, ◌+◌, ◌*◌, ◌-◌, ◌≤◌, ◌<◌}
+use Prim.Native.Nat.{ℕ, ◌+◌, ◌*◌, ◌-◌, ◌≤◌, ◌<◌}
 use native.Mathlib.Omega.{arith}
 use lib.ListN.{length}
 use types.Run.{OneOf}
 use denote.Enum.Declared.{tag_of}
 use Rattle.walk.specs.contracts.Stop.{the_type}
 use Rattle.definition.specs.Basics.{Bytes}
-use Rattle.definition.specs.Decoding.{instructions}
 use Rattle.definition.specs.Stacks.{Rules}
-use Rattle.definition.specs.Walk.{Arm, FirstArm, not_ended, ended, Frame}
-use Rattle.decode.specs.View.{code_at}
+use Rattle.definition.specs.Walk.{not_ended, ended, Frame}
 use Rattle.stack.specs.View.{Fit}
 use Rattle.stack.specs.declared.Refusal.{Refusal}
 use Rattle.walk.specs.Runs.{arm, resume, resume_by, rows_in, Goes, Stopped, Ready, Runs}

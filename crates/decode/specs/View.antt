@@ -1,5 +1,5 @@
 -- What the structs and enums of this crate stand for in the definitions of document 01.
-use Rattle.std.specs.Prelude.{List, [], ◌∷◌, ℕ, zero, suc, ◌+◌, ◌*◌, ◌/◌, ◌%◌, ◌^◌, ◌≤◌, ◌<◌, length, drop, get_or}
+use Rattle.std.specs.Prelude.{[], ◌∷◌, ℕ, zero, suc, ◌+◌, ◌/◌, ◌%◌, ◌^◌, ◌≤◌, ◌<◌, length, drop, get_or}
 use Rattle.std.proofs.Math.Option.{Option, none, some}
 use Rattle.definition.specs.Basics.{Bytes}
 use Rattle.definition_long_data.specs.Blank.{length_bytes}
@@ -9,7 +9,6 @@ use Rattle.definition.specs.Refusals.{malformed_fragment, Answer, accepted, refu
 use Rattle.definition.specs.Walk.{Item, unknown, exact, known}
 use Rattle.decode.specs.declared.Value.{Value}
 use Rattle.decode.specs.declared.Value.TheVariants.{Unknown, Exact}
-use Rattle.decode.specs.declared.Instruction.{Instruction}
 use Rattle.decode.specs.declared.Decoded.{Decoded}
 use Rattle.decode.specs.declared.Decoded.TheVariants.{At, End, Malformed}
 use Rattle.decode.specs.declared.Counted.{Counted}

@@ -14,7 +14,7 @@ use Rattle.definition.specs.Classes.{Class, IF, NOTIF, ELSE, ENDIF, RETURN, ordi
 use Rattle.definition.specs.Refusals.{nesting, max_open}
 use Rattle.definition.specs.Stacks.{Rules, Stacks, Outcome, done, refused, drop_items, step, plain_step}
 use Rattle.definition.specs.Walk.{Item, unknown, exact, marking, Arm, dead, live, FirstArm, not_ended, ended, Frame, Move, moves, refuses, on_outcome, join, on_if, conditional, on_else, on_endif, effect}
-use Rattle.definition.specs.Replay.{Replay, replaying, Going, running, jumping, Carried, goes_on, halts, fails, carried_out, chosen, branches, carry, past, Trace, visit, on_carried, replay_from, whole_replay, ShowsAll, ShowsStacks, AreStrings, ReplayOf}
+use Rattle.definition.specs.Replay.{Replay, replaying, Going, running, jumping, Carried, goes_on, halts, fails, carried_out, chosen, carry, past, Trace, visit, on_carried, replay_from, whole_replay, ShowsAll, ShowsStacks, AreStrings, ReplayOf}
 use Rattle.definition.proofs.Related.{paired_stacks}
 use Rattle.definition.proofs.Arms.{Goes, Accepts, after, arm_at, Alive}
 use Rattle.definition.proofs.Sound.{Leads, opened, LiveAs, Joins, join-leads, Waits, Inv, Next, act, act-next}

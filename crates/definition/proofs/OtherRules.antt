@@ -1,7 +1,7 @@
 -- Rules other than document 01's, by example. Request L7: literals of 520 and of 521 bytes, in live and in dead code, and what comes
 -- first. Request L6: a start and a paper that are above a smaller limit.
 use mathlib.Core.Bool.{true, false}
-use mathlib.Core.List.{List, [], ◌∷◌, ◌++◌}
+use mathlib.Core.List.{[], ◌∷◌, ◌++◌}
 use mathlib.Core.Path.{◌≡◌, refl}
 use Prim.Native.Nat.{ℕ}
 use lib.ListN.{replicate}
@@ -11,7 +11,7 @@ use Rattle.definition.specs.Classes.{class_number, class_of}
 use Rattle.definition.specs.Refusals.{accepted, answer}
 use Rattle.definition.specs.Stacks.{Rules, built_in, push_item, drop_items, copy_items, step, plain_step}
 use Rattle.definition.specs.Walk.{dead, join_stacks, log_row, walk, analysis_of, analysis}
-use Rattle.definition.specs.Replay.{Trace, visit, off_end, faulted, replay_from, whole_replay}
+use Rattle.definition.specs.Replay.{visit, off_end, faulted, replay_from, whole_replay}
 use Rattle.definition.specs.Papers.{good_header, dispatch, mark_paper}
 use Rattle.definition.proofs.MarkedPapers.{sample_paper}
 

@@ -17,7 +17,7 @@ use Rattle.definition.specs.Stacks.{Rules, built_in, Stacks, total, stack_height
 use Rattle.definition.specs.Walk.{Item, unknown, Arm, dead, live, heights_of, State, total_of, WalkEnd, passed, stopped, walk, Marked, refused_early, answered, begin, tested, analysis_of, unknowns, analysis}
 use Rattle.definition.specs.Replay.{Replay, running, Trace, visit, off_end, returned, faulted, replay_from, whole_replay, ReachedAt, RunsOffWith, HasTotal, TotalsWithin, ShowsArm, AreStrings, ReplayOf, EveryReplay, SomeReplay, heights_at, LiveRow, SomeReplayReaches, Demand3, TrueOfEveryReplay}
 use Rattle.definition.proofs.Related.{paired_stacks, shown_stacks, paired-length, paired-total}
-use Rattle.definition.proofs.Arms.{Accepts, arm_at, Alive, main_height, alt_height, both-heights, Row, Tops, accepts, end-at, log-length, row_at, peak-over, peak-at}
+use Rattle.definition.proofs.Arms.{Accepts, arm_at, Alive, both-heights, Row, Tops, accepts, end-at, log-length, row_at, peak-over, peak-at}
 use Rattle.definition.proofs.Sound.{LiveAs, Good, sound, good-faults, good-reaches, good-runs_off, good-total, stays_within}
 use Rattle.definition.proofs.Complete.{strings_for, ExactBytes, comes}
 

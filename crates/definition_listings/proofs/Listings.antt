@@ -1,13 +1,12 @@
 -- Document 02, L4: listings by example.
-use mathlib.Core.List.{List, [], ◌∷◌}
+use mathlib.Core.List.{[], ◌∷◌}
 use mathlib.Core.Path.{◌≡◌, refl}
-use Prim.Native.Nat.{ℕ}
 use Rattle.definition.specs.Basics.{Bytes}
 use Rattle.definition.specs.Classes.{class_number}
 use Rattle.definition.specs.Decoding.{front, decode}
 use Rattle.definition.specs.Lines.{text}
 use Rattle.definition_listings.specs.Assembling.{Assembly, gives, strange, words, assembly, word_read, assembled}
-use Rattle.definition_listings.specs.Listing.{Converted, unwritten, listed}
+use Rattle.definition_listings.specs.Listing.{unwritten, listed}
 use Rattle.definition_listings.specs.Shortest.{push_of, shortest}
 use Rattle.definition.specs.Refusals.{refused_at, malformed_fragment, strange_word, output_short}
 use Rattle.definition_listings.specs.OpcodeNames.{name_of, name_table}

@@ -3,11 +3,11 @@
 --
 -- The walk of the examined mode goes as that of plain mode, up to the first live push of a literal above 520 bytes; and where the
 -- arm is live, some plain replay comes. One law to a layer: effect, walk, analysis, paper.
-use mathlib.Core.Bool.{Bool, true, false, ◌&&◌}
+use mathlib.Core.Bool.{Bool, true, false}
 use mathlib.Core.List.{List, [], ◌∷◌}
 use mathlib.Core.Logic.{◌⊎◌, inl, inr, ⊎_elim}
 use mathlib.Core.Option.{Option, none, some}
-use mathlib.Core.Path.{◌≡◌, refl, sym, ap, subst, ◌∙◌}
+use mathlib.Core.Path.{◌≡◌, refl, sym, ap, subst}
 use Prim.Native.Nat.{ℕ, zero, suc, ◌+◌, ◌*◌, ◌≤◌, ◌<◌}
 use native.Mathlib.Omega.{arith}
 use borrow.Author.Tests.{leb-true, ltb-true, ltb-false, eqb-true, eqb-false}
@@ -15,12 +15,11 @@ use lib.Dec.{leb, ltb, eqb}
 use lib.ListN.{length, drop, length-replicate}
 use Rattle.definition.specs.Basics.{Bytes, pick}
 use Rattle.definition.specs.Decoding.{Instruction, decode, instructions, malformed_at}
-use Rattle.definition.specs.Classes.{Class, IF, NOTIF, ELSE, ENDIF, RETURN, ordinary, plain, Ordinary, unmodelled, push, nothing, TOALT, FROMALT, DEPTH, SIZE, NIP, TUCK, PICK, ROLL, ZK, copies, rotates}
+use Rattle.definition.specs.Classes.{Class, IF, NOTIF, ELSE, ENDIF, RETURN, ordinary, plain, unmodelled, push, nothing, TOALT, FROMALT, DEPTH, SIZE, NIP, TUCK, PICK, ROLL, ZK, copies, rotates}
 use Rattle.definition.specs.Refusals.{max_fragment, max_element, max_paper, long_fragment, long_element, start_too_large, short_log, long_paper, bad_header, dispatch_too_large}
 use Rattle.definition.specs.Stacks.{Rules, Stacks, refused, total, push_item, step}
-use Rattle.definition.specs.Walk.{Item, known, marking, Arm, dead, live, Frame, Move, moves, refuses, on_outcome, effect, State, met, onward, WalkEnd, passed, stopped, follow, walk, Marked, refused_early, answered, begin, tested, analysis_of, unknowns, analysis}
+use Rattle.definition.specs.Walk.{Item, known, Arm, dead, live, Frame, Move, moves, refuses, on_outcome, effect, State, met, onward, WalkEnd, passed, stopped, follow, walk, Marked, refused_early, answered, begin, tested, analysis_of, unknowns, analysis}
 use Rattle.definition.specs.Papers.{Entry, state_fields, entries, good_header, Fragment, fragments, PaperMarked, refused_paper, mark_from, dispatch, mark_paper, after}
-use Rattle.definition_rules.specs.Maps.{rules_of, analysis_with, mark_paper_with}
 use Rattle.definition_rules.specs.Examined.{plain_at, examined_at, LongPushAt, ReachesLong, SomeReachesLong, ExaminedAs, Examining}
 use Rattle.definition.proofs.Arms.{Alive, arm_at, goes_on_lem}
 use Rattle.definition.proofs.Arms as Arms

@@ -71,17 +71,19 @@ no_return_marked = (refl, (refl, refl))
 
 -- Limits
 
--- a fragment at limit 1: 51 has room, a second one has not
+-- a fragment at limit 1: 51 has room, a second one has not; two items are too many to start from
 pub limit_one : ((analysis_with built_in_map (at 1) (0x51 ∷ []) 0 0 (replicate 6 0)).verdict.answer ≡ accepted)
-    × ((analysis_with built_in_map (at 1) (0x51 ∷ 0x51 ∷ []) 0 0 (replicate 6 0)).verdict.answer ≡ answer 6 1 2 1)
+    × (((analysis_with built_in_map (at 1) (0x51 ∷ 0x51 ∷ []) 0 0 (replicate 6 0)).verdict.answer ≡ answer 6 1 2 1)
+    × ((analysis_with built_in_map (at 1) [] 1 1 []).verdict.answer ≡ answer 2 0 2 1))
 unfolding analysis_with good_map built_in_map analysis analysis_of walk log_row join_stacks step plain_step push_item drop_items copy_items class_of class_number decode front serialize deserialize
-limit_one = (refl, refl)
+limit_one = (refl, (refl, refl))
 
--- the paper of Section 6 has a peak of 2 and a dispatch sum of 5: refused, 20 at entry 0, at limit 1 (and at 4, `sample_at_four` of
--- the crate definition) ..
-pub sample_refused : (mark_paper_with built_in_map (at 1) sample_paper (replicate 20 9)).paper.verdict.answer ≡ answer 20 0 5 1
+-- the paper of Section 6 has a peak of 2 and a dispatch sum of 5: refused, 20 at entry 0, at limits 1 and 4 ..
+pub sample_refused : ((mark_paper_with built_in_map (at 1) sample_paper (replicate 20 9)).paper.verdict.answer ≡ answer 20 0 5 1)
+    × (mark_paper_with built_in_map (at 4) sample_paper (replicate 20 9)
+    ≡ record { paper = record { entry = 0; verdict = record { answer = answer 20 0 5 4; rows = 0; peak = 0; end = dead } }; verdicts = []; log = replicate 20 9 })
 unfolding sample_paper mark_paper_with good_map built_in_map good_header fragments mark_from dispatch mark_paper analysis analysis_of walk log_row join_stacks step plain_step push_item drop_items copy_items class_of class_number decode front serialize deserialize
-sample_refused = refl
+sample_refused = (refl, refl)
 
 -- .. and accepted at 5, with the rows that it has at 244
 pub sample_accepted : mark_paper_with built_in_map (at 5) sample_paper (replicate 20 9)

@@ -7,7 +7,7 @@ use borrow.Author.Tests.{lt-ltb, le-ltb}
 use lib.Dec.{ltb}
 use lib.ListN.{length}
 use Rattle.definition.specs.Basics.{Bytes, pick}
-use Rattle.definition.specs.Decoding.{decode, instructions, malformed_at}
+use Rattle.definition.specs.Decoding.{instructions, malformed_at}
 use Rattle.definition.specs.Papers.{operations, limits_of, limit_check}
 use Rattle.definition.specs.Refusals.{Answer, answer, accepted}
 use Rattle.decode.specs.View.{decoded_at, code_at}

@@ -2,12 +2,12 @@
 use mathlib.Core.Bool.{Bool, true, false}
 use mathlib.Core.List.{List, [], ◌∷◌, ◌++◌, append_assoc, append-nil}
 use mathlib.Core.Path.{◌≡◌, refl, sym, ap, subst, ◌∙◌}
-use Prim.Native.Nat.{ℕ, zero, suc, ◌+◌, ◌*◌, ◌≤◌, ◌<◌, max}
+use Prim.Native.Nat.{ℕ, ◌+◌, ◌*◌, ◌≤◌, ◌<◌, max}
 use native.Mathlib.Omega.{arith}
 use borrow.Author.Tests.{lt-ltb, le-ltb, ne_eqb}
-use lib.ListN.{length, take, drop, drop_of_length-le}
+use lib.ListN.{length, drop, drop_of_length-le}
 use Rattle.definition.specs.Basics.{Bytes}
-use Rattle.definition.specs.Lines.{text, labelled, name, ending, line, lines, refused_line, last_line, lines_of}
+use Rattle.definition.specs.Lines.{text, labelled, name, ending, line, lines, refused_line, last_line}
 use Rattle.definition.specs.Papers.{fragments, entry_count, PaperMarked, mark_from}
 use Rattle.definition.specs.Papers as P
 use Rattle.definition.specs.Refusals.{answer}

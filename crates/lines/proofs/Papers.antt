@@ -1,12 +1,12 @@
 -- Laws of the lines of a whole paper, and of the bytes that hold them.
 use mathlib.Core.Bool.{Bool, true, false, ◌&&◌, not}
-use mathlib.Core.List.{List, [], ◌∷◌, ◌++◌}
+use mathlib.Core.List.{List, ◌∷◌, ◌++◌}
 use mathlib.Core.Path.{◌≡◌, refl, sym, ap, subst, ◌∙◌}
-use Prim.Native.Nat.{ℕ, zero, suc, ◌+◌, ◌-◌, ◌*◌, ◌≤◌, ◌<◌}
+use Prim.Native.Nat.{ℕ, zero, suc, ◌+◌, ◌-◌, ◌≤◌, ◌<◌}
 use native.Mathlib.Omega.{arith}
 use borrow.Author.Tests.{lt-ltb, le-ltb, eqb-true, eqb-false, leb-true, ne_eqb, not-true, not-false}
 use lib.Dec.{leb, eqb}
-use lib.ListN.{length, take, drop, replicate, length-append, length-drop, length-replicate}
+use lib.ListN.{length, drop, replicate, length-append, length-drop, length-replicate}
 use lib.Seq.{length-take-le}
 use Rattle.definition.specs.Basics.{Bytes}
 use Rattle.definition.specs.Lines.{refused_line, last_line, lines_of}
@@ -23,7 +23,6 @@ use Rattle.header.specs.declared.Dispatch.TheVariants.{Fits, Over}
 use Rattle.header.proofs.Fragments.{count-without, count-with}
 use Rattle.text.specs.View.{Written}
 use Rattle.lines.specs.View.{Prints, lines_in, Within}
-use Rattle.lines.specs.declared.Lines.{Lines}
 use Rattle.lines.specs.declared.Told.{Told}
 
 -- How many fragments

@@ -20,7 +20,6 @@ use Rattle.paper.specs.Parts.{Marks}
 use Rattle.paper.proofs.Markings.{Marking, marking-none, marking-more, onto, told}
 use Rattle.log_lines.specs.declared.Told.{Told}
 use Rattle.log_lines.specs.Log.{told_of}
-use Rattle.log_lines.specs.Log as L
 use Rattle.log_marks.specs.Marks.{all_told, rows_of, refused_told}
 use Rattle.log_marks.specs.View.{numbers_of, Holds}
 use Rattle.log_marks.proofs.Few.{analysis-few}

@@ -1,6 +1,6 @@
 -- Laws of judging a map, row by row.
 use mathlib.Core.Bool.{Bool, true, false, ◌&&◌, not}
-use mathlib.Core.List.{List, [], ◌∷◌}
+use mathlib.Core.List.{List, []}
 use mathlib.Core.Path.{◌≡◌, refl, sym, ap, subst, ◌∙◌}
 use Prim.Native.Nat.{ℕ, suc, ◌+◌, ◌-◌, ◌≤◌, ◌<◌}
 use native.Mathlib.Omega.{arith}
@@ -8,9 +8,9 @@ use borrow.Author.Tests.{le-leb, lt-leb, eqb-true, eq-eqb, ne_eqb}
 use lib.Dec.{T, leb, eqb}
 use lib.ListN.{length, take, drop, get_or, drop_of_length-le, length-drop}
 use lib.Seq.{drop-cons, length-take-le}
-use Rattle.definition.specs.Basics.{Bytes, pick}
+use Rattle.definition.specs.Basics.{Bytes}
 use Rattle.definition.specs.Classes.{class_number}
-use Rattle.definition_rules.specs.Maps.{row_count, first_row, rows_of, good_row, good_rows, good_map, good_limit}
+use Rattle.definition_rules.specs.Maps.{row_count, first_row, good_row, good_rows, good_map, good_limit}
 use Rattle.opcodes.proofs.Classes.{number-below}
 use Rattle.opcodes.proofs.Every.{every, tabled}
 use Rattle.maps.specs.View.{Numbers, JudgedUpTo}

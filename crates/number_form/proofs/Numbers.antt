@@ -1,5 +1,5 @@
 -- The number form: a number as a value, and a value read as an index.
-use mathlib.Core.Bool.{Bool, true, false, ◌||◌, not, or-true, or-false}
+use mathlib.Core.Bool.{Bool, true, false, ◌||◌, or-true, or-false}
 use mathlib.Core.Path.{◌≡◌, refl, sym, ap, subst⁻¹, ◌∙◌}
 use mathlib.Core.List.{[], ◌∷◌}
 use mathlib.Core.Option.{none, some}

@@ -5,15 +5,15 @@ use Rattle.definition_rules.specs.Maps.{built_in_options, rules_by}
 use lib.ListN.{length, get_or, get_or-eq_default}
 use mathlib.Core.Bool.{Bool, true, false, ◌&&◌}
 use mathlib.Core.List.{List, [], ◌∷◌}
-use mathlib.Core.Path.{◌≡◌, refl, sym, ap, ◌∙◌, subst}
-use Prim.Native.Nat.{ℕ, ◌-◌, ◌≤◌, ◌<◌}
+use mathlib.Core.Path.{◌≡◌, refl, sym, ◌∙◌, subst}
+use Prim.Native.Nat.{ℕ, ◌≤◌, ◌<◌}
 use native.Mathlib.Omega.{arith}
 use lib.Dec.{T, leb, ltb, ltb→lt, eqb, leb→le, nltb→le}
 use mir.Facts.{and_yes}
 use Rattle.definition.specs.Basics.{pick}
-use Rattle.definition.specs.Classes.{class_at, Range, range, ranges, number_in, class_number, class_of, ordinary, unmodelled}
+use Rattle.definition.specs.Classes.{class_at, Range, range, ranges, number_in, class_number, class_of}
 use Rattle.opcodes.proofs.Every.{every, tabled}
-use Rattle.opcodes.proofs.Match.{Rest, gives, below, ranged}
+use Rattle.opcodes.proofs.Match.{below, ranged}
 
 -- the class numbers of the ranges, and unmodelled's, are below n
 abbrev all_below : ℕ → List Range → Bool

@@ -9,7 +9,7 @@ use borrow.Author.Tests.{le-leb, lt-leb}
 use lib.ListN.{get_or}
 use Rattle.definition.specs.Stacks as S
 use Rattle.definition.specs.Stacks.{move_to_alt, move_from_alt}
-use Rattle.definition.specs.Walk.{Item, unknown}
+use Rattle.definition.specs.Walk.{Item}
 use Rattle.slots.specs.View.{slots, cells, backs, tops, Sound}
 use Rattle.slots.specs.Parts.{Suffice, apart, Copied}
 use Rattle.slots.proofs.Codes.{item-none}

@@ -11,7 +11,6 @@ use lib.ListN.{length, take, drop, get_or, set, length-set}
 use lib.Seq.{set-get_or, drop_at, get_or-set_same, get_or-set_other}
 use Rattle.definition.specs.Classes.{Ordinary}
 use Rattle.definition.specs.Decoding.{Instruction}
-use Rattle.definition.specs.Refusals as D
 use Rattle.definition.specs.Stacks as S
 use Rattle.definition.specs.Stacks.{push_item, drop_items, copy_items, rotate_items, tuck_top, nip_second, plain_step}
 use Rattle.definition.specs.Walk.{Item, unknown, marking}

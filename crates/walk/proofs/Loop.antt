@@ -1,16 +1,16 @@
 -- The loop over plain instructions.
 use mathlib.Core.Bool.{Bool, true, false, ◌&&◌}
-use mathlib.Core.List.{List, [], ◌∷◌, ◌++◌}
-use mathlib.Core.Logic.{◌⊎◌, ⊎_elim}
+use mathlib.Core.List.{List, [], ◌∷◌}
+use mathlib.Core.Logic.{⊎_elim}
 use mathlib.Core.Path.{◌≡◌, refl, sym, ap, ◌∙◌, subst}
-use Prim.Native.Nat.{ℕ, suc, ◌+◌, ◌*◌, ◌-◌, ◌≤◌, ◌<◌, max}
+use Prim.Native.Nat.{ℕ, ◌+◌, ◌*◌, ◌-◌, ◌≤◌, ◌<◌, max}
 use native.Mathlib.Omega.{arith}
-use lib.Dec.{T, ltb}
-use lib.ListN.{length, set}
-use Rattle.definition.specs.Basics.{Bytes, pick}
+use lib.Dec.{ltb}
+use lib.ListN.{length}
+use Rattle.definition.specs.Basics.{Bytes}
 use Rattle.definition.specs.Decoding.{instructions}
 use Rattle.definition.specs.Decoding as Decoding
-use Rattle.definition.specs.Classes.{Class, IF, NOTIF, ELSE, ENDIF, RETURN, Ordinary, ordinary, unmodelled, push, nothing, TOALT, FROMALT, NIP, TUCK, ROLL, copies, rotates, plain, class_number, class_at}
+use Rattle.definition.specs.Classes.{Class, Ordinary, ordinary, unmodelled, push, nothing, TOALT, FROMALT, NIP, TUCK, ROLL, copies, rotates, plain, class_at}
 use Rattle.definition.specs.Refusals.{max_element}
 use Rattle.definition.specs.Replay.{AreBytes}
 use Rattle.definition.specs.Stacks.{Rules, step, push_item, copy_items, rotate_items, tuck_top, nip_second, move_to_alt, move_from_alt, pop_index, plain_step}
@@ -23,8 +23,7 @@ use Rattle.decode.specs.declared.Decoded.TheVariants as D
 use Rattle.decode.specs.View.{code_at, decoded_at, data_start, item_of}
 use Rattle.decode.proofs.Codes.{InstructionAt, code-ends, code-malformed}
 use Rattle.decode.specs.declared.Instruction.{Instruction}
-use Rattle.opcodes.proofs.Every.{every}
-use Rattle.opcodes.proofs.Match.{Rest, gives, below}
+use Rattle.opcodes.proofs.Match.{Rest, below}
 use Rattle.decode.specs.declared.Value.TheVariants.{Unknown, Exact}
 use Rattle.stack.specs.View.{view, Fit, Says, Steps}
 use Rattle.stack.specs.declared.Stacks.{Stacks}

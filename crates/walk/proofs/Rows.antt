@@ -1,10 +1,9 @@
 -- The peak and the log.
 use mathlib.Core.Bool.{Bool, true, false, not}
 use mathlib.Core.List.{List}
-use mathlib.Core.Path.{◌≡◌, refl, sym, ap, ◌∙◌}
-use Prim.Native.Nat.{ℕ, ◌+◌, ◌*◌, ◌≤◌, ◌<◌, max}
-use native.Mathlib.Omega.{arith}
-use lib.ListN.{length, set}
+use mathlib.Core.Path.{◌≡◌, refl, ◌∙◌}
+use Prim.Native.Nat.{ℕ, ◌+◌, ◌*◌, max}
+use lib.ListN.{set}
 use Rattle.definition.specs.Basics.{pick}
 use Rattle.definition.specs.Walk.{dead, total_of, log_row}
 use Rattle.definition.proofs.Arms.{main_height, alt_height, row-stores}

@@ -1,8 +1,8 @@
 -- One instruction of the walk.
 use mathlib.Core.Bool.{Bool, true, false}
 use mathlib.Core.List.{List, [], ◌∷◌}
-use mathlib.Core.Path.{◌≡◌, refl, sym, ap, ◌∙◌}
-use Prim.Native.Nat.{ℕ, suc, ◌+◌, ◌≤◌, ◌<◌, max}
+use mathlib.Core.Path.{◌≡◌, refl, ap, ◌∙◌}
+use Prim.Native.Nat.{ℕ, ◌+◌, ◌≤◌, max}
 use native.Mathlib.Omega.{arith}
 use lib.ListN.{length}
 use Rattle.definition.specs.Basics.{Bytes}
@@ -10,7 +10,7 @@ use Rattle.definition.specs.Decoding.{instructions, Code}
 use Rattle.definition.specs.Decoding as D
 use Rattle.definition.specs.Classes.{Class, IF, NOTIF, ELSE, ENDIF, RETURN}
 use Rattle.definition.specs.Stacks.{Rules, Outcome}
-use Rattle.definition.specs.Walk.{Item, marking, Arm, dead, live, Frame, Move, moves, refuses, on_outcome, effect, State, met, log_row, total_of, WalkEnd, follow, at_end, walk, answered}
+use Rattle.definition.specs.Walk.{Item, dead, live, Frame, moves, on_outcome, effect, State, met, log_row, total_of, follow, at_end, walk, answered}
 use Rattle.decode.specs.View.{code_at}
 use Rattle.decode.proofs.Codes.{InstructionAt}
 use Rattle.decode.specs.declared.Instruction.{Instruction}
@@ -21,7 +21,7 @@ use Rattle.stack.specs.declared.Answer.{Answer}
 use Rattle.stack.specs.declared.Answer.TheVariants as A
 use Rattle.walk.specs.Runs.{arm, state_of, from, resume, resume_by, Goes, Any, stop_of}
 use Rattle.walk.specs.declared.Stop.{Stop}
-use Rattle.walk.specs.declared.Stop.TheVariants.{Running, End, Conditional, Else, Endif, Refused}
+use Rattle.walk.specs.declared.Stop.TheVariants.{Running, End, Conditional, Else, Endif}
 use Rattle.walk.specs.declared.Walk.{Walk}
 
 -- w past the instruction i

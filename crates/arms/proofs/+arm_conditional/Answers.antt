@@ -1,5 +1,5 @@
 use borrow.Enum.Refused.{opened}
-use Rattle.std.proofs.Common.{◌∙◌, arith, rules}
+use Rattle.std.proofs.Common.{arith}
 use Rattle.definition.specs.Stacks.{built_in}
 use Rattle.arms.proofs.Cycle.{ready_on, ready-there, one_deeper, not_entered, one_arm, two-arms, closed-running, not-else}
 use Rattle.arms.proofs.+arm_conditional.Goals as goal
@@ -10,8 +10,7 @@ conditional-returns-in-Refused t c = not_entered c.requires.ready.0 (c.enter-v.e
 pub conditional-arm-first-requires : goal.conditional-arm-first-requires
 conditional-arm-first-requires t c =
     let e = c.enter-v.ensures built_in c.args.code.now in
-    let run = closed-running _ e.closed (opened c.in_default.in_default-own.keys2) in
-    (
+    let run = closed-running _ e.closed (opened c.in_default.in_default-own.keys2) in (
       omega (arith, c.decreases, e.place.at),
       ((ready-there c.requires.ready.0 e.fit e.place, run), (c.requires.class_rows.0, c.requires.class_rows.1, one_deeper c.requires.ready.0 e run)),
     )
@@ -21,8 +20,7 @@ conditional-arm-v-requires t c =
     let e = c.enter-v.ensures built_in c.args.code.now in
     let f = c.arm-first in
     let run = closed-running _ e.closed (opened c.in_default.in_default-own.keys2) in
-    let r = ready_on (ready-there c.requires.ready.0 e.fit e.place) f.ensures.goes f.auto.log in
-    (
+    let r = ready_on (ready-there c.requires.ready.0 e.fit e.place) f.ensures.goes f.auto.log in (
       omega (arith, c.decreases, e.place.at, f.ensures.goes.low),
       ((record { fit = search (e.fit, f.ensures.goes.fit); high = r.high; short = r.short; room = r.room }, run), (c.requires.class_rows.0, c.requires.class_rows.1, one_deeper c.requires.ready.0 e run)),
     )

@@ -1,4 +1,4 @@
-use Rattle.std.proofs.Common.{ℕ, ◌+◌, ◌-◌, ◌*◌, length}
+use Rattle.std.proofs.Common.{◌+◌, ◌-◌, ◌*◌, length}
 use Rattle.definition_rules.specs.Maps.{rules_by}
 use Rattle.walk.specs.Runs.{options_of}
 use Rattle.arms.proofs.Cycle.{Arming, left_in}

@@ -2,8 +2,6 @@ use mathlib.Core.Bool.{not}
 use mathlib.Core.Path.{ap}
 use Rattle.walk.proofs.Rows.{not_live, is_live}
 use Rattle.arms.proofs.Conditionals.{closes-other-dead, closes-dead, closes-both}
-use borrow.Author.Rules.{rules}
-use native.Mathlib.Omega.{arith}
 use Rattle.arms.proofs.close.Goals as goal
 
 pub returns-then-not-alive : goal.returns-then-not-alive

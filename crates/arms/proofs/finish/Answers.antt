@@ -1,6 +1,4 @@
 use Rattle.arms.proofs.Conditionals.{finished-endif, finished-else, finished_open, finished-refused, not-running, not-conditional}
-use borrow.Author.Rules.{rules}
-use native.Mathlib.Omega.{arith}
 use Rattle.arms.proofs.finish.Goals as goal
 
 pub returns-in-Endif : goal.returns-in-Endif

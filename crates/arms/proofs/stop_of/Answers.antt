@@ -1,6 +1,4 @@
 use Rattle.arms.proofs.Conditionals.{stop-done, stop-refused}
-use borrow.Author.Rules.{rules}
-use native.Mathlib.Omega.{arith}
 use Rattle.arms.proofs.stop_of.Goals as goal
 
 pub returns-in-Done : goal.returns-in-Done

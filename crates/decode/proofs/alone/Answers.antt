@@ -1,5 +1,4 @@
 use native.Mathlib.Omega.{arith}
-use borrow.Author.Rules.{rules}
 use Rattle.decode.proofs.Fronts.{alone-4f, alone-below, alone-above, alone-small}
 use Rattle.decode.proofs.alone.Goals as goal
 

@@ -1,8 +1,7 @@
 use Prim.Native.Nat.{◌+◌, ◌-◌, ◌*◌, ◌^◌, ◌<◌}
 use native.Mathlib.Omega.{arith}
-use borrow.Author.Rules.{rules}
 use Rattle.decode.proofs.Bytes.{slice-bytes}
-use Rattle.decode.proofs.Fronts.{Reading, reading-none, reading-more, reading-all, reading-fits}
+use Rattle.decode.proofs.Fronts.{reading-none, reading-more, reading-all, reading-fits}
 use Rattle.decode.proofs.number.Goals as goal
 use Rattle.decode.proofs.number.Goals.{After-wide}
 

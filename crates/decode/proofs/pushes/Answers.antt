@@ -1,5 +1,4 @@
 use native.Mathlib.Omega.{arith}
-use borrow.Author.Rules.{rules}
 use Rattle.decode.proofs.Fronts.{pushes-short, pushes-long, pushes-exact}
 use Rattle.decode.proofs.pushes.Goals as goal
 

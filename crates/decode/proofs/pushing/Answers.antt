@@ -1,4 +1,3 @@
-use borrow.Author.Rules.{rules}
 use Rattle.decode.proofs.Fronts.{at-pushes, at-sized, front-4c, front-4d, front-4e}
 use Rattle.decode.proofs.pushing.Goals as goal
 

@@ -1,5 +1,4 @@
 use native.Mathlib.Omega.{arith}
-use borrow.Author.Rules.{rules}
 use Rattle.decode.proofs.Fronts.{sized-short, sized-data}
 use Rattle.decode.proofs.sized.Goals as goal
 

@@ -1,4 +1,3 @@
-use borrow.Author.Rules.{rules}
 use Rattle.decode.proofs.Behind.{examined-test}
 use Rattle.decode.proofs.too_long.Goals as goal
 

@@ -1,5 +1,4 @@
 use Rattle.ends.proofs.Packing.{length-unknown, length-exact}
-use borrow.Author.Rules.{rules}
 use Rattle.ends.proofs.end_length.Goals as goal
 
 pub returns-then-code-eq9 : goal.returns-then-code-eq9

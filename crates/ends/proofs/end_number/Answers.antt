@@ -1,6 +1,5 @@
 use mathlib.Core.Path.{sym, ◌∙◌}
 use Rattle.ends.proofs.Packing.{number-byte, number-none, number-whole}
-use borrow.Author.Rules.{rules}
 use Rattle.ends.proofs.end_number.Goals as goal
 
 pub returns-then-code-gt9 : goal.returns-then-code-gt9

@@ -1,5 +1,4 @@
 use Rattle.ends.proofs.Packing.{slot-main, slot-alt}
-use borrow.Author.Rules.{rules}
 use Rattle.ends.proofs.end_slot.Goals as goal
 
 pub returns-then-k-mains : goal.returns-then-k-mains

@@ -1,7 +1,5 @@
-use Rattle.definition.specs.Papers.{part_at}
-use Rattle.good_header.proofs.Headers.{Comparing, comparing-all, comparing-more, comparing-shared, comparing-none}
+use Rattle.good_header.proofs.Headers.{comparing-all, comparing-more, comparing-shared, comparing-none}
 use borrow.Author.Rules.{rules}
-use native.Mathlib.Omega.{arith}
 use Rattle.good_header.proofs.apart_from.Goals as goal
 
 pub loop-left-init : goal.loop-left-init

@@ -1,7 +1,5 @@
 use Rattle.definition.specs.Papers.{part_at}
-use Rattle.good_header.proofs.Headers.{Comparing, comparing-all, comparing-more, comparing-shared, comparing-none}
-use borrow.Author.Rules.{rules}
-use native.Mathlib.Omega.{arith}
+use Rattle.good_header.proofs.Headers.{Comparing}
 use Rattle.good_header.proofs.apart_from.Given as goal
 
 abbrev pub invariant-loop-left : goal.invariant-loop-left

@@ -1,6 +1,5 @@
 use Rattle.good_header.proofs.Headers.{header-short, header-none, header-many, header-cut, header-parts}
 use borrow.Author.Rules.{rules}
-use native.Mathlib.Omega.{arith}
 use Rattle.good_header.proofs.header_ok.Goals as goal
 
 pub returns-then-paper-lt8 : goal.returns-then-paper-lt8

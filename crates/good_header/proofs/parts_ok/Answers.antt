@@ -1,8 +1,7 @@
 use mathlib.Core.Bool.{not}
 use mathlib.Core.Path.{ap}
-use Rattle.good_header.proofs.Headers.{Testing, testing-all, testing-more, testing-outside, testing-shared, testing-none}
+use Rattle.good_header.proofs.Headers.{testing-all, testing-more, testing-outside, testing-shared, testing-none}
 use borrow.Author.Rules.{rules}
-use native.Mathlib.Omega.{arith}
 use Rattle.good_header.proofs.parts_ok.Goals as goal
 
 pub loop-left-init : goal.loop-left-init

@@ -1,6 +1,4 @@
-use Rattle.good_header.proofs.Headers.{Testing, testing-all, testing-more, testing-outside, testing-shared, testing-none}
-use borrow.Author.Rules.{rules}
-use native.Mathlib.Omega.{arith}
+use Rattle.good_header.proofs.Headers.{Testing}
 use Rattle.good_header.proofs.parts_ok.Given as goal
 
 abbrev pub invariant-loop-left : goal.invariant-loop-left

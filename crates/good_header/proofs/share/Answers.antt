@@ -1,6 +1,5 @@
 use Rattle.good_header.proofs.Headers.{share-so}
 use borrow.Author.Rules.{rules}
-use native.Mathlib.Omega.{arith}
 use Rattle.good_header.proofs.share.Goals as goal
 
 pub returns : goal.returns

@@ -1,6 +1,5 @@
 use Rattle.good_header.proofs.Headers.{within-not, within-so}
 use borrow.Author.Rules.{rules}
-use native.Mathlib.Omega.{arith}
 use Rattle.good_header.proofs.within.Goals as goal
 
 pub returns-then-offset-header : goal.returns-then-offset-header

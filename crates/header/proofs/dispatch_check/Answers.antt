@@ -1,7 +1,4 @@
-use Prim.Native.Nat.{◌-◌}
-use Rattle.header.proofs.Entries.{Dispatching, dispatching-all, dispatching-more, dispatching-over, dispatching-none}
-use borrow.Author.Rules.{rules}
-use native.Mathlib.Omega.{arith}
+use Rattle.header.proofs.Entries.{dispatching-all, dispatching-more, dispatching-over, dispatching-none}
 use Rattle.header.proofs.dispatch_check.Goals as goal
 
 pub loop-k-init : goal.loop-k-init

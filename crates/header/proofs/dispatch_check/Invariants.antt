@@ -1,7 +1,5 @@
 use Prim.Native.Nat.{◌-◌}
-use Rattle.header.proofs.Entries.{Dispatching, dispatching-all, dispatching-more, dispatching-over, dispatching-none}
-use borrow.Author.Rules.{rules}
-use native.Mathlib.Omega.{arith}
+use Rattle.header.proofs.Entries.{Dispatching}
 use Rattle.header.proofs.dispatch_check.Given as goal
 
 abbrev pub invariant-loop-k : goal.invariant-loop-k

@@ -1,6 +1,4 @@
 use Rattle.header.proofs.Fragments.{count-without, count-with}
-use borrow.Author.Rules.{rules}
-use native.Mathlib.Omega.{arith}
 use Rattle.header.proofs.fragment_count.Goals as goal
 
 pub returns-then-field-eq0 : goal.returns-then-field-eq0

@@ -1,7 +1,5 @@
-use Prim.Native.Nat.{◌-◌}
-use Rattle.header.proofs.Entries.{Greatest, greatest-all, greatest-more, greatest-none}
+use Rattle.header.proofs.Entries.{greatest-all, greatest-more, greatest-none}
 use borrow.Author.Rules.{rules}
-use native.Mathlib.Omega.{arith}
 use Rattle.header.proofs.most_parameters.Goals as goal
 
 pub loop-k-init : goal.loop-k-init

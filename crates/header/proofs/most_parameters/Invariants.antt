@@ -1,7 +1,5 @@
 use Prim.Native.Nat.{◌-◌}
-use Rattle.header.proofs.Entries.{Greatest, greatest-all, greatest-more, greatest-none}
-use borrow.Author.Rules.{rules}
-use native.Mathlib.Omega.{arith}
+use Rattle.header.proofs.Entries.{Greatest}
 use Rattle.header.proofs.most_parameters.Given as goal
 
 abbrev pub invariant-loop-k : goal.invariant-loop-k

@@ -1,6 +1,5 @@
 use Rattle.lines.proofs.Papers.{lines-held, lines-within, lines-ruled}
 use Rattle.definition.specs.Lines.{printed}
-use borrow.Author.Rules.{rules}
 use native.Mathlib.Omega.{arith}
 use Rattle.stack_analysis.proofs.Entries.{built-in-rules}
 use Rattle.lines.proofs.mark_lines.Goals as goal

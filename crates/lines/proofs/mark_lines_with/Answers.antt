@@ -1,5 +1,4 @@
 use Rattle.lines.proofs.Papers.{lines-held, lines-within}
-use borrow.Author.Rules.{rules}
 use Rattle.definition_rules.specs.Maps.{printed_with}
 use Rattle.lines.proofs.mark_lines_with.Goals as goal
 

@@ -1,6 +1,5 @@
 use Rattle.lines.proofs.Fragments.{end_live, end-dead}
 use native.Mathlib.Omega.{arith}
-use borrow.Author.Rules.{rules}
 use Rattle.lines.proofs.write_end.Goals as goal
 
 pub returns-then-ended-clause-same : goal.returns-then-ended-clause-same

@@ -1,13 +1,12 @@
 use lib.ListN.{length}
-use Prim.Native.Nat.{◌*◌, ◌-◌, ◌<◌}
+use Prim.Native.Nat.{◌*◌, ◌<◌}
 use Rattle.definition.specs.Papers.{fragments}
 use Rattle.definition_rules.specs.Maps.{rules_by}
 use Rattle.walk.specs.Runs.{options_of}
 use Rattle.paper.specs.View.{fragment_analysis}
 use Rattle.paper.specs.Parts.{Marks}
 use Rattle.paper.proofs.Fragments.{fragment-marks}
-use Rattle.lines.proofs.Fragments.{Printing, printing-none, printing-more, printing-stops, printing-end}
-use borrow.Author.Rules.{rules}
+use Rattle.lines.proofs.Fragments.{printing-none, printing-more, printing-stops, printing-end}
 use native.Mathlib.Omega.{arith}
 use Rattle.lines.proofs.write_fragments.Goals as goal
 use Rattle.lines.proofs.write_fragments.Goals.{After-mark_fragment_rows-v}

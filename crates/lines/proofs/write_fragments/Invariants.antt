@@ -1,14 +1,7 @@
-use lib.ListN.{length}
-use Prim.Native.Nat.{◌*◌, ◌-◌, ◌<◌}
-use Rattle.definition.specs.Papers.{fragments}
+use Prim.Native.Nat.{◌-◌}
 use Rattle.definition_rules.specs.Maps.{rules_by}
 use Rattle.walk.specs.Runs.{options_of}
-use Rattle.paper.specs.View.{fragment_analysis}
-use Rattle.paper.specs.Parts.{Marks}
-use Rattle.paper.proofs.Fragments.{fragment-marks}
-use Rattle.lines.proofs.Fragments.{Printing, printing-none, printing-more, printing-stops, printing-end}
-use borrow.Author.Rules.{rules}
-use native.Mathlib.Omega.{arith}
+use Rattle.lines.proofs.Fragments.{Printing}
 use Rattle.lines.proofs.write_fragments.Given as goal
 
 abbrev pub invariant-loop-k : goal.invariant-loop-k

@@ -1,6 +1,5 @@
 use Rattle.text.proofs.Texts.{then-written}
 use native.Mathlib.Omega.{arith}
-use borrow.Author.Rules.{rules}
 use Rattle.lines.proofs.write_line.Goals as goal
 
 pub returns-clause-same : goal.returns-clause-same

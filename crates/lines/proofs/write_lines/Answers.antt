@@ -2,7 +2,6 @@ use mathlib.Core.Bool.{not}
 use mathlib.Core.Path.{ap}
 use Rattle.lines.proofs.Papers.{few-fragments, lines_long, lines-bad, lines-over, lines-marked}
 use native.Mathlib.Omega.{arith}
-use borrow.Author.Rules.{rules}
 use Rattle.lines.proofs.write_lines.Goals as goal
 
 pub returns-then-paper-gt8000 : goal.returns-then-paper-gt8000

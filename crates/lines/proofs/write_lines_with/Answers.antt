@@ -1,6 +1,5 @@
 use mathlib.Core.Bool.{true}
 use mathlib.Core.Path.{◌≡◌}
-use borrow.Author.Rules.{rules}
 use native.Mathlib.Omega.{arith}
 use Rattle.definition_rules.specs.Maps.{good_map, good_limit}
 use Rattle.definition_rules.proofs.UnderEveryMap.{limit-within}

@@ -1,6 +1,5 @@
 use Rattle.lines.proofs.Fragments.{name-entry, name-state}
 use native.Mathlib.Omega.{arith}
-use borrow.Author.Rules.{rules}
 use Rattle.lines.proofs.write_name.Goals as goal
 
 pub returns-then-k-entries-clause-same : goal.returns-then-k-entries-clause-same

@@ -1,6 +1,5 @@
 use native.Mathlib.Omega.{arith}
 use Rattle.log_blocks.proofs.Puts.{put_written_lem, put-out, put-counted}
-use borrow.Author.Rules.{rules}
 use Rattle.log_blocks.proofs.put.Goals as goal
 
 pub returns-then-next-text-clause-same : goal.returns-then-next-text-clause-same

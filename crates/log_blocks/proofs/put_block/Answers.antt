@@ -7,14 +7,16 @@ use Rattle.definition.specs.Basics.{Bytes}
 use Rattle.log_rows.specs.Rows.{rows}
 use Rattle.log_lines.specs.Log.{start, verdict_line}
 use Rattle.log_blocks.specs.Blocks.{block}
-use borrow.Author.Rules.{rules}
 use Rattle.log_blocks.proofs.put_block.Goals as goal
 
 pub returns : goal.returns
 unfolding block
 returns c = let x = c.args in
-    record { same = λ options.
+    record {
+      same = λ options.
           put_as
           (ap (λ (l : Bytes). start x.paper.now x.k ++ rows (rules_by x.classes.now options) l x.log.now x.t.peak x.from x.t.rows
           ++ verdict_line (rules_by x.classes.now options) l x.log.now x.from x.t) c.fragment_bytes-fragment.ensures)
-          (then-put (then-put c.put_start-a.ensures.same (c.put_table-b.ensures.same options)) (c.put_verdict.ensures.same options)); near = omega (arith, c.put_start-a.ensures.near, c.put_table-b.ensures.near, c.put_verdict.ensures.near) }
+          (then-put (then-put c.put_start-a.ensures.same (c.put_table-b.ensures.same options)) (c.put_verdict.ensures.same options));
+      near = omega (arith, c.put_start-a.ensures.near, c.put_table-b.ensures.near, c.put_verdict.ensures.near);
+    }

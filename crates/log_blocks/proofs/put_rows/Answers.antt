@@ -1,8 +1,6 @@
-use Prim.Native.Nat.{◌-◌}
 use native.Mathlib.Omega.{arith}
-use borrow.Author.Rules.{rules}
 use Rattle.definition_rules.specs.Maps.{built_in_options}
-use Rattle.log_blocks.proofs.Rows.{Rowing, rowing-none, rowing_more, rowing-end, row_within}
+use Rattle.log_blocks.proofs.Rows.{rowing-none, rowing_more, rowing-end, row_within}
 use Rattle.log_blocks.proofs.put_rows.Goals as goal
 
 pub loop-j-init : goal.loop-j-init

@@ -1,8 +1,5 @@
 use Prim.Native.Nat.{◌-◌}
-use native.Mathlib.Omega.{arith}
-use borrow.Author.Rules.{rules}
-use Rattle.definition_rules.specs.Maps.{built_in_options}
-use Rattle.log_blocks.proofs.Rows.{Rowing, rowing-none, rowing_more, rowing-end, row_within}
+use Rattle.log_blocks.proofs.Rows.{Rowing}
 use Rattle.log_blocks.proofs.put_rows.Given as goal
 
 abbrev pub invariant-loop-j : goal.invariant-loop-j

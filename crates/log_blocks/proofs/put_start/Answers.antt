@@ -1,7 +1,6 @@
 use native.Mathlib.Omega.{arith}
 use lib.ListN.{length-take}
 use Rattle.log_blocks.proofs.Puts.{line-put}
-use borrow.Author.Rules.{rules}
 use Rattle.log_blocks.proofs.put_start.Goals as goal
 
 pub slice_bounds-put-end : goal.slice_bounds-put-end

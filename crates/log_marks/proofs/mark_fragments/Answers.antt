@@ -1,8 +1,7 @@
-use mathlib.Core.Path.{◌≡◌, ap, ◌∙◌}
-use Prim.Native.Nat.{◌*◌, ◌-◌, ◌≤◌, ◌<◌}
+use mathlib.Core.Path.{ap, ◌∙◌}
+use Prim.Native.Nat.{◌*◌, ◌<◌}
 use lib.ListN.{length}
 use native.Mathlib.Omega.{arith}
-use borrow.Author.Rules.{rules}
 use Rattle.definition_rules.specs.Maps.{rules_by}
 use Rattle.definition.specs.Papers.{fragments}
 use Rattle.walk.specs.Runs.{options_of}
@@ -11,7 +10,7 @@ use Rattle.paper.specs.Parts.{Marks}
 use Rattle.paper.proofs.Fragments.{fragment-marks}
 use Rattle.log_lines.specs.declared.Told.{Told}
 use Rattle.log_marks.specs.View.{numbers_of}
-use Rattle.log_marks.proofs.Collecting.{Collecting, collecting-none, collecting-more, collecting-stops, collecting-end}
+use Rattle.log_marks.proofs.Collecting.{collecting-none, collecting-more, collecting-stops, collecting-end}
 use Rattle.log_marks.proofs.mark_fragments.Goals as goal
 use Rattle.log_marks.proofs.mark_fragments.Goals.{After-mark_fragment_rows-v}
 
@@ -49,10 +48,10 @@ overflow_add-rows c = omega (arith, (marked (goal.at.overflow_add-rows c).After-
 
 pub loop-k-preserved : goal.loop-k-preserved
 loop-k-preserved c = (
-      collecting-more (rules_by c.args.classes.now (options_of c.args.options)) c.args.paper.now c.args.log.now c.loop-k.k c.loop-k.rows c.loop-k.log c.loop-k.told c.loop-k.invariant.0 (more (goal.at.loop-k-preserved c).After-mark_fragment_rows-v) c.mark_fragment_rows-v.result _ (marked (goal.at.loop-k-preserved c).After-mark_fragment_rows-v) c.told_of-t.result c.told_of-t.ensures
-          (held (goal.at.loop-k-preserved c).After-mark_fragment_rows-v) c.mark_fragment_rows-v.auto.log c.if-t-ne0.false,
-      omega (arith, held (goal.at.loop-k-preserved c).After-mark_fragment_rows-v),
-    )
+  collecting-more (rules_by c.args.classes.now (options_of c.args.options)) c.args.paper.now c.args.log.now c.loop-k.k c.loop-k.rows c.loop-k.log c.loop-k.told c.loop-k.invariant.0 (more (goal.at.loop-k-preserved c).After-mark_fragment_rows-v) c.mark_fragment_rows-v.result _ (marked (goal.at.loop-k-preserved c).After-mark_fragment_rows-v) c.told_of-t.result c.told_of-t.ensures
+      (held (goal.at.loop-k-preserved c).After-mark_fragment_rows-v) c.mark_fragment_rows-v.auto.log c.if-t-ne0.false,
+  omega (arith, held (goal.at.loop-k-preserved c).After-mark_fragment_rows-v),
+)
 
 pub shape_of-log : goal.shape_of-log
 shape_of-log c = c.loop-k.invariant.0.marking.kept

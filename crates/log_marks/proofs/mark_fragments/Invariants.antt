@@ -1,17 +1,7 @@
-use mathlib.Core.Path.{◌≡◌, ap, ◌∙◌}
-use Prim.Native.Nat.{◌*◌, ◌-◌, ◌≤◌, ◌<◌}
-use lib.ListN.{length}
-use native.Mathlib.Omega.{arith}
-use borrow.Author.Rules.{rules}
+use Prim.Native.Nat.{◌-◌, ◌≤◌}
 use Rattle.definition_rules.specs.Maps.{rules_by}
-use Rattle.definition.specs.Papers.{fragments}
 use Rattle.walk.specs.Runs.{options_of}
-use Rattle.paper.specs.View.{fragment_analysis}
-use Rattle.paper.specs.Parts.{Marks}
-use Rattle.paper.proofs.Fragments.{fragment-marks}
-use Rattle.log_lines.specs.declared.Told.{Told}
-use Rattle.log_marks.specs.View.{numbers_of}
-use Rattle.log_marks.proofs.Collecting.{Collecting, collecting-none, collecting-more, collecting-stops, collecting-end}
+use Rattle.log_marks.proofs.Collecting.{Collecting}
 use Rattle.log_marks.proofs.mark_fragments.Given as goal
 
 abbrev pub invariant-loop-k : goal.invariant-loop-k

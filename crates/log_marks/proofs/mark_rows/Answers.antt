@@ -4,7 +4,6 @@ use Rattle.definition_rules.specs.Maps.{rules_by}
 use Rattle.walk.specs.Runs.{options_of}
 use Rattle.log_marks.proofs.Papers.{holds-long, holds-bad, holds-over, holds-marked}
 use Rattle.lines.proofs.Papers.{few-fragments}
-use borrow.Author.Rules.{rules}
 use Rattle.log_marks.proofs.mark_rows.Goals as goal
 
 pub returns-then-paper-gt8000 : goal.returns-then-paper-gt8000

@@ -1,10 +1,8 @@
-use Prim.Native.Nat.{◌-◌, ◌≤◌}
 use mathlib.Core.Path.{◌≡◌}
 use lib.ListN.{length, take, get_or}
 use native.Mathlib.Omega.{arith}
-use borrow.Author.Rules.{rules}
 use Rattle.definition_rules.specs.Maps.{built_in_options}
-use Rattle.log_text.proofs.Blocks.{Blocking, blocking-none, blocking-more, blocking-end, rows-within, blank, length-count, told_at}
+use Rattle.log_text.proofs.Blocks.{blocking-none, blocking-more, blocking-end, rows-within, blank, length-count, told_at}
 use Rattle.log_text.proofs.put_blocks.Goals as goal
 use Rattle.log_text.proofs.put_blocks.Goals.{At-loop-k}
 
@@ -41,12 +39,12 @@ overflow_add-from c = let r = rows-within c.args.go c.args.text.now c.args.class
 
 pub loop-k-preserved : goal.loop-k-preserved
 loop-k-preserved c = (
-      blocking-more c.args.go c.args.text.now c.args.classes.now c.args.paper.now c.args.log.now (take c.args.count c.args.told) c.loop-k.text c.loop-k.at c.loop-k.from c.loop-k.k c.loop-k.invariant.0
-          (omega (arith, length-count c.args.told c.args.count (whole (goal.at.loop-k-preserved c).At-loop-k) c.requires.count_bound.0, c.loop-k-test.true)) blank (get_or c.args.told c.loop-k.k blank)
-          (told_at c.args.told c.args.count (whole (goal.at.loop-k-preserved c).At-loop-k) c.requires.count_bound.0 c.loop-k.k blank (omega (arith, c.loop-k-test.true)))
-          c.put_block-next.ensures.same c.put-at.ensures.same c.put_block-next.ensures.near c.put-at.ensures.near,
-      omega (arith, c.loop-k-test.true),
-    )
+  blocking-more c.args.go c.args.text.now c.args.classes.now c.args.paper.now c.args.log.now (take c.args.count c.args.told) c.loop-k.text c.loop-k.at c.loop-k.from c.loop-k.k c.loop-k.invariant.0
+      (omega (arith, length-count c.args.told c.args.count (whole (goal.at.loop-k-preserved c).At-loop-k) c.requires.count_bound.0, c.loop-k-test.true)) blank (get_or c.args.told c.loop-k.k blank)
+      (told_at c.args.told c.args.count (whole (goal.at.loop-k-preserved c).At-loop-k) c.requires.count_bound.0 c.loop-k.k blank (omega (arith, c.loop-k-test.true)))
+      c.put_block-next.ensures.same c.put-at.ensures.same c.put_block-next.ensures.near c.put-at.ensures.near,
+  omega (arith, c.loop-k-test.true),
+)
 
 pub shape_of-text : goal.shape_of-text
 shape_of-text c = (c.loop-k.invariant.0.puts built_in_options).sized

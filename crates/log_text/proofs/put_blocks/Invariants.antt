@@ -1,10 +1,6 @@
 use Prim.Native.Nat.{◌-◌, ◌≤◌}
-use mathlib.Core.Path.{◌≡◌}
-use lib.ListN.{length, take, get_or}
-use native.Mathlib.Omega.{arith}
-use borrow.Author.Rules.{rules}
-use Rattle.definition_rules.specs.Maps.{built_in_options}
-use Rattle.log_text.proofs.Blocks.{Blocking, blocking-none, blocking-more, blocking-end, rows-within, blank, length-count, told_at}
+use lib.ListN.{take}
+use Rattle.log_text.proofs.Blocks.{Blocking}
 use Rattle.log_text.proofs.put_blocks.Given as goal
 
 abbrev pub invariant-loop-k : goal.invariant-loop-k

@@ -1,7 +1,6 @@
 use native.Mathlib.Omega.{arith}
 use Rattle.definition_rules.specs.Maps.{rules_by}
 use Rattle.log_text.proofs.Texts.{log-accepted, log-refused}
-use borrow.Author.Rules.{rules}
 use Rattle.log_text.proofs.put_log.Goals as goal
 
 pub put_blocks-p-requires-clause-count_bound : goal.put_blocks-p-requires-clause-count_bound

@@ -1,7 +1,6 @@
 use native.Mathlib.Omega.{arith}
 use Rattle.definition_rules.specs.Maps.{rules_by}
 use Rattle.log_text.proofs.Texts.{refused-alone, refused-header, refused-dispatch, refused-fragment}
-use borrow.Author.Rules.{rules}
 use Rattle.log_text.proofs.put_refused.Goals as goal
 
 pub returns-then-alone-clause-same : goal.returns-then-alone-clause-same

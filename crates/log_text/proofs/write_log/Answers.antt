@@ -1,4 +1,3 @@
-use borrow.Author.Rules.{rules}
 use native.Mathlib.Omega.{arith}
 use Rattle.stack_analysis.proofs.Entries.{built-in-rules}
 use Rattle.log_text.proofs.Texts.{logs-by}

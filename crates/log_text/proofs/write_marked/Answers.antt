@@ -1,7 +1,6 @@
 use Rattle.definition_rules.specs.Maps.{rules_by}
 use Rattle.log_text.specs.View.{log_by}
 use Rattle.log_text.proofs.Texts.{told-out, told-written}
-use borrow.Author.Rules.{rules}
 use Rattle.log_text.proofs.write_marked.Goals as goal
 
 pub returns-then-size-text : goal.returns-then-size-text

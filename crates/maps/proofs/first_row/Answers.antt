@@ -1,4 +1,3 @@
-use borrow.Author.Rules.{rules}
 use Rattle.maps.proofs.first_row.Goals as goal
 
 pub returns-clause-same : goal.returns-clause-same

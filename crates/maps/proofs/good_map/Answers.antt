@@ -1,6 +1,4 @@
 use mathlib.Core.Path.{refl}
-use borrow.Author.Rules.{rules}
-use native.Mathlib.Omega.{arith}
 use Rattle.maps.proofs.Judging.{bad-count, bad-offset, bad-place, rows-judged, rows-size}
 use Rattle.maps.proofs.good_map.Goals as goal
 

@@ -1,7 +1,5 @@
-use mathlib.Core.Bool.{true, false}
+use mathlib.Core.Bool.{true}
 use mathlib.Core.Path.{◌≡◌, sym, ◌∙◌}
-use borrow.Author.Rules.{rules}
-use borrow.Author.Tests.{not-true, not-false}
 use Rattle.definition_rules.specs.Maps.{good_map}
 use Rattle.maps.proofs.Judged.{number-map, number-limit, number-none}
 use Rattle.maps.proofs.judge.Goals as goal

@@ -1,9 +1,5 @@
 use Prim.Native.Nat.{◌≤◌, ◌-◌}
-use mathlib.Core.Path.{refl}
-use borrow.Author.Rules.{rules}
-use native.Mathlib.Omega.{arith}
 use Rattle.maps.specs.View.{JudgedUpTo}
-use Rattle.maps.proofs.Judging.{judged-later, judged-all}
 use Rattle.maps.proofs.later_rows.Given as goal
 
 abbrev pub invariant-loop-code : goal.invariant-loop-code

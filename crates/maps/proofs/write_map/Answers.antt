@@ -1,4 +1,3 @@
-use borrow.Author.Rules.{rules}
 use native.Mathlib.Omega.{arith}
 use Rattle.maps.proofs.Years.{no-year, no_room, map-put}
 use Rattle.maps.proofs.write_map.Goals as goal

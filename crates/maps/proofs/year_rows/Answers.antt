@@ -1,4 +1,3 @@
-use borrow.Author.Rules.{rules}
 use native.Mathlib.Omega.{arith}
 use Rattle.maps.proofs.Years.{current-rows, classic-rows}
 use Rattle.maps.proofs.year_rows.Goals as goal

@@ -1,4 +1,3 @@
-use borrow.Author.Rules.{rules}
 use Rattle.number_form.proofs.Numbers.{last_of}
 use Rattle.number_form.proofs.last_byte.Goals as goal
 

@@ -1,5 +1,4 @@
 use native.Mathlib.Omega.{arith}
-use borrow.Author.Rules.{rules}
 use Rattle.number_form.proofs.Numbers.{minimal-last, minimal-not-one, minimal-clear, minimal-set}
 use Rattle.number_form.proofs.minimal.Goals as goal
 

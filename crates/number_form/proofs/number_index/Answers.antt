@@ -1,8 +1,6 @@
 use Prim.Native.Nat.{◌-◌, ◌*◌}
 use mathlib.Core.Path.{sym, ◌∙◌}
 use native.Mathlib.Omega.{arith}
-use borrow.Author.Tests.{not-true, not-false}
-use borrow.Author.Rules.{rules}
 use Rattle.number_form.proofs.Numbers.{shift-positive, read-zero, read-long, read-not-minimal, read-negative, read-index}
 use Rattle.number_form.proofs.number_index.Goals as goal
 

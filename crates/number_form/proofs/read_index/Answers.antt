@@ -1,4 +1,3 @@
-use borrow.Author.Rules.{rules}
 use Rattle.definition.specs.Decoding.{index_of}
 use Rattle.definition.specs.Walk.{bytes_known}
 use Rattle.decode.specs.View.{item_of}

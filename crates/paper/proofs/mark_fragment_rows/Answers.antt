@@ -3,7 +3,6 @@ use lib.ListN.{length}
 use Rattle.definition.specs.Papers.{fragments}
 use Rattle.paper.proofs.Fragments.{no-fragment, marks-body, marks-state}
 use native.Mathlib.Omega.{arith}
-use borrow.Author.Rules.{rules}
 use Rattle.paper.proofs.mark_fragment_rows.Goals as goal
 
 pub returns-then-k-fragment_count : goal.returns-then-k-fragment_count

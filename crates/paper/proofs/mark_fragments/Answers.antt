@@ -4,11 +4,10 @@ use Rattle.definition_rules.specs.Maps.{rules_by}
 use Rattle.walk.specs.Runs.{options_of}
 use Rattle.paper.specs.View.{fragment_analysis}
 use Rattle.paper.specs.Parts.{Marks}
-use Prim.Native.Nat.{◌*◌, ◌-◌, ◌<◌}
+use Prim.Native.Nat.{◌*◌, ◌<◌}
 use mathlib.Core.Path.{◌∙◌}
 use Rattle.paper.proofs.Fragments.{fragment-marks}
-use Rattle.paper.proofs.Markings.{Marking, marking-none, marking-more, marking-stops, marking-end}
-use borrow.Author.Rules.{rules}
+use Rattle.paper.proofs.Markings.{marking-none, marking-more, marking-stops, marking-end}
 use native.Mathlib.Omega.{arith}
 use Rattle.paper.proofs.mark_fragments.Goals as goal
 use Rattle.paper.proofs.mark_fragments.Goals.{After-mark_fragment_rows-v}

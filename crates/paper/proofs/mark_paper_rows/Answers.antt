@@ -1,8 +1,6 @@
 use mathlib.Core.Bool.{not}
 use mathlib.Core.Path.{ap}
 use Rattle.paper.proofs.Markings.{paper-long, paper-bad, paper-over, paper-marked, paper-replays}
-use borrow.Author.Rules.{rules}
-use native.Mathlib.Omega.{arith}
 use Rattle.paper.proofs.mark_paper_rows.Goals as goal
 
 pub returns-then-paper-gt8000 : goal.returns-then-paper-gt8000

@@ -1,5 +1,4 @@
 use Rattle.paper.proofs.Fragments.{marks-part}
-use borrow.Author.Rules.{rules}
 use Rattle.paper.proofs.mark_part.Goals as goal
 
 pub analyze_heights_rows-requires : goal.analyze_heights_rows-requires

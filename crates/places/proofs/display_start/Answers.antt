@@ -1,5 +1,4 @@
 use Rattle.places.proofs.Parts.{start-body, start-init, start_none}
-use borrow.Author.Rules.{rules}
 use Rattle.places.proofs.display_start.Goals as goal
 
 pub returns-then-mark-eq0 : goal.returns-then-mark-eq0

@@ -2,7 +2,6 @@ use mathlib.Core.List.{[], ◌∷◌}
 use lib.ListN.{length-set}
 use native.Mathlib.Omega.{arith}
 use Rattle.places.proofs.Places.{too_few, all-written}
-use borrow.Author.Rules.{rules}
 use Rattle.places.proofs.write_converted.Goals as goal
 
 pub returns-then-out-lt3 : goal.returns-then-out-lt3

@@ -1,8 +1,7 @@
-use Prim.Native.Nat.{◌+◌, ◌-◌, ◌≤◌}
+use Prim.Native.Nat.{◌+◌}
 use lib.ListN.{length-set}
 use native.Mathlib.Omega.{arith}
-use borrow.Author.Rules.{rules}
-use Rattle.places.proofs.Items.{Listing, listing_none, listing-more, too-few-items, all_listed}
+use Rattle.places.proofs.Items.{listing_none, listing-more, too-few-items, all_listed}
 use Rattle.places.proofs.write_items.Goals as goal
 
 pub returns-then-items-count : goal.returns-then-items-count

@@ -1,8 +1,5 @@
-use Prim.Native.Nat.{◌+◌, ◌-◌, ◌≤◌}
-use lib.ListN.{length-set}
-use native.Mathlib.Omega.{arith}
-use borrow.Author.Rules.{rules}
-use Rattle.places.proofs.Items.{Listing, listing_none, listing-more, too-few-items, all_listed}
+use Prim.Native.Nat.{◌-◌, ◌≤◌}
+use Rattle.places.proofs.Items.{Listing}
 use Rattle.places.proofs.write_items.Given as goal
 
 abbrev pub invariant-loop-k : goal.invariant-loop-k

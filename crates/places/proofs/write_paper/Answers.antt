@@ -3,7 +3,6 @@ use Rattle.places.specs.View.{paper_numbers}
 use lib.ListN.{length-set}
 use native.Mathlib.Omega.{arith}
 use Rattle.places.proofs.Places.{too_few, all-written}
-use borrow.Author.Rules.{rules}
 use Rattle.places.proofs.write_paper.Goals as goal
 
 pub returns-then-out-lt7 : goal.returns-then-out-lt7

@@ -1,6 +1,5 @@
 use mathlib.Core.List.{[], ◌∷◌}
 use Rattle.places.proofs.Places.{too_few, all-written}
-use borrow.Author.Rules.{rules}
 use Rattle.places.proofs.write_size.Goals as goal
 
 pub returns-then-out-lt1 : goal.returns-then-out-lt1

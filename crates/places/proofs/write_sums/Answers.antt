@@ -1,10 +1,8 @@
 use mathlib.Core.Path.{◌∙◌}
-use Prim.Native.Nat.{◌-◌, ◌≤◌}
-use lib.ListN.{length, length-set}
+use lib.ListN.{length-set}
 use native.Mathlib.Omega.{arith}
-use borrow.Author.Rules.{rules}
 use Rattle.places.proofs.Places.{too_few}
-use Rattle.places.proofs.Sittings.{Counts, counts-none, counts-more, sums-written, kept-3}
+use Rattle.places.proofs.Sittings.{counts-none, counts-more, sums-written, kept-3}
 use Rattle.places.proofs.write_sums.Goals as goal
 
 pub returns-then-out : goal.returns-then-out

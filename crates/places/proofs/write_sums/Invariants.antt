@@ -1,10 +1,6 @@
-use mathlib.Core.Path.{◌∙◌}
 use Prim.Native.Nat.{◌-◌, ◌≤◌}
-use lib.ListN.{length, length-set}
-use native.Mathlib.Omega.{arith}
-use borrow.Author.Rules.{rules}
-use Rattle.places.proofs.Places.{too_few}
-use Rattle.places.proofs.Sittings.{Counts, counts-none, counts-more, sums-written, kept-3}
+use lib.ListN.{length}
+use Rattle.places.proofs.Sittings.{Counts}
 use Rattle.places.proofs.write_sums.Given as goal
 
 abbrev pub invariant-loop-k : goal.invariant-loop-k

@@ -1,9 +1,6 @@
 use mathlib.Core.Path.{◌≡◌, sym, ◌∙◌}
-use borrow.Author.Tests.{not-false}
-use Prim.Native.Nat.{ℕ, ◌≤◌, ◌-◌}
-use Rattle.slots.specs.Parts.{Suffice}
+use Prim.Native.Nat.{ℕ}
 use Rattle.slots.proofs.Laws.{suffice-none, suffice-more, suffice-end}
-use borrow.Author.Rules.{rules}
 use native.Mathlib.Omega.{arith}
 use Rattle.slots.proofs.all_suffice.Goals as goal
 

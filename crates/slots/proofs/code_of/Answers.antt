@@ -1,5 +1,4 @@
 use Rattle.slots.proofs.Codes.{code-long, code-small, code-large}
-use borrow.Author.Rules.{rules}
 use Rattle.slots.proofs.code_of.Goals as goal
 
 pub returns-then-len-ne1 : goal.returns-then-len-ne1

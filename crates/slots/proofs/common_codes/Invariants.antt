@@ -1,9 +1,5 @@
 use Prim.Native.Nat.{◌≤◌, ◌-◌}
 use Rattle.slots.specs.Parts.{Each, CommonAt}
-use Rattle.slots.proofs.Laws.{each_none, each-end}
-use Rattle.slots.proofs.Joins.{common-more}
-use borrow.Author.Rules.{rules}
-use native.Mathlib.Omega.{arith}
 use Rattle.slots.proofs.common_codes.Given as goal
 
 abbrev pub invariant-loop-i : goal.invariant-loop-i

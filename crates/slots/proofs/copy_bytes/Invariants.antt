@@ -1,6 +1,5 @@
 use Prim.Native.Nat.{◌-◌}
-use Rattle.slots.proofs.Laws.{Copying, copying-none, copying-more, copying-done}
-use borrow.Author.Rules.{rules}
+use Rattle.slots.proofs.Laws.{Copying}
 use Rattle.slots.proofs.copy_bytes.Given as goal
 
 abbrev pub invariant-loop-j : goal.invariant-loop-j

@@ -1,6 +1,4 @@
-use Prim.Native.Nat.{◌-◌}
-use Rattle.slots.proofs.Laws.{Copying, copying-none, copying-more, copying-done}
-use borrow.Author.Rules.{rules}
+use Rattle.slots.proofs.Laws.{copying-none, copying-more, copying-done}
 use Rattle.slots.proofs.copy_codes.Goals as goal
 
 pub loop-j-init : goal.loop-j-init

@@ -1,10 +1,6 @@
 use Prim.Native.Nat.{◌≤◌, ◌-◌}
 use Rattle.slots.specs.View.{slots}
 use Rattle.slots.specs.Parts.{Each, JoinedAt}
-use Rattle.slots.proofs.Laws.{each_none, each-end}
-use Rattle.slots.proofs.Joins.{joining-more, joined-now}
-use borrow.Author.Rules.{rules}
-use native.Mathlib.Omega.{arith}
 use Rattle.slots.proofs.join_codes.Given as goal
 
 abbrev pub invariant-loop-i : goal.invariant-loop-i

@@ -1,7 +1,6 @@
 use mathlib.Core.Path.{sym, ◌∙◌}
 use Rattle.slots.proofs.Joins.{joined-code, joined-suffices, joined_bytes, joined_same}
 use native.Mathlib.Omega.{arith}
-use borrow.Author.Rules.{rules}
 use Rattle.slots.proofs.joined.Goals as goal
 
 pub returns-then-code-code1 : goal.returns-then-code-code1

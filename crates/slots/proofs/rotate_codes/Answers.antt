@@ -1,6 +1,4 @@
-use Prim.Native.Nat.{◌-◌}
-use Rattle.slots.proofs.Laws.{Copying, copying-none, copying-down, turned}
-use borrow.Author.Rules.{rules}
+use Rattle.slots.proofs.Laws.{copying-none, copying-down, turned}
 use Rattle.slots.proofs.rotate_codes.Goals as goal
 
 pub loop-j-init : goal.loop-j-init

@@ -1,6 +1,5 @@
 use Prim.Native.Nat.{◌-◌}
-use Rattle.slots.proofs.Laws.{Copying, copying-none, copying-down, turned}
-use borrow.Author.Rules.{rules}
+use Rattle.slots.proofs.Laws.{Copying}
 use Rattle.slots.proofs.rotate_codes.Given as goal
 
 abbrev pub invariant-loop-j : goal.invariant-loop-j

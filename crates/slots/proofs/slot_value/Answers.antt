@@ -1,5 +1,4 @@
 use Rattle.slots.proofs.Values.{slot-unknown, slot-byte, slot-exact}
-use borrow.Author.Rules.{rules}
 use Rattle.slots.proofs.slot_value.Goals as goal
 
 pub returns-then-code-eq9 : goal.returns-then-code-eq9

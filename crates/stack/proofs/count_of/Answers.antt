@@ -1,5 +1,4 @@
 use Rattle.stack.proofs.Pops.{count_at, count-unknown, count-no-number, count-negative}
-use borrow.Author.Rules.{rules}
 use Rattle.stack.proofs.count_of.Goals as goal
 
 pub returns-in-At : goal.returns-in-At

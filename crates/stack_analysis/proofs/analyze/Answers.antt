@@ -1,5 +1,4 @@
 use Rattle.stack_analysis.proofs.Entries.{built-in-rules, analysed-by}
-use borrow.Author.Rules.{rules}
 use native.Mathlib.Omega.{arith}
 use Rattle.stack_analysis.proofs.analyze.Goals as goal
 

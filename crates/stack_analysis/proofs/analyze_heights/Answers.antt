@@ -1,5 +1,4 @@
 use Rattle.stack_analysis.proofs.Entries.{built-in-rules, summed_by}
-use borrow.Author.Rules.{rules}
 use native.Mathlib.Omega.{arith}
 use Rattle.stack_analysis.proofs.analyze_heights.Goals as goal
 

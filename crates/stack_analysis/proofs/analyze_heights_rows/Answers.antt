@@ -1,6 +1,5 @@
 use mathlib.Core.Path.{refl, subst}
 use Rattle.stack_analysis.specs.Entry.{MayWalk, Starts}
-use borrow.Author.Rules.{rules}
 use Prim.Native.Nat.{◌≤◌}
 use native.Mathlib.Omega.{arith}
 use Rattle.definition_rules.specs.Maps.{rules_by}

@@ -1,7 +1,6 @@
 use mathlib.Core.Path.{refl, subst}
 use Rattle.stack_analysis.specs.Entry.{MayWalk, Starts}
 use Rattle.stack_analysis.proofs.Entries.{answers-early, answers-live, answers-dead}
-use borrow.Author.Rules.{rules}
 use Prim.Native.Nat.{◌≤◌}
 use native.Mathlib.Omega.{arith}
 use Rattle.definition_rules.specs.Maps.{rules_by}

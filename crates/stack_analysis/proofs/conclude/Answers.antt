@@ -1,6 +1,5 @@
 use Rattle.stack_analysis.proofs.Answers.{concludes-end, concludes-else, concludes-endif, concludes-refused, never-running, never-conditional}
 use borrow.Author.Rules.{rules}
-use native.Mathlib.Omega.{arith}
 use Rattle.stack_analysis.proofs.conclude.Goals as goal
 
 pub returns-in-End : goal.returns-in-End

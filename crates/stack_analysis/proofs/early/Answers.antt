@@ -3,7 +3,6 @@ use Rattle.definition.specs.Decoding.{decode}
 use Rattle.decode.specs.View.{counted_of, count_in}
 use Rattle.decode.specs.declared.Counted.TheVariants.{Whole}
 use Rattle.stack_analysis.proofs.Entries.{too_long_lem, too-high, not-whole, short-log, may-walk, few}
-use borrow.Author.Rules.{rules}
 use native.Mathlib.Omega.{arith}
 use Rattle.stack_analysis.proofs.early.Goals as goal
 use Rattle.stack_analysis.proofs.early.Goals.{In-Whole}

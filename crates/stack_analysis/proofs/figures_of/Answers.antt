@@ -1,8 +1,6 @@
 use mathlib.Core.Path.{ap}
 use Rattle.definition.specs.Refusals.{refused_at}
 use Rattle.stack.specs.View.{refusal_of}
-use borrow.Author.Rules.{rules}
-use native.Mathlib.Omega.{arith}
 use Rattle.stack_analysis.proofs.figures_of.Goals as goal
 
 pub returns-in-Nesting : goal.returns-in-Nesting

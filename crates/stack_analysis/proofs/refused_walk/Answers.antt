@@ -1,6 +1,5 @@
 use Rattle.stack_analysis.proofs.Answers.{refused-walk-is}
 use borrow.Author.Rules.{rules}
-use native.Mathlib.Omega.{arith}
 use Rattle.stack_analysis.proofs.refused_walk.Goals as goal
 
 pub returns : goal.returns

@@ -1,6 +1,5 @@
 use mathlib.Core.Path.{refl}
 use native.Mathlib.Omega.{arith}
-use borrow.Author.Rules.{rules}
 use Rattle.stack_analysis.proofs.Entries.{walk-stops, ready-start}
 use Rattle.stack_analysis.proofs.walk_all.Goals as goal
 

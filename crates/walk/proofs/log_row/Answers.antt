@@ -1,5 +1,4 @@
 use lib.ListN.{length-set}
-use borrow.Author.Rules.{rules}
 use native.Mathlib.Omega.{arith}
 use Rattle.walk.proofs.log_row.Goals as goal
 

@@ -1,16 +1,12 @@
 use borrow.Enum.Refused.{opened}
-use borrow.Author.Rules.{rules}
-use mathlib.Core.Path.{◌≡◌, refl, sym, ap, ◌∙◌}
-use Prim.Native.Nat.{ℕ, ◌-◌}
+use mathlib.Core.Path.{sym, ap, ◌∙◌}
 use native.Mathlib.Omega.{arith}
-use lib.ListN.{length}
 use Rattle.definition.specs.Classes.{class_at}
-use Rattle.definition_rules.specs.Maps.{rules_by}
 use Rattle.decode.proofs.Bytes.{slice-bytes}
 use Rattle.decode.proofs.Codes.{code-instruction}
 use Rattle.walk.proofs.Rows.{row-dead}
 use Rattle.walk.proofs.Loop.{no-instruction}
-use Rattle.walk.proofs.Dead.{Skipping, skipping-none, dead_end, dead-room, dead-if, dead-notif, dead-else, dead-endif, dead-again}
+use Rattle.walk.proofs.Dead.{skipping-none, dead_end, dead-room, dead-if, dead-notif, dead-else, dead-endif, dead-again}
 use Rattle.walk.proofs.skip.Goals as goal
 
 pub loop-i-init : goal.loop-i-init

@@ -1,15 +1,7 @@
-use borrow.Author.Rules.{rules}
-use mathlib.Core.Path.{◌≡◌, refl, sym, ap, ◌∙◌}
-use Prim.Native.Nat.{ℕ, ◌-◌}
-use native.Mathlib.Omega.{arith}
+use Prim.Native.Nat.{◌-◌}
 use lib.ListN.{length}
-use Rattle.definition.specs.Classes.{class_at}
 use Rattle.definition_rules.specs.Maps.{rules_by}
-use Rattle.decode.proofs.Bytes.{slice-bytes}
-use Rattle.decode.proofs.Codes.{code-instruction}
-use Rattle.walk.proofs.Rows.{row-dead}
-use Rattle.walk.proofs.Loop.{no-instruction}
-use Rattle.walk.proofs.Dead.{Skipping, skipping-none, dead_end, dead-room, dead-if, dead-notif, dead-else, dead-endif, dead-again}
+use Rattle.walk.proofs.Dead.{Skipping}
 use Rattle.walk.proofs.skip.Given as goal
 
 abbrev pub invariant-loop-i : goal.invariant-loop-i

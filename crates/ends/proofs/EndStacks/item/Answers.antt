@@ -1,5 +1,4 @@
 use Rattle.ends.proofs.Ends.{reads-beyond, reads-past, reads-unknown, reads-exact}
-use borrow.Author.Rules.{rules}
 use native.Mathlib.Omega.{arith}
 use Rattle.ends.proofs.EndStacks.item.Goals as goal
 

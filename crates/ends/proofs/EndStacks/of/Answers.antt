@@ -1,9 +1,8 @@
 use mathlib.Core.Path.{ap, ◌∙◌}
-use Prim.Native.Nat.{◌-◌, ◌≤◌, ◌<◌}
+use Prim.Native.Nat.{◌<◌}
 use Rattle.ends.specs.View.{item_length, item_number}
 use Rattle.slots.specs.View.{slots, cells}
-use Rattle.ends.proofs.Packing.{slot-within, Ending, ending-none, ending-more, ends-are}
-use borrow.Author.Rules.{rules}
+use Rattle.ends.proofs.Packing.{slot-within, ending-none, ending-more, ends-are}
 use native.Mathlib.Omega.{arith}
 use Rattle.ends.proofs.EndStacks.of.Goals as goal
 use Rattle.ends.proofs.EndStacks.of.Goals.{After-end_slot-i}
@@ -37,11 +36,11 @@ bounds-bytes-k c = omega arith
 
 pub loop-k-preserved : goal.loop-k-preserved
 loop-k-preserved c = let s = c.args.stacks in (
-      ending-more (slots s.bytes s.codes) s.mains c.loop-k.invariant.0 (omega arith) _ _
-          (c.end_length.ensures _ ∙ ap (λ j. item_length (cells (slots s.bytes s.codes) j)) c.end_slot-i.ensures)
-          (c.end_number.ensures ∙ ap (λ j. item_number (cells (slots s.bytes s.codes) j)) c.end_slot-i.ensures),
-      omega arith,
-    )
+  ending-more (slots s.bytes s.codes) s.mains c.loop-k.invariant.0 (omega arith) _ _
+      (c.end_length.ensures _ ∙ ap (λ j. item_length (cells (slots s.bytes s.codes) j)) c.end_slot-i.ensures)
+      (c.end_number.ensures ∙ ap (λ j. item_number (cells (slots s.bytes s.codes) j)) c.end_slot-i.ensures),
+  omega arith,
+)
 
 pub returns : goal.returns
 returns c = ends-are c.args.stacks c.requires c.loop-k.k c.loop-k.lens c.loop-k.bytes c.loop-k.invariant.0 (omega arith) (omega arith)

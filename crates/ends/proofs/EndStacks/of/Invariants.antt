@@ -1,10 +1,6 @@
-use mathlib.Core.Path.{ap, ◌∙◌}
-use Prim.Native.Nat.{◌-◌, ◌≤◌, ◌<◌}
-use Rattle.ends.specs.View.{item_length, item_number}
-use Rattle.slots.specs.View.{slots, cells}
-use Rattle.ends.proofs.Packing.{slot-within, Ending, ending-none, ending-more, ends-are}
-use borrow.Author.Rules.{rules}
-use native.Mathlib.Omega.{arith}
+use Prim.Native.Nat.{◌-◌, ◌≤◌}
+use Rattle.slots.specs.View.{slots}
+use Rattle.ends.proofs.Packing.{Ending}
 use Rattle.ends.proofs.EndStacks.of.Given as goal
 
 abbrev pub invariant-loop-k : goal.invariant-loop-k

@@ -1,5 +1,4 @@
 use Rattle.stack.proofs.Mains.{effect-dry, effect-none, effect-full, effect-still, effect-mark}
-use borrow.Author.Rules.{rules}
 use Rattle.stack.proofs.Stacks.apply_effect.Goals as goal
 
 pub returns-then-m-pops : goal.returns-then-m-pops

@@ -1,5 +1,4 @@
 use Rattle.stack.proofs.Indices.{number-held, depth-done}
-use borrow.Author.Rules.{rules}
 use Rattle.stack.proofs.Stacks.depth.Goals as goal
 
 pub push-requires-clause-held : goal.push-requires-clause-held

@@ -1,5 +1,4 @@
 use Rattle.stack.proofs.Mains.{drop-dry, drop-done}
-use borrow.Author.Rules.{rules}
 use Rattle.stack.proofs.Stacks.drop_items.Goals as goal
 
 pub returns-then-m-n : goal.returns-then-m-n

@@ -1,5 +1,4 @@
 use Rattle.stack.proofs.Mains.{copy-dry, copy-full, copy-codes, copy_done}
-use borrow.Author.Rules.{rules}
 use Rattle.stack.proofs.Stacks.extend_from_within.Goals as goal
 
 pub returns-then-m-depth : goal.returns-then-m-depth

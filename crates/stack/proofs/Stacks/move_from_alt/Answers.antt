@@ -1,5 +1,4 @@
 use Rattle.stack.proofs.Alts.{from-alt-dry, from-alt-still, from-alt-codes, from-alt-done}
-use borrow.Author.Rules.{rules}
 use Rattle.stack.proofs.Stacks.move_from_alt.Goals as goal
 
 pub returns-then-a-lt1 : goal.returns-then-a-lt1

@@ -1,5 +1,4 @@
 use Rattle.stack.proofs.Alts.{to-alt-dry, to-alt-same, to-alt-still, to-alt-codes, to-alt-done}
-use borrow.Author.Rules.{rules}
 use Rattle.stack.proofs.Stacks.move_to_alt.Goals as goal
 
 pub returns-then-m-lt1 : goal.returns-then-m-lt1

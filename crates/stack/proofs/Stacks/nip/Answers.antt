@@ -1,5 +1,4 @@
 use Rattle.stack.proofs.Mains.{nip-dry, nip-codes, nip-done}
-use borrow.Author.Rules.{rules}
 use Rattle.stack.proofs.Stacks.nip.Goals as goal
 
 pub returns-then-m-lt2 : goal.returns-then-m-lt2

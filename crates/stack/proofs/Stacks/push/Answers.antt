@@ -1,6 +1,5 @@
 use mathlib.Core.Path.{sym, ◌∙◌}
 use Rattle.stack.proofs.Values.{held-exact, unknown-suffices, code-wants, push-is-code, push-is-exact, push-is-unknown}
-use borrow.Author.Rules.{rules}
 use Rattle.stack.proofs.Stacks.push.Goals as goal
 
 pub push_code-requires-clause-code_value : goal.push_code-requires-clause-code_value

@@ -1,6 +1,5 @@
 use Rattle.stack.proofs.Mains.{push-full}
 use Rattle.stack.proofs.Values.{push-exact}
-use borrow.Author.Rules.{rules}
 use Rattle.stack.proofs.Stacks.push_exact.Goals as goal
 
 pub returns-then-limit-m : goal.returns-then-limit-m

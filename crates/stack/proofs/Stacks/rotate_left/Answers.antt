@@ -1,5 +1,4 @@
 use Rattle.stack.proofs.Mains.{rotate-dry, rotate-codes, rotate-done}
-use borrow.Author.Rules.{rules}
 use Rattle.stack.proofs.Stacks.rotate_left.Goals as goal
 
 pub returns-then-m-count : goal.returns-then-m-count

@@ -1,5 +1,4 @@
 use Rattle.stack.proofs.Indices.{number-held, size-dry, size-unknown, size-done}
-use borrow.Author.Rules.{rules}
 use Rattle.stack.proofs.Stacks.size.Goals as goal
 
 pub returns-then-m-lt1 : goal.returns-then-m-lt1

@@ -1,7 +1,6 @@
 use mathlib.Core.Path.{sym, ◌∙◌}
 use Rattle.slots.proofs.Values.{code-alone, with-bytes}
 use Rattle.stack.proofs.Pops.{pops-dry, pops-code, pops-bytes}
-use borrow.Author.Rules.{rules}
 use native.Mathlib.Omega.{arith}
 use Rattle.stack.proofs.Stacks.top_count.Goals as goal
 

@@ -1,5 +1,4 @@
 use Rattle.stack.proofs.Mains.{tuck-dry-1, tuck-dry-2, tuck-full, tuck-codes, tuck-done}
-use borrow.Author.Rules.{rules}
 use Rattle.stack.proofs.Stacks.tuck.Goals as goal
 
 pub returns-then-m-lt1 : goal.returns-then-m-lt1

@@ -1,5 +1,4 @@
 use Rattle.stack.proofs.Indices.{zk-dry, zk-other, zk-r0, zk-short, zk-four, zk-at, zk-refused}
-use borrow.Author.Rules.{rules}
 use native.Mathlib.Omega.{arith}
 use Rattle.stack.proofs.Stacks.zk.Goals as goal
 

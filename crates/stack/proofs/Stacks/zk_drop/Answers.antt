@@ -1,7 +1,6 @@
 use Rattle.slots.proofs.Codes.{sufficient-high}
 use Rattle.stack.proofs.Indices.{zk-drop-dry, zk-drop-done}
 use native.Mathlib.Omega.{arith}
-use borrow.Author.Rules.{rules}
 use Rattle.stack.proofs.Stacks.zk_drop.Goals as goal
 
 pub returns-then-m-n : goal.returns-then-m-n
