@@ -9,7 +9,7 @@ ghost use Rattle.std.specs.Io.KnownBytes.{Consumes, IsAtEnd};
 use std::io::Read;
 
 // Whether a read failed, and how many bytes were read where none did.
-#[derive(Drop)]
+#[derive(Clone, Copy)]
 pub struct Input {
     pub failed: bool,
     pub size: usize,
