@@ -54,3 +54,6 @@ judged-refused {X = X} P map options stop next n e z f = first (good_map map) e
         → P (pick b (pick (good_limit options.limit) (next (rules_of map options)) (stop bad_limit)) (stop bad_map))
     first true h = second (good_limit options.limit) h
     first false h = f bad_map (λ at. rw h)
+
+-- what is judged, whichever test decides
+pub ruleset judging = (number-map, number-limit, number-none)

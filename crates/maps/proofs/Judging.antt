@@ -127,3 +127,6 @@ low-limit limit h = rw (lt-leb 1 limit h)
 
 pub other-limit : (limit : ℕ) → 1 ≤ limit → leb limit 244 ≡ good_limit limit
 other-limit limit h = rw (le-leb 1 limit h)
+
+-- a row from 61 on, whichever test decides
+pub ruleset later = (no-push, no-class, row-allowed)

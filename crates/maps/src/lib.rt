@@ -29,6 +29,7 @@ fn early_row_good(good: bool, class: u8, own: u8) -> bool
 }
 
 // What is good stays so where a row is a class and not push.
+#[tactic(auto, using(crate::proofs::Judging::later))]
 fn later_row_good(good: bool, class: u8) -> bool
     ensures { result ≡ (good && (leb class 31 && not (eqb class 1))) }
 {
@@ -108,6 +109,7 @@ fn good_limit(limit: u32) -> bool
 }
 
 // What is wrong with a map and a limit: 28, else 29, or 0 where both are good.
+#[tactic(auto, using(crate::proofs::Judged::judging))]
 pub fn judge(map: &[u8], limit: u32) -> u32
     ensures { result ≡ judged_number map.now limit }
 {

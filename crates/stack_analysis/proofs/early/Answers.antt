@@ -4,14 +4,15 @@ use Rattle.decode.specs.View.{counted_of, count_in}
 use Rattle.decode.specs.declared.Counted.TheVariants.{Whole}
 use Rattle.stack_analysis.proofs.Entries.{too_long_lem, too-high, not-whole, short-log, may-walk, few}
 use native.Mathlib.Omega.{arith}
+use borrow.Author.Rules.{rules}
 use Rattle.stack_analysis.proofs.early.Goals as goal
 use Rattle.stack_analysis.proofs.early.Goals.{In-Whole}
 
 pub returns-then-fragment-gt10000 : goal.returns-then-fragment-gt10000
-returns-then-fragment-gt10000 c R log k l = too_long_lem R _ _ _ log (omega arith) _ c.refusal.ensures
+returns-then-fragment-gt10000 c R log k l = search (too_long_lem, rules)
 
 pub returns-then-sum-limit : goal.returns-then-sum-limit
-returns-then-sum-limit c R log k l = too-high R _ _ _ log _ k (omega arith) (omega arith) _ c.refusal-then-sum-limit.ensures
+returns-then-sum-limit c R log k l = search (too-high, rules)
 
 -- what is counted
 counted2 : (c : In-Whole) → let s = c.args.fragment.now in
