@@ -135,3 +135,6 @@ arms-written {lent} {at} {new} {next} {other} {main} {alt} {main'} {alt'} R frag
     ∙ ap (λ x. s (main_at log (from + n)) (alt_at log (from + n)) (other_main R fragment log other) x) a'
     ∙ ap (λ x. s (main_at log (from + n)) (alt_at log (from + n)) (other_main R fragment log x) (alt_at log x)) o)
     w
+
+-- where the conditional opens, whichever test decides
+pub ruleset opening = (opening-none, opening-end, opening-endif, opening-found, opening-if, opening-else, opening-plain, opening-inner)

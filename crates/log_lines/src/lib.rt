@@ -147,6 +147,7 @@ fn write_malformed(out: &mut [u8], offset: usize, bytes: &[u8]) -> usize
 }
 
 // The row of the ELSE, or where there is none the IF, of the conditional that is open behind `count` rows from row `from` on.
+#[tactic(auto, using(crate::proofs::Arms::opening))]
 fn opener(fragment: &[u8], log: &[u16], classes: &[u8], from: usize, count: usize) -> usize
     requires count_in_bounds { 3 * (from + count) ≤ length log.now }
     requires class_rows { ClassRows classes.now }
