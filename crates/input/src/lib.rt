@@ -9,7 +9,7 @@ ghost use Rattle.std.specs.Io.KnownBytes.{Consumes, IsAtEnd};
 use std::io::Read;
 
 // Whether a read failed, and how many bytes were read where none did.
-#[derive(Drop)]
+#[derive(Clone, Copy)]
 pub struct Input {
     pub failed: bool,
     pub size: usize,
@@ -49,5 +49,54 @@ pub fn read_input<R: Read>(source: &mut R, buf: &mut [u8]) -> Input
     Input {
         failed: false,
         size: n,
+    }
+}
+
+#[cfg(test)]
+mod tests {
+    use super::*;
+    use std::io;
+
+    // Gives a byte a read, and then the end of the input or a failure.
+    #[derive(Drop)]
+    struct Drips<'a> {
+        rest: &'a [u8],
+        fails: bool,
+    }
+
+    impl Read for Drips<'_> {
+        fn read(&mut self, buf: &mut [u8]) -> io::Result<usize> {
+            let Some((first, rest)) = self.rest.split_first() else {
+                if self.fails {
+                    return Err(io::Error::from(io::ErrorKind::Other));
+                }
+                return Ok(0);
+            };
+            if buf.len() == 0 {
+                return Ok(0);
+            }
+            buf[0] = *first;
+            self.rest = rest;
+            Ok(1)
+        }
+    }
+
+    // No clause says which reads fail.
+    #[test]
+    fn tells_a_failure_from_the_end(rt: HostRuntime) {
+        let mut buf = [0u8; 4];
+        for (given, fails, failed, size) in [
+            (&b"abc"[..], false, false, 3),
+            (b"abc", true, true, 0),
+            (b"abcde", true, false, 4),
+            (b"", false, false, 0),
+            (b"", true, true, 0),
+        ] {
+            let mut source = Drips { rest: given, fails };
+            let input = read_input(&mut source, &mut buf);
+            assert_eq!(rt; input.failed, failed);
+            assert_eq!(rt; input.size, size);
+        }
+        assert_eq!(rt; buf, *b"abcd");
     }
 }
