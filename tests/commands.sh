@@ -150,7 +150,7 @@ is "nothing was called" "$(calls '')" -eq 0
 # The first run builds, with a line for each crate, and marks
 try "$tree/mark" "$work/good"
 gives "the first run" 0 "$good"
-says "the first run" "some minutes the first time"
+says "the first run" "about a quarter of an hour"
 says "the first run" "build: one proved ("
 says "the first run" "build: the library is proved and written"
 says "the first run" "build: stackmark proved ("

@@ -172,7 +172,7 @@ fn the_first_run_is_not_silent() {
     let path = format!("{}:{}", tree.0.0.join("bin").display(), std::env::var("PATH").unwrap());
     let mut command = Command::new(tree.script("mark"));
     let ran = ran(command.arg("good").env("PATH", path).current_dir(&tree.0.0), b"");
-    ran.fails("", &["some minutes the first time", "build: one proved (", "failed: rt lib"]);
+    ran.fails("", &["about a quarter of an hour", "build: one proved (", "failed: rt lib"]);
 }
 
 #[test]
