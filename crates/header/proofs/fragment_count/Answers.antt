@@ -1,8 +1,9 @@
-use Rattle.header.proofs.Fragments.{count-without, count-with}
+use Rattle.std.proofs.Common.{arith, ap}
+use Rattle.definition.specs.Papers.{Part}
+use Rattle.std.specs.Int.{from_bool}
+use Rattle.std.specs.Prelude.{not, ◌==◌}
+use Rattle.header.proofs.Fragments.{length-fragments}
 use Rattle.header.proofs.fragment_count.Goals as goal
 
-pub returns-then-field-eq0 : goal.returns-then-field-eq0
-returns-then-field-eq0 c = count-without c.args.paper.now c.field-count.result c.field.result c.field-count.ensures.same c.field.ensures.same c.if-field-eq0.true
-
 pub returns : goal.returns
-returns c = count-with c.args.paper.now c.field-count.result c.field.result c.field-count.ensures.same c.field.ensures.same c.if-field-eq0.false
+returns c = omega (arith, length-fragments c.args.paper.now, ap (λ (p : Part). from_bool (not (p.size == 0))) c.initialiser.ensures)
