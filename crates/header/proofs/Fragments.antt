@@ -64,6 +64,9 @@ module _ (p : Bytes) where
   pub length-fragments : length (fragments p) ≡ entry_count p + from_bool (not (eqb (initialiser p).size 0))
   length-fragments = length-by (eqb (initialiser p).size 0) refl
 
+  pub entry_count-le : entry_count p ≤ length (fragments p)
+  entry_count-le = omega (arith, length-fragments)
+
   pub length-fragments-le : length (fragments p) ≤ entry_count p + 1
   length-fragments-le = by (eqb (initialiser p).size 0) refl
     where
