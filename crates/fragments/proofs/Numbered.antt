@@ -3,7 +3,7 @@ use Rattle.std.proofs.Common.{◌≡◌, sym, ap, ◌∙◌, ℕ, ◌+◌, ◌�
 use Rattle.definition.specs.Basics.{Bytes}
 use Rattle.definition.specs.Papers.{Entry, Part, bytes_of, entry_count, entries, state_fields, initialiser, most_parameters, fragments}
 use Rattle.header.specs.View.{entry_at, fragment_at}
-use Rattle.header.proofs.Fragments.{fragment-body, fragment-state}
+use Rattle.header.proofs.Fragments.{fragment-body, fragment-state, entry_count-le}
 
 module _ (p : Bytes) (k : ℕ) (bytes : Bytes) (main : ℕ) where
   pub body-is : (n : ℕ) (e : Entry) → k < n → n ≡ entry_count p → e ≡ entry_at p k → bytes ≡ bytes_of p e.body → main ≡ e.parameters + state_fields p
@@ -15,3 +15,5 @@ module _ (p : Bytes) (k : ℕ) (bytes : Bytes) (main : ℕ) where
       → main ≡ most_parameters (entries p) → record { bytes = bytes; main = main; alt = 1 } ≡ fragment_at p k
   state-is n i h c l q b m =
       rw (b, m) (ap (λ (i : Part). record { bytes = bytes_of p i; main = most_parameters (entries p); alt = 1 }) q) ∙ sym (fragment-state p k (rw (← c) h) l)
+
+pub ruleset numbered = (body-is, state-is, entry_count-le)

@@ -16,6 +16,7 @@ pub struct Fragment<'a> {
 }
 
 /// Fragment `k`, from 0; `None` where the paper has no fragment `k`.
+#[tactic(auto, using(crate::proofs::Numbered::numbered))]
 pub fn nth_fragment<'a>(paper: &'a [u8], k: usize) -> Option<Fragment<'a>>
     ensures found { IfSome result (λ f. fragment_of f ≡ fragment_at paper.now k) }
     ensures past { IsNone result ↔ (length (fragments paper.now) ≤ k) }
