@@ -85,3 +85,5 @@ module _ (p : Bytes) where
 
   pub fragment-state : (k : ℕ) → entry_count p ≤ k → k < length (fragments p) → fragment_at p k ≡ state
   fragment-state k h l = state-by (eqb (initialiser p).size 0) refl k h l
+
+pub ruleset counting = (length-fragments)

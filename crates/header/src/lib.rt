@@ -137,6 +137,7 @@ pub fn most_parameters(paper: &[u8]) -> u16
 }
 
 /// How many fragments are marked: the bodies, and an initialiser that isn't empty.
+#[tactic(auto, using(crate::proofs::Fragments::counting))]
 pub fn fragment_count(paper: &[u8]) -> usize
     ensures { result ≡ length (fragments paper.now) }
 {
