@@ -1,23 +1,28 @@
--- What the structs of this crate stand for in the definitions of document 01.
-use Rattle.std.specs.Prelude.{◌≡◌, ℕ}
+-- What the structs of this crate stand for in the definitions.
+use Rattle.std.specs.Prelude.{◌≡◌, ℕ, Result, Ok, Err}
+use Rattle.definition.specs.Refusals.{accepted, refused_at, tally_full}
 use Rattle.definition.specs.Walk.{Verdict}
 use Rattle.definition.specs.Walk as W
 use Rattle.tally.specs.declared.Tally.{Tally}
-use Rattle.tally.specs.declared.Tallied.{Tallied}
+use Rattle.tally.specs.declared.TallyFull.{TallyFull}
 
 -- the tally that the struct stands for
 abbrev pub tally_of : Tally → W.Tally
 tally_of t = record { fragments = t.fragments; accepts = t.accepts; rows = t.rows; peak = t.peak }
 
--- the struct for a tally, and the one for a tally with its answer: of an answer only the number is not 0
+-- the struct for a tally
 abbrev pub packed : W.Tally → Tally
 packed t = record { fragments = t.fragments; accepts = t.accepts; rows = t.rows; peak = t.peak }
 
-abbrev pub tallied : Tally → ℕ → Tallied
-tallied t answer = record { tally = t; answer = answer }
+-- accepted or 22, with this tally afterwards
+abbrev pub answer_of : W.Tally → Result (Unit {0}) TallyFull → W.TallyAnswer
+answer_of t (Ok u) = record { answer = accepted; tally = t }
+answer_of t (Err e) = record { answer = refused_at 0 tally_full; tally = t }
 
-abbrev pub tallied_of : W.TallyAnswer → Tallied
-tallied_of r = tallied (packed r.tally) r.answer.number
+-- accepted, with the tally handed out; or 22, with the tally as it was
+abbrev pub gained_of : W.Tally → Result Tally TallyFull → W.TallyAnswer
+gained_of old (Ok new) = record { answer = accepted; tally = tally_of new }
+gained_of old (Err e) = record { answer = refused_at 0 tally_full; tally = old }
 
 -- what a tally takes of a verdict
 pub record Gives (v : Verdict) (number rows peak : ℕ) : Type 0 where
