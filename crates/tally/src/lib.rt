@@ -9,6 +9,8 @@ ghost use Rattle.definition.specs.Walk as Walk;
 ghost use Rattle.definition.specs.Walk.{Verdict, fits, one_more};
 ghost use Rattle.tally.specs.View.{tally_of, packed, answer_of, gained_of, Gives};
 
+use refusals::Refusal;
+
 /// Fragments, accepted ones, rows, and the greatest peak.
 #[derive(Clone, Copy, Debug, PartialEq, Eq)]
 pub struct Tally {
@@ -17,10 +19,6 @@ pub struct Tally {
     pub rows: u32,
     pub peak: u32,
 }
-
-/// A count would pass 4,294,967,295.
-#[derive(Clone, Copy, Debug, PartialEq, Eq)]
-pub struct TallyFull;
 
 impl Tally {
     // The tally with one verdict more, if its counts fit 32 bits.
@@ -37,15 +35,15 @@ impl Tally {
         })
     }
 
-    /// The tally with one verdict more, of this number, rows and peak.
-    pub fn gained(self, number: u32, rows: usize, peak: u32) -> Result<Tally, TallyFull>
+    /// The tally with one verdict more, of this number, rows and peak. It is full where a count would pass 4,294,967,295.
+    pub fn gained(self, number: u32, rows: usize, peak: u32) -> Result<Tally, Refusal>
         ensures { (v : Verdict) → Gives v number rows peak → gained_of (tally_of self) result ≡ Walk.gain (tally_of self) v }
     {
-        self.counted(number, rows, peak).ok_or(TallyFull)
+        self.counted(number, rows, peak).ok_or(Refusal::TallyFull)
     }
 
     /// The tally gains one verdict, of this number, rows and peak.
-    pub fn gain(&mut self, number: u32, rows: usize, peak: u32) -> Result<(), TallyFull>
+    pub fn gain(&mut self, number: u32, rows: usize, peak: u32) -> Result<(), Refusal>
         ensures same { (v : Verdict) → Gives v number rows peak → answer_of (tally_of self.new) result ≡ Walk.gain (tally_of self.old) v }
         ensures unchanged { OnErr result (self.new ≡ self.old) }
     {
