@@ -19,8 +19,9 @@ use Rattle.definition.specs.Replay.{AreBytes}
 use Rattle.decode.specs.View.{low_bytes, item_of, value_of, Held}
 use Rattle.number_form.specs.View.{read_of, indexed}
 use Rattle.decode.specs.declared.Value.TheVariants.{Unknown, Exact}
-use Rattle.number_form.specs.declared.Index.{Index}
-use Rattle.number_form.specs.declared.Index.TheVariants as I
+use Rattle.std.specs.Prelude.{Result, Ok, Err}
+use Rattle.number_form.specs.declared.NoIndex.{NoIndex}
+use Rattle.number_form.specs.declared.NoIndex.TheVariants as I
 use Rattle.decode.proofs.Bytes.{length-low}
 use Rattle.decode.proofs.Values.{held-known, item-of-known}
 
@@ -117,17 +118,21 @@ length-serialize : (k n : ℕ) → Takes k n → length (serialize (plus n)) ≡
 unfolding serialize
 length-serialize k n t = length-signed n k n (omega arith) t
 
-pub value-zero : (n : ℕ) → n ≡ 0 → Exact 0 0 ≡ value_of (known (serialize (plus n)))
+value-zero : (n : ℕ) → n ≡ 0 → Exact 0 n ≡ value_of (known (serialize (plus n)))
 unfolding serialize
 value-zero n e = rw e
 
-pub value-exact : (k n : ℕ) → k < 8 → Takes k n → Exact (suc k) n ≡ value_of (known (serialize (plus n)))
-value-exact k n h t =
-    let e : length (serialize (plus n)) ≡ suc k = length-serialize k n t in
+value-exact : (len n : ℕ) → 1 ≤ len → len ≤ 8 → Takes (len - 1) n → Exact len n ≡ value_of (known (serialize (plus n)))
+value-exact zero n g h t = absurd (omega arith)
+value-exact (suc k) n g h t =
+    let m : suc k - 1 ≡ k = omega arith in
+    let e : length (serialize (plus n)) ≡ suc k = length-serialize k n (rw m at t) in
     sym (rw (e, le-leb (suc k) 8 h, e, number-serialize n))
 
-pub value-unknown : (n : ℕ) → Takes 8 n → Unknown ≡ value_of (known (serialize (plus n)))
+value-unknown : (n : ℕ) → Takes 8 n → Unknown ≡ value_of (known (serialize (plus n)))
 value-unknown n t = rw (length-serialize 8 n t)
+
+pub ruleset number_values = (value-zero, value-exact, value-unknown)
 
 -- what `number_value` gives is held, and stands for the number
 pub held_number : (n : ℕ) → Held (value_of (known (serialize (plus n))))
@@ -204,7 +209,7 @@ module _ (len n b c : ℕ) (e : b ≡ last (low_bytes len n)) (h : b % 128 ≡ 0
   minimal-set g = sym (le-leb 0x80 c g) ∙ minimal-before
 
 -- reading, by the tests that lead to each answer
-abbrev Read : ℕ → ℕ → Index
+abbrev Read : ℕ → ℕ → Result ℕ NoIndex
 Read len n = indexed (index_read (deserialize (low_bytes len n)))
 
 deserialize-good : (len n : ℕ) → len ≤ 8 → minimal (low_bytes len n) ≡ true → deserialize (low_bytes len n) ≡ some (value (low_bytes len n))
@@ -219,17 +224,17 @@ deserialize-long : (len n : ℕ) → 8 < len → deserialize (low_bytes len n) �
 unfolding deserialize
 deserialize-long len n h = rw (length-low len n, lt-leb len 8 h)
 
-pub read-zero : (len n : ℕ) → len ≡ 0 → I.At 0 ≡ Read len n
+pub read-zero : (len n : ℕ) → len ≡ 0 → Ok 0 ≡ Read len n
 unfolding deserialize
 read-zero len n e = rw e
 
-pub read-long : (len n : ℕ) → 8 < len → I.NoNumber ≡ Read len n
+pub read-long : (len n : ℕ) → 8 < len → Err I.NoNumber ≡ Read len n
 read-long len n h = rw (deserialize-long len n h)
 
-pub read-not-minimal : (len n : ℕ) → len ≤ 8 → minimal (low_bytes len n) ≡ false → I.NoNumber ≡ Read len n
+pub read-not-minimal : (len n : ℕ) → len ≤ 8 → minimal (low_bytes len n) ≡ false → Err I.NoNumber ≡ Read len n
 read-not-minimal len n h m = rw (deserialize-bad len n h m)
 
-pub read-negative : (len n b : ℕ) → len ≤ 8 → minimal (low_bytes len n) ≡ true → b ≡ last (low_bytes len n) → 128 ≤ b → I.Negative ≡ Read len n
+pub read-negative : (len n b : ℕ) → len ≤ 8 → minimal (low_bytes len n) ≡ true → b ≡ last (low_bytes len n) → 128 ≤ b → Err I.Negative ≡ Read len n
 read-negative len n b h m e g = rw (deserialize-good len n h m, le-ltb (last (low_bytes len n)) 0x80 (omega arith))
 
 pub shift-positive : (e : ℕ) → e < 64 → 0 < (1 * 2 ^ e) % 2 ^ 64
@@ -247,12 +252,12 @@ number-below-sign (suc k) w n pos h q lt =
     rw (a, x, number-low-mod (suc k) n, b, mod-pow-add n 7 (8 * k), mod-pow-add n 8 (8 * k), y)
 
 pub read-index : (len w n b : ℕ) → 1 ≤ len → len ≤ 8 → w ≡ len → minimal (low_bytes len n) ≡ true → b ≡ last (low_bytes len n) → b < 128
-    → I.At (n % ((1 * 2 ^ (w * 8 - 1)) % 2 ^ 64)) ≡ Read len n
+    → Ok (n % ((1 * 2 ^ (w * 8 - 1)) % 2 ^ 64)) ≡ Read len n
 read-index len w n b pos h q m e g =
     rw (deserialize-good len n h m, lt-ltb (last (low_bytes len n)) 0x80 (omega arith), number-below-sign len w n pos h q (omega arith))
 
 -- the answer for an index, and what follows it
-pub answer-reads : (x : D.Index) (i : Index) → i ≡ indexed x → (read_of i ≡ readable marking x) × (i ≡ indexed x)
+pub answer-reads : (x : D.Index) (i : Result ℕ NoIndex) → i ≡ indexed x → (read_of i ≡ readable marking x) × (i ≡ indexed x)
 answer-reads x i e = (ap read_of e ∙ by x, e)
   where
     by : (x : D.Index) → read_of (indexed x) ≡ readable marking x
