@@ -1,6 +1,6 @@
 -- The number form: a number as a value, and a value read as an index.
-use mathlib.Core.Bool.{Bool, true, false, ◌||◌, or-true, or-false}
-use mathlib.Core.Path.{◌≡◌, refl, sym, ap, subst⁻¹, ◌∙◌}
+use mathlib.Core.Bool.{Bool, true, false, not, ◌||◌, or-true, or-false}
+use mathlib.Core.Path.{◌≡◌, refl, sym, ap, ◌∙◌}
 use mathlib.Core.List.{[], ◌∷◌}
 use mathlib.Core.Option.{none, some}
 use Prim.Native.Nat.{ℕ, zero, suc, ◌+◌, ◌-◌, ◌*◌, ◌/◌, ◌%◌, ◌^◌, ◌≤◌, ◌<◌}
@@ -12,12 +12,10 @@ use lib.ListN.{length}
 use lib.Pow.{pow_pos, shr-shr, mod-pow-add, shl_exact}
 use Rattle.definition.specs.Basics.{Bytes, pick}
 use Rattle.definition.specs.Decoding.{number, plus, digits, signed, serialize, last, minimal, value, deserialize, index_read}
-use Rattle.definition.specs.Decoding as D
-use Rattle.definition.specs.Stacks.{readable}
-use Rattle.definition.specs.Walk.{known, marking}
+use Rattle.definition.specs.Walk.{known}
 use Rattle.definition.specs.Replay.{AreBytes}
 use Rattle.decode.specs.View.{low_bytes, item_of, value_of, Held}
-use Rattle.number_form.specs.View.{read_of, indexed}
+use Rattle.number_form.specs.View.{indexed}
 use Rattle.decode.specs.declared.Value.TheVariants.{Unknown, Exact}
 use Rattle.std.specs.Prelude.{Result, Ok, Err}
 use Rattle.number_form.specs.declared.NoIndex.{NoIndex}
@@ -118,21 +116,17 @@ length-serialize : (k n : ℕ) → Takes k n → length (serialize (plus n)) ≡
 unfolding serialize
 length-serialize k n t = length-signed n k n (omega arith) t
 
-value-zero : (n : ℕ) → n ≡ 0 → Exact 0 n ≡ value_of (known (serialize (plus n)))
+pub value-zero : (n : ℕ) → n ≡ 0 → Exact 0 n ≡ value_of (known (serialize (plus n)))
 unfolding serialize
 value-zero n e = rw e
 
-value-exact : (len n : ℕ) → 1 ≤ len → len ≤ 8 → Takes (len - 1) n → Exact len n ≡ value_of (known (serialize (plus n)))
-value-exact zero n g h t = absurd (omega arith)
-value-exact (suc k) n g h t =
-    let m : suc k - 1 ≡ k = omega arith in
-    let e : length (serialize (plus n)) ≡ suc k = length-serialize k n (rw m at t) in
+pub value-exact : (k n : ℕ) → k < 8 → Takes k n → Exact (suc k) n ≡ value_of (known (serialize (plus n)))
+value-exact k n h t =
+    let e : length (serialize (plus n)) ≡ suc k = length-serialize k n t in
     sym (rw (e, le-leb (suc k) 8 h, e, number-serialize n))
 
-value-unknown : (n : ℕ) → Takes 8 n → Unknown ≡ value_of (known (serialize (plus n)))
+pub value-unknown : (n : ℕ) → Takes 8 n → Unknown ≡ value_of (known (serialize (plus n)))
 value-unknown n t = rw (length-serialize 8 n t)
-
-pub ruleset number_values = (value-zero, value-exact, value-unknown)
 
 -- what `number_value` gives is held, and stands for the number
 pub held_number : (n : ℕ) → Held (value_of (known (serialize (plus n))))
@@ -184,15 +178,11 @@ last_of (suc k) w n h e =
     let q : (w - 1) * 8 ≡ 8 * k = omega arith in
     rw q (sym (last-low k n))
 
-pub minimal-last : (len n b : ℕ) → b ≡ last (low_bytes len n) → (b % 128 ≡ 0 → ⊥) → true ≡ minimal (low_bytes len n)
-minimal-last len n b e h = sym (minimal-good (low_bytes len n) (rw (← e) h))
-
-pub minimal-not-one : (len n b : ℕ) → b ≡ last (low_bytes len n) → b % 128 ≡ 0 → len ≡ 1 → false ≡ minimal (low_bytes len n)
-minimal-not-one len n b e h q =
-    subst⁻¹ (λ (m : ℕ). last (low_bytes m n) % 128 ≡ 0 → false ≡ minimal (low_bytes m n)) q (λ g. sym (minimal-one n g)) (rw e at h)
+pub minimal-last : (len n b : ℕ) → b ≡ last (low_bytes len n) → (b % 128 ≡ 0 → ⊥) → not (eqb (b % 128) 0) ≡ minimal (low_bytes len n)
+minimal-last len n b e h = rw (ne_eqb (b % 128) 0 h) (sym (minimal-good (low_bytes len n) (rw (← e) h)))
 
 module _ (len n b c : ℕ) (e : b ≡ last (low_bytes len n)) (h : b % 128 ≡ 0) (pos : 1 ≤ len) (more : len ≡ 1 → ⊥) (f : c ≡ last (low_bytes (len - 1) n)) where
-  minimal-before : leb 0x80 c ≡ minimal (low_bytes len n)
+  pub minimal-before : leb 0x80 c ≡ minimal (low_bytes len n)
   minimal-before = by len e pos more f
     where
       by : (len : ℕ) → b ≡ last (low_bytes len n) → 1 ≤ len → (len ≡ 1 → ⊥) → c ≡ last (low_bytes (len - 1) n) → leb 0x80 c ≡ minimal (low_bytes len n)
@@ -201,12 +191,6 @@ module _ (len n b c : ℕ) (e : b ≡ last (low_bytes len n)) (h : b % 128 ≡ 0
       by (suc (suc k)) e pos q f =
           let m : suc (suc k) - 1 ≡ suc k = omega arith in
           ap (leb 0x80) (f ∙ ap (λ (j : ℕ). last (low_bytes j n)) m) ∙ sym (minimal-more k n (rw e at h))
-
-  pub minimal-clear : c < 128 → false ≡ minimal (low_bytes len n)
-  minimal-clear g = sym (lt-leb 0x80 c g) ∙ minimal-before
-
-  pub minimal-set : 128 ≤ c → true ≡ minimal (low_bytes len n)
-  minimal-set g = sym (le-leb 0x80 c g) ∙ minimal-before
 
 -- reading, by the tests that lead to each answer
 abbrev Read : ℕ → ℕ → Result ℕ NoIndex
@@ -255,13 +239,3 @@ pub read-index : (len w n b : ℕ) → 1 ≤ len → len ≤ 8 → w ≡ len →
     → Ok (n % ((1 * 2 ^ (w * 8 - 1)) % 2 ^ 64)) ≡ Read len n
 read-index len w n b pos h q m e g =
     rw (deserialize-good len n h m, lt-ltb (last (low_bytes len n)) 0x80 (omega arith), number-below-sign len w n pos h q (omega arith))
-
--- the answer for an index, and what follows it
-pub answer-reads : (x : D.Index) (i : Result ℕ NoIndex) → i ≡ indexed x → (read_of i ≡ readable marking x) × (i ≡ indexed x)
-answer-reads x i e = (ap read_of e ∙ by x, e)
-  where
-    by : (x : D.Index) → read_of (indexed x) ≡ readable marking x
-    by D.not_known = refl
-    by D.no_number = refl
-    by D.negative = refl
-    by (D.index n) = refl

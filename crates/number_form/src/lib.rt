@@ -65,7 +65,6 @@ pub fn read_index(v: Value) -> Result<u64, NoIndex>
     }
 }
 
-#[tactic(auto, using(crate::proofs::Numbers::number_values))]
 /// A height or a length as a value, in number form.
 pub fn number_value(n: u64) -> Value
     ensures { result ≡ value_of (known (serialize (plus n))) }
