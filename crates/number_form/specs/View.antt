@@ -4,6 +4,8 @@ use Rattle.definition.specs.Decoding as D
 use Rattle.definition.specs.Refusals.{bad_index, crooked_number, negative_index}
 use Rattle.definition.specs.Stacks as S
 use Rattle.definition.specs.Walk.{Item}
+use Rattle.refusals.specs.declared.Refusal.{Refusal}
+use Rattle.refusals.specs.declared.Refusal.TheVariants.{BadIndex, CrookedNumber, NegativeIndex}
 use Rattle.number_form.specs.declared.NoIndex.{NoIndex}
 use Rattle.number_form.specs.declared.NoIndex.TheVariants as N
 
@@ -20,3 +22,9 @@ indexed D.not_known = Err N.Unknown
 indexed D.no_number = Err N.NoNumber
 indexed D.negative = Err N.Negative
 indexed (D.index n) = Ok n
+
+-- the refusal where a value is no index
+abbrev pub index_refusal : NoIndex → Refusal
+index_refusal N.Unknown = BadIndex
+index_refusal N.NoNumber = CrookedNumber
+index_refusal N.Negative = NegativeIndex

@@ -9,9 +9,10 @@ ghost use Rattle.definition.specs.Decoding.{plus, serialize, last, deserialize, 
 ghost use Rattle.definition.specs.Stacks.{readable};
 ghost use Rattle.definition.specs.Walk.{known, bytes_known, marking};
 ghost use Rattle.decode.specs.View.{low_bytes, item_of, value_of};
-ghost use Rattle.number_form.specs.View.{read_of, indexed};
+ghost use Rattle.number_form.specs.View.{read_of, indexed, index_refusal};
 
 use decode::Value;
+use refusals::Refusal;
 
 /// Why a value is no index.
 #[derive(Clone, Copy, Debug, PartialEq, Eq)]
@@ -19,6 +20,18 @@ pub enum NoIndex {
     Unknown,
     NoNumber,
     Negative,
+}
+
+impl From<NoIndex> for Refusal {
+    ghost from_gives = { λ why refusal. refusal ≡ index_refusal why };
+
+    fn from(why: NoIndex) -> Refusal {
+        match why {
+            NoIndex::Unknown => Refusal::BadIndex,
+            NoIndex::NoNumber => Refusal::CrookedNumber,
+            NoIndex::Negative => Refusal::NegativeIndex,
+        }
+    }
 }
 
 // The last of `len` bytes.
