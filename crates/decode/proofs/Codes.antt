@@ -14,11 +14,10 @@ use Rattle.definition_long_data.specs.Blank.{length_bytes}
 use Rattle.definition.specs.Decoding.{number, Front, whole, short, alone, pushes, sized, front, Code, ends, malformed, then, on_front, decode_from, decode, instructions, malformed_at}
 use Rattle.definition.specs.Walk.{known}
 use Rattle.definition.specs.Replay.{AreBytes}
-use Rattle.decode.specs.View.{item_of, value_of, Held, decoded_front, decoded_rest, decoded_at, code_at, data_start, instruction, yield_of, yielded, rest, counted_of, count_by, count_in}
+use Rattle.decode.specs.View.{Decoded, item_of, value_of, Held, decoded_front, decoded_rest, decoded_at, code_at, data_start, instruction, yield_of, yielded, rest, counted_of, count_by, count_in}
 use Rattle.decode.specs.declared.Instruction.{Instruction}
-use Rattle.decode.specs.declared.Decoded.{Decoded}
-use Rattle.decode.specs.declared.Decoded.TheVariants.{At, End, Malformed}
-use Rattle.decode.specs.declared.Counted.TheVariants as C
+use Rattle.decode.specs.declared.Malformed.{Malformed}
+use Rattle.std.specs.Prelude.{Some, None, Ok, Err}
 use Rattle.decode.proofs.Bytes.{bytes_take, bytes_drop}
 use Rattle.decode.proofs.Values.{held-known, item-of-known}
 use Rattle.decode.proofs.Fronts.{at-end, at-alone}
@@ -111,7 +110,7 @@ module _ (s : Bytes) (p : ℕ) where
       ap (λ n. get_or s n 0) (sym z) ∙ sym (get_or-drop p s 0 0) ∙ ap (λ l. get_or l 0 0) e
 
   instruction-front : (b : ℕ) (rest : Bytes) (f : Front) → drop p s ≡ b ∷ rest → b < 256 → front b rest ≡ f → Within rest f
-      → (i : Instruction) → decoded_front f b p ≡ At i → InstructionAt s p i
+      → (i : Instruction) → decoded_front f b p ≡ Ok (Some i) → InstructionAt s p i
   instruction-front b rest f e lt q (is_whole {after = after} {literal = l} w k) i h =
       subst (InstructionAt s p) j (record {
         literal = l;
@@ -132,7 +131,7 @@ module _ (s : Bytes) (p : ℕ) where
   instruction-front b rest f e lt q is-short i h = absurd (let z : ◌≡◌ {A = ℕ} 0 1 = cc in omega arith)
 
   -- an instruction stands here
-  pub code-instruction : AreBytes s → (i : Instruction) → decoded_at s p ≡ At i → InstructionAt s p i
+  pub code-instruction : AreBytes s → (i : Instruction) → decoded_at s p ≡ Ok (Some i) → InstructionAt s p i
   code-instruction k i h = by (drop p s) refl
     where
       by : (l : Bytes) → drop p s ≡ l → InstructionAt s p i
@@ -142,10 +141,10 @@ module _ (s : Bytes) (p : ℕ) where
           instruction-front b rest (front b rest) e w.0 refl (within-front b rest w.0 w.1) i (sym (decoded-rest (b ∷ rest) e) ∙ h)
 
   -- the fragment ends here
-  pub code-ends : decoded_at s p ≡ End → (code_at s p ≡ ends) × (length s ≤ p)
+  pub code-ends : decoded_at s p ≡ Ok None → (code_at s p ≡ ends) × (length s ≤ p)
   code-ends h = by (drop p s) refl
     where
-      none : (b : ℕ) (f : Front) → decoded_front f b p ≡ End → ⊥
+      none : (b : ℕ) (f : Front) → decoded_front f b p ≡ Ok None → ⊥
       none b (whole after l) e = let z : ◌≡◌ {A = ℕ} 0 1 = cc in omega arith
       none b short e = let z : ◌≡◌ {A = ℕ} 0 1 = cc in omega arith
 
@@ -154,10 +153,10 @@ module _ (s : Bytes) (p : ℕ) where
       by (b ∷ rest) e = absurd (none b (front b rest) (sym (decoded-rest (b ∷ rest) e) ∙ h))
 
   -- the instruction here is not whole
-  pub code-malformed : {at : ℕ} → decoded_at s p ≡ Malformed at → (code_at s p ≡ malformed p) × (p < length s)
-  code-malformed {at} h = by (drop p s) refl
+  pub code-malformed : {m : Malformed} → decoded_at s p ≡ Err m → (code_at s p ≡ malformed p) × (p < length s)
+  code-malformed {m} h = by (drop p s) refl
     where
-      short-front : (b : ℕ) (rest : Bytes) (f : Front) → front b rest ≡ f → drop p s ≡ b ∷ rest → decoded_front f b p ≡ Malformed at → code_at s p ≡ malformed p
+      short-front : (b : ℕ) (rest : Bytes) (f : Front) → front b rest ≡ f → drop p s ≡ b ∷ rest → decoded_front f b p ≡ Err m → code_at s p ≡ malformed p
       short-front b rest (whole after l) q e g = cc
       short-front b rest short q e g = code-rest (b ∷ rest) e ∙ ap (λ (f : Front). on_front f b p (λ k. decode_from k (p + 1) rest)) q
 
@@ -184,10 +183,10 @@ module _ (s : Bytes) (p : ℕ) where
   answer-yields k r e = (ap yield_of e ∙ code-yields k, e)
 
   -- an instruction stands here: behind it the rest of the code is left
-  pub code-behind : (i : Instruction) → decoded_at s p ≡ At i → code_at s i.next ≡ rest (code_at s p)
+  pub code-behind : (i : Instruction) → decoded_at s p ≡ Ok (Some i) → code_at s i.next ≡ rest (code_at s p)
   code-behind i h = by (drop p s) refl
     where
-      by_front : (b : ℕ) (l : Bytes) (f : Front) → drop p s ≡ b ∷ l → decoded_front f b p ≡ At i → code_at s i.next ≡ rest (on_front f b p (λ after. decode_from after (p + 1) l))
+      by_front : (b : ℕ) (l : Bytes) (f : Front) → drop p s ≡ b ∷ l → decoded_front f b p ≡ Ok (Some i) → code_at s i.next ≡ rest (on_front f b p (λ after. decode_from after (p + 1) l))
       by_front b l (whole after literal) e g =
           let n : i.next ≡ p + 1 + after = cc in
           rw n (sym (code-next b l after e))
@@ -233,10 +232,10 @@ module _ (s : Bytes) (offset count : ℕ) (c : Counting s offset count) where
     is = c.is ∙ rw t.code (ap (count_by (malformed_at (code_at s i.next))) (omega arith));
   }
 
-  pub counting-ends : decoded_at s offset ≡ End → counted_of (C.Whole count) ≡ count_in (decode s)
+  pub counting-ends : decoded_at s offset ≡ Ok None → counted_of (Ok count) ≡ count_in (decode s)
   counting-ends h = sym (c.is ∙ rw (code-ends s offset h).0 (ap (count_by none) (omega arith)))
 
-  pub counting-malformed : {at : ℕ} → decoded_at s offset ≡ Malformed at → counted_of (C.Malformed offset) ≡ count_in (decode s)
+  pub counting-malformed : {m : Malformed} → decoded_at s offset ≡ Err m → counted_of (Err (record { offset = offset })) ≡ count_in (decode s)
   counting-malformed h = sym (c.is ∙ rw (code-malformed s offset h).0)
 
   -- an opcode that stands alone, and the end, by the tests of the code
@@ -245,5 +244,5 @@ module _ (s : Bytes) (offset count : ℕ) (c : Counting s offset count) where
       let i : Instruction = record { opcode = get_or s offset 0; offset = offset; literal = value_of (known (alone (get_or s offset 0))); next = offset + 1 } in
       counting_more i (code-instruction s offset k i (sym (at-alone s (get_or s offset 0) offset h refl i.literal g refl)))
 
-  pub counting-end : length s ≤ offset → counted_of (C.Whole count) ≡ count_in (decode s)
+  pub counting-end : length s ≤ offset → counted_of (Ok count) ≡ count_in (decode s)
   counting-end h = counting-ends (sym (at-end s offset h))

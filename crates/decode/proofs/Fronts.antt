@@ -12,11 +12,11 @@ use Rattle.definition.specs.Basics.{Bytes}
 use Rattle.definition.specs.Decoding.{number, whole, alone, pushes, sized, front}
 use Rattle.definition.specs.Walk.{known}
 use Rattle.definition.specs.Replay.{AreBytes}
-use Rattle.decode.specs.View.{value_of, decoded_front, decoded_at}
+use Rattle.decode.specs.View.{Decoded, value_of, decoded_front, decoded_at}
 use Rattle.decode.specs.declared.Value.{Value}
 use Rattle.decode.specs.declared.Value.TheVariants.{Unknown, Exact}
-use Rattle.decode.specs.declared.Decoded.{Decoded}
-use Rattle.decode.specs.declared.Decoded.TheVariants.{At, End, Malformed}
+use Rattle.decode.specs.declared.Malformed.{Malformed}
+use Rattle.std.specs.Prelude.{Some, None, Ok, Err}
 use Rattle.decode.proofs.Bytes.{bytes_take, bytes_drop, number-below}
 
 -- The n bytes from start on, the upper n - k of them read into v.
@@ -67,16 +67,16 @@ module _ (s : Bytes) (opcode offset start size : ℕ) (after : offset < start) (
   Pushed = decoded_front (pushes (start - (offset + 1)) size (drop start s)) opcode offset
 
   abbrev At-next : Value → Decoded
-  At-next v = At (record { opcode = opcode; offset = offset; literal = v; next = start + size })
+  At-next v = Ok (Some (record { opcode = opcode; offset = offset; literal = v; next = start + size }))
 
-  pub pushes-short : length s - start < size → Malformed offset ≡ Pushed
+  pub pushes-short : length s - start < size → Err (record { offset = offset }) ≡ Pushed
   pushes-short h = rw (length-drop, lt-leb size (length s - start) h)
 
   pushes-whole : size ≤ length s - start → At-next (value_of (known (take size (drop start s)))) ≡ Pushed
   pushes-whole h =
       let literal = value_of (known (take size (drop start s))) in
       rw (length-drop, le-leb size (length s - start) h)
-      (ap (λ (n : ℕ). At (record { opcode = opcode; offset = offset; literal = literal; next = n })) (omega arith))
+      (ap (λ (n : ℕ). Ok (Some (record { opcode = opcode; offset = offset; literal = literal; next = n }))) (omega arith))
 
   length-data : size ≤ length s - start → length (take size (drop start s)) ≡ size
   length-data h = rw (length-take, length-drop) (omega arith)
@@ -93,7 +93,7 @@ module _ (s : Bytes) (opcode offset start size : ℕ) (after : offset < start) (
 
 -- a length of n bytes, then the data
 module _ (s : Bytes) (opcode offset n : ℕ) where
-  pub sized-short : length s - (offset + 1) < n → Malformed offset ≡ decoded_front (sized n (drop (offset + 1) s)) opcode offset
+  pub sized-short : length s - (offset + 1) < n → Err (record { offset = offset }) ≡ decoded_front (sized n (drop (offset + 1) s)) opcode offset
   sized-short h = rw (length-drop (offset + 1) s, lt-leb n (length s - (offset + 1)) h)
 
   pub sized-data : (size : ℕ) (r : Decoded) → n ≤ length s - (offset + 1) → size ≡ number (take n (drop (offset + 1) s))
@@ -142,7 +142,7 @@ unfolding front
 front-4e opcode rest h k c d = let e : opcode ≡ 0x4e = omega arith in rw e
 
 -- what stands at an offset
-pub at-end : (s : Bytes) (offset : ℕ) → length s ≤ offset → End ≡ decoded_at s offset
+pub at-end : (s : Bytes) (offset : ℕ) → length s ≤ offset → Ok None ≡ decoded_at s offset
 unfolding decoded_at
 at-end s offset h = rw (drop_of_length-le s h)
 
@@ -152,7 +152,7 @@ module _ (s : Bytes) (opcode offset : ℕ) (within : offset < length s) (is : op
   at_front = rw (drop-cons s offset 0 within, add-one offset, is)
 
   pub at-alone : (v : Value) → 0x4e < opcode → v ≡ value_of (known (alone opcode))
-      → At (record { opcode = opcode; offset = offset; literal = v; next = offset + 1 }) ≡ decoded_at s offset
+      → Ok (Some (record { opcode = opcode; offset = offset; literal = v; next = offset + 1 })) ≡ decoded_at s offset
   at-alone v h e =
       let z : offset + 1 + 0 ≡ offset + 1 = omega arith in
       rw (← at_front, front-alone opcode (drop (offset + 1) s) h, z, e)
