@@ -18,7 +18,9 @@ use Rattle.decode.specs.View.{Decoded, item_of, value_of, Held, decoded_front, d
 use Rattle.decode.specs.declared.Instruction.{Instruction}
 use Rattle.decode.specs.declared.Malformed.{Malformed}
 use Rattle.std.specs.Prelude.{Some, None, Ok, Err}
-use Rattle.decode.proofs.Bytes.{bytes_take, bytes_drop}
+use mir.Syntax.{w8}
+use mir.Val.{Fits}
+use Rattle.decode.proofs.Bytes.{slice-bytes, bytes_take, bytes_drop}
 use Rattle.decode.proofs.Values.{held-known, item-of-known}
 use Rattle.decode.proofs.Fronts.{at-end, at-alone}
 use Rattle.decode.proofs.Behind.{Behind, behind-front}
@@ -166,7 +168,7 @@ module _ (s : Bytes) (p : ℕ) where
           (short-front b rest (front b rest) refl e (sym (decoded-rest (b ∷ rest) e) ∙ h), omega (arith, length-drop p s, ap length e))
 
   -- what stands here is what the code from here on yields first
-  pub code-yields : AreBytes s → yield_of (decoded_at s p) ≡ yielded (code_at s p)
+  code-yields : AreBytes s → yield_of (decoded_at s p) ≡ yielded (code_at s p)
   code-yields k = by (drop p s) refl
     where
       by_front : {l : Bytes} {f : Front} → Within l f → (b : ℕ) (onward : ℕ → Code) → yield_of (decoded_front f b p) ≡ yielded (on_front f b p onward)
@@ -179,8 +181,8 @@ module _ (s : Bytes) (p : ℕ) where
           let w : AreBytes (b ∷ l) = subst AreBytes e (bytes_drop p s k) in
           rw (decoded-rest (b ∷ l) e, code-rest (b ∷ l) e) (by_front (within-front b l w.0 w.1) b (λ after. decode_from after (p + 1) l))
 
-  pub answer-yields : AreBytes s → (r : Decoded) → r ≡ decoded_at s p → (yield_of r ≡ yielded (code_at s p)) × (r ≡ decoded_at s p)
-  answer-yields k r e = (ap yield_of e ∙ code-yields k, e)
+  pub slice-yields : ((i : ℕ) → Fits w8 (get_or s i 0)) → yielded (code_at s p) ≡ yield_of (decoded_at s p)
+  slice-yields h = sym (code-yields (slice-bytes s h))
 
   -- an instruction stands here: behind it the rest of the code is left
   pub code-behind : (i : Instruction) → decoded_at s p ≡ Ok (Some i) → code_at s i.next ≡ rest (code_at s p)
@@ -224,25 +226,21 @@ counting-none s = record {
   is = rw code-start (ap (count_by (malformed_at (code_at s 0))) (omega arith));
 }
 
-module _ (s : Bytes) (offset count : ℕ) (c : Counting s offset count) where
-  pub counting_more : (i : Instruction) → InstructionAt s offset i → Counting s i.next (count + 1)
-  counting_more i t = record {
-    within = t.within;
-    most = omega (arith, t.onward, c.most);
-    is = c.is ∙ rw t.code (ap (count_by (malformed_at (code_at s i.next))) (omega arith));
-  }
+-- behind an instruction it is counted too
+pub counting-more : (s : Bytes) (offset count : ℕ) (i : Instruction) → ((k : ℕ) → Fits w8 (get_or s k 0)) → decoded_at s offset ≡ Ok (Some i) → Counting s offset count
+    → Counting s i.next (count + 1)
+counting-more s offset count i h e c =
+    let t = code-instruction s offset (slice-bytes s h) i e in
+    record {
+      within = t.within;
+      most = omega (arith, t.onward, c.most);
+      is = c.is ∙ rw t.code (ap (count_by (malformed_at (code_at s i.next))) (omega arith));
+    }
 
-  pub counting-ends : decoded_at s offset ≡ Ok None → counted_of (Ok count) ≡ count_in (decode s)
-  counting-ends h = sym (c.is ∙ rw (code-ends s offset h).0 (ap (count_by none) (omega arith)))
+-- and less is left
+pub less-left : (s : Bytes) (offset : ℕ) (i : Instruction) → ((k : ℕ) → Fits w8 (get_or s k 0)) → decoded_at s offset ≡ Ok (Some i) → length s - i.next < length s - offset
+less-left s offset i h e =
+    let t = code-instruction s offset (slice-bytes s h) i e in
+    omega (arith, t.onward, t.within)
 
-  pub counting-malformed : {m : Malformed} → decoded_at s offset ≡ Err m → counted_of (Err (record { offset = offset })) ≡ count_in (decode s)
-  counting-malformed h = sym (c.is ∙ rw (code-malformed s offset h).0)
-
-  -- an opcode that stands alone, and the end, by the tests of the code
-  pub counting-alone : AreBytes s → offset < length s → 0x4e < get_or s offset 0 → Counting s (offset + 1) (count + 1)
-  counting-alone k h g =
-      let i : Instruction = record { opcode = get_or s offset 0; offset = offset; literal = value_of (known (alone (get_or s offset 0))); next = offset + 1 } in
-      counting_more i (code-instruction s offset k i (sym (at-alone s (get_or s offset 0) offset h refl i.literal g refl)))
-
-  pub counting-end : length s ≤ offset → counted_of (Ok count) ≡ count_in (decode s)
-  counting-end h = counting-ends (sym (at-end s offset h))
+pub ruleset decoding = (slice-yields)

@@ -2,7 +2,7 @@
 
 #![tactic(auto)]
 
-ghost use Rattle.std.specs.Prelude.{◌&&◌, ◌≡◌, ◌+◌, ◌-◌, ◌^◌, ◌≤◌, ◌<◌, ltb, length, drop, get_or};
+ghost use Rattle.std.specs.Prelude.{◌&&◌, ◌≡◌, ◌+◌, ◌-◌, ◌≤◌, ◌<◌, ltb, length, drop, get_or};
 // `Decoding.f` is the f of crates/definition/specs/Decoding.antt.
 ghost use Rattle.definition.specs.Decoding as Decoding;
 ghost use Rattle.definition.specs.Decoding.{decode};
@@ -41,10 +41,11 @@ fn number(bytes: &[u8]) -> u64
     requires { length bytes.now ≤ 8 }
     ensures { result ≡ Decoding.number bytes.now }
 {
-    bytes
-        .iter()
-        .rev()
-        .fold(0, |number, &byte| number << 8 | u64::from(byte))
+    let mut number = 0;
+    for &byte in bytes.iter().rev() {
+        number = u64::from(byte) + number * 256;
+    }
+    number
 }
 
 // What the marker knows of these bytes: all of them, if they are at most 8.
@@ -69,22 +70,21 @@ fn pushes(
     start: usize,
     size: usize,
 ) -> Result<Option<Instruction>, Malformed>
-    requires { (offset < start) × (start ≤ length fragment.now) × (size < 2 ^ 32) }
+    requires { (offset < start) × (start ≤ length fragment.now) }
     ensures { result
         ≡ decoded_front
         (Decoding.pushes (start - (offset + 1)) size (drop start fragment.now))
         opcode
         offset }
 {
-    let next = start + size;
-    let Some(data) = fragment.get(start..next) else {
+    let Some(data) = fragment[start..].get(..size) else {
         return Err(Malformed { offset });
     };
     Ok(Some(Instruction {
         opcode,
         offset,
         literal: known(data),
-        next,
+        next: start + size,
     }))
 }
 
@@ -98,11 +98,11 @@ fn sized(
     requires { (n ≤ 4) × (offset < length fragment.now) }
     ensures { result ≡ decoded_front (Decoding.sized n (drop (offset + 1) fragment.now)) opcode offset }
 {
-    let start = offset + 1 + n;
-    let Some(size) = fragment.get(offset + 1..start) else {
+    let start = offset + 1;
+    let Some(size) = fragment[start..].get(..n) else {
         return Err(Malformed { offset });
     };
-    pushes(fragment, opcode, offset, start, number(size) as usize)
+    pushes(fragment, opcode, offset, start + n, number(size) as usize)
 }
 
 // What an opcode that stands alone pushes.
@@ -123,6 +123,7 @@ fn alone(opcode: u8) -> Value
 }
 
 // What stands at an offset whose opcode is followed by data or by a length, or is 00.
+#[tactic(auto, using(crate::proofs::Fronts::fronts))]
 fn pushing(fragment: &[u8], opcode: u8, offset: usize) -> Result<Option<Instruction>, Malformed>
     requires offset_in_bounds { offset < length fragment.now }
     requires opcode_value { (opcode ≡ get_or fragment.now offset 0) × (opcode ≤ 0x4e) }
@@ -138,6 +139,7 @@ fn pushing(fragment: &[u8], opcode: u8, offset: usize) -> Result<Option<Instruct
 
 /// What stands at an offset: an instruction, or none at the fragment's end. An opcode that stands alone is answered here, so that
 /// the function is short where it is called.
+#[tactic(auto, using(crate::proofs::Fronts::fronts, crate::proofs::Codes::decoding))]
 pub fn decode_at(fragment: &[u8], offset: usize) -> Result<Option<Instruction>, Malformed>
     ensures yields { yield_of result ≡ yielded (code_at fragment.now offset) }
     ensures same { result ≡ decoded_at fragment.now offset }
