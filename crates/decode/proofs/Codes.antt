@@ -2,7 +2,6 @@
 use mathlib.Core.Bool.{Bool, true, false, ◌&&◌}
 use mathlib.Core.Path.{◌≡◌, refl, sym, ap, subst, ◌∙◌}
 use mathlib.Core.List.{[], ◌∷◌}
-use mathlib.Core.Option.{none}
 use Prim.Native.Nat.{ℕ, zero, suc, ◌+◌, ◌-◌, ◌≤◌, ◌<◌}
 use native.Mathlib.Omega.{arith}
 use borrow.Author.Tests.{leb-true}
@@ -14,7 +13,7 @@ use Rattle.definition_long_data.specs.Blank.{length_bytes}
 use Rattle.definition.specs.Decoding.{number, Front, whole, short, alone, pushes, sized, front, Code, ends, malformed, then, on_front, decode_from, decode, instructions, malformed_at}
 use Rattle.definition.specs.Walk.{known}
 use Rattle.definition.specs.Replay.{AreBytes}
-use Rattle.decode.specs.View.{Decoded, item_of, value_of, Held, decoded_front, decoded_rest, decoded_at, code_at, data_start, instruction, yield_of, yielded, rest, counted_of, count_by, count_in}
+use Rattle.decode.specs.View.{item_of, value_of, Held, decoded_front, decoded_rest, decoded_at, code_at, data_start, instruction, yield_of, yielded, rest, count_by, count_in}
 use Rattle.decode.specs.declared.Instruction.{Instruction}
 use Rattle.decode.specs.declared.Malformed.{Malformed}
 use Rattle.std.specs.Prelude.{Some, None, Ok, Err}
@@ -22,7 +21,6 @@ use mir.Syntax.{w8}
 use mir.Val.{Fits}
 use Rattle.decode.proofs.Bytes.{slice-bytes, bytes_take, bytes_drop}
 use Rattle.decode.proofs.Values.{held-known, item-of-known}
-use Rattle.decode.proofs.Fronts.{at-end, at-alone}
 use Rattle.decode.proofs.Behind.{Behind, behind-front}
 
 -- bytes that belong to the instruction before are passed over

@@ -1,13 +1,13 @@
 -- What stands at an offset, by the form of the instruction: each law has the tests of the code as premises.
 use Rattle.std.proofs.Common.{◌≡◌, refl, sym, ℕ, zero, suc, ◌+◌, ◌-◌, ◌≤◌, ◌<◌, length, drop, get_or, arith, add-one, drop-cons}
-use Rattle.std.specs.Prelude.{Some, None, Ok, Err}
+use Rattle.std.specs.Prelude.{Some, None, Ok}
 use borrow.Author.Tests.{le-leb, lt-leb, ne_eqb}
 use lib.Dec.{leb-zero}
 use lib.ListN.{drop_of_length-le}
 use Rattle.definition.specs.Basics.{Bytes}
 use Rattle.definition.specs.Decoding.{whole, alone, pushes, sized, front}
 use Rattle.definition.specs.Walk.{known}
-use Rattle.decode.specs.View.{Decoded, value_of, decoded_front, decoded_at}
+use Rattle.decode.specs.View.{value_of, decoded_front, decoded_at}
 
 -- which form an opcode has
 front-alone : (opcode : ℕ) (rest : Bytes) → 0x4e < opcode → front opcode rest ≡ whole 0 (alone opcode)

@@ -1,5 +1,5 @@
 -- A number read from its last byte down: the bytes that are left, and what those behind them made.
-use Rattle.std.proofs.Common.{◌≡◌, ◌∙◌, sym, ap, ℕ, zero, suc, ◌+◌, ◌*◌, ◌^◌, ◌≤◌, ◌<◌, [], ◌∷◌, ◌++◌, length, arith}
+use Rattle.std.proofs.Common.{◌≡◌, ◌∙◌, sym, ap, ℕ, ◌+◌, ◌*◌, ◌^◌, ◌≤◌, ◌<◌, [], ◌∷◌, ◌++◌, length, arith}
 use native.Mathlib.Nat.{pow-le-pow_right}
 use lib.Dec.{lit<}
 use Rattle.definition.specs.Basics.{Bytes}

@@ -9,8 +9,10 @@ ghost use Rattle.definition.specs.Decoding.{decode};
 ghost use Rattle.definition_long_data.specs.Blank.{length_bytes};
 ghost use Rattle.definition.specs.Refusals.{max_element};
 ghost use Rattle.definition.specs.Walk.{known};
+ghost use Rattle.refusals.specs.declared.Refusal.TheVariants as Refusal;
 ghost use Rattle.decode.specs.View.{value_of, decoded_front, decoded_at, code_at, data_start, yield_of, yielded, counted_of, count_in};
 
+use refusals::{Refusal, Refused};
 use thiserror::Error;
 
 /// What is known of an item: nothing, or its length and its bytes as one number, the first byte the lowest.
@@ -34,6 +36,17 @@ pub struct Instruction {
 #[error("the instruction at offset {offset} is not whole")]
 pub struct Malformed {
     pub offset: usize,
+}
+
+impl From<Malformed> for Refused {
+    ghost from_gives = { λ malformed refused. refused ≡ record { offset = malformed.offset; refusal = Refusal.Malformed } };
+
+    fn from(malformed: Malformed) -> Refused {
+        Refused {
+            offset: malformed.offset,
+            refusal: Refusal::Malformed,
+        }
+    }
 }
 
 // At most 8 bytes as one number, the first the lowest.
