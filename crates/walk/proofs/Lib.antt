@@ -4,4 +4,3 @@ pub mod Rows
 pub mod Steps
 pub mod Literals
 pub mod Loop
-pub mod Dead
