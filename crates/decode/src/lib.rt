@@ -135,7 +135,9 @@ fn alone(opcode: u8) -> Value
     }
 }
 
-// What stands at an offset whose opcode is followed by data or by a length, or is 00.
+// What stands at an offset whose opcode is followed by data or by a length, or is 00. It stays a function, so that `decode_at` is
+// short.
+#[inline(never)]
 #[tactic(auto, using(crate::proofs::Fronts::fronts))]
 fn pushing(fragment: &[u8], opcode: u8, offset: usize) -> Result<Option<Instruction>, Malformed>
     requires offset_in_bounds { offset < length fragment.now }
@@ -150,8 +152,9 @@ fn pushing(fragment: &[u8], opcode: u8, offset: usize) -> Result<Option<Instruct
     }
 }
 
-/// What stands at an offset: an instruction, or none at the fragment's end. An opcode that stands alone is answered here, so that
-/// the function is short where it is called.
+/// What stands at an offset: an instruction, or none at the fragment's end. An opcode that stands alone is answered where the
+/// function is called: as a call it takes half as many instructions again.
+#[inline(always)]
 #[tactic(auto, using(crate::proofs::Fronts::fronts, crate::proofs::Codes::decoding))]
 pub fn decode_at(fragment: &[u8], offset: usize) -> Result<Option<Instruction>, Malformed>
     ensures yields { yield_of result ≡ yielded (code_at fragment.now offset) }
