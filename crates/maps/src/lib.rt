@@ -1,16 +1,17 @@
-// Lent opcode maps and limits: document 02, request L6; and the maps of the rule years, request L8.
+// Lent opcode maps and limits, and the maps of the rule years.
 
 #![tactic(auto)]
 
 ghost use Rattle.std.specs.Prelude.{true, false, ◌≡◌, ◌<◌, length, IfSome, IfNone, unwrap_or};
-ghost use Rattle.definition.specs.Classes.{class_number};
-ghost use Rattle.definition_rules.specs.Maps.{first_row, rows_of, good_rows, good_map, good_limit};
-ghost use Rattle.definition_rules.specs.Years.{classic_number};
-ghost use Rattle.opcodes.specs.View.{ClassRows};
+ghost use Rattle.definition_rules.specs.Maps.{first_row, rows_of, good_rows, good_map, good_limit, judged};
 ghost use Rattle.opcodes.specs.Classes.{rows_of as rows_by};
-ghost use Rattle.maps.specs.View.{Numbers, JudgedUpTo, judged_number, YearRows, map_size, map_put};
+ghost use Rattle.walk.specs.Runs.{options_of};
+ghost use Rattle.maps.specs.View.{rules_or_refusal, YearRows, map_size, map_put};
 
 use opcodes::Classes;
+use refusals::Refusal;
+use stack::Limit;
+use walk::{Options, Rules};
 
 mod classic;
 
@@ -44,11 +45,23 @@ fn classes(map: &[u8]) -> Option<Classes<'_>>
     if good_rows(rows) { Some(Classes::new(rows)) } else { None }
 }
 
-/// Whether a limit is good.
-fn good_limit(limit: u32) -> bool
-    ensures { result ≡ good_limit limit }
+/// A lent limit; none where it is bad.
+fn limit(items: u32) -> Option<Limit>
+    ensures some { IfSome result (λ l. (good_limit items ≡ true) × (l.items ≡ items)) }
+    ensures none { IfNone result (good_limit items ≡ false) }
 {
-    1 <= limit && limit <= 244
+    if (1..=244).contains(&items) { Some(Limit::new(items)) } else { None }
+}
+
+/// What a walk goes by under a lent map and what is lent beside it. A bad map is told before a bad limit.
+pub fn rules(map: &[u8], options: Options) -> Result<Rules<'_>, Refusal>
+    ensures { rules_or_refusal result ≡ judged map.now (options_of options) Err Ok }
+{
+    Ok(Rules {
+        classes: classes(map).ok_or(Refusal::BadMap)?,
+        limit: limit(options.limit).ok_or(Refusal::BadLimit)?,
+        examined: options.examined,
+    })
 }
 
 /// The rows of a year: 0 is the current one, which is built in, 1 the classic one. There is no other.

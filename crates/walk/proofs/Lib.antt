@@ -4,3 +4,4 @@ pub mod Rows
 pub mod Steps
 pub mod Literals
 pub mod Loop
+pub mod Dead
