@@ -82,7 +82,7 @@ module _ (code code' : ℕ) where
   common-none e = rw (ne_eqb code code' e)
 
 module _ (code n n' : ℕ) where
-  settled-suffices : sufficient code ≡ true → settled_code code n n' ≡ code
+  pub settled-suffices : sufficient code ≡ true → settled_code code n n' ≡ code
   unfolding settled_code
   settled-suffices e = rw e
 
