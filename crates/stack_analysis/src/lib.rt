@@ -71,20 +71,25 @@ fn accepted(w: &Walk) -> Summary
         ≡ summarized
         (record { answer = answer 0 0 0 0; rows = w.now.rows; peak = w.now.peak; end = arm_of w.now.stacks }) }
 {
-    let (main, alt) = match &w.stacks {
-        Some(stacks) => (stacks.mains, stacks.alts),
-        None => (0, 0),
-    };
-    Summary {
+    let summary = Summary {
         number: 0,
         offset: 0,
         first: 0,
         second: 0,
         rows: w.rows,
         peak: w.peak,
-        ended: w.stacks.is_some(),
-        main,
-        alt,
+        ended: false,
+        main: 0,
+        alt: 0,
+    };
+    match &w.stacks {
+        Some(stacks) => Summary {
+            ended: true,
+            main: stacks.mains,
+            alt: stacks.alts,
+            ..summary
+        },
+        None => summary,
     }
 }
 
