@@ -17,7 +17,7 @@ ghost use Rattle.stack_analysis.specs.Entry.{Starts, Begins, with_end};
 
 use arms::arm;
 use ends::EndStacks;
-use refusals::{Refusal, Refused};
+use refusals::{Answer, Refusal, Refused};
 use stack::{Limit, Stacks};
 use walk::{ArmEnd, Options, Walk};
 
@@ -52,11 +52,12 @@ pub struct Summary {
 fn refused(refused: Refused, rows: usize) -> Summary
     ensures { result ≡ summarized (refused_verdict refused.offset (refusal_of refused.refusal) rows) }
 {
+    let answer = Answer::from(Err(refused));
     Summary {
-        number: refused.refusal.number(),
-        offset: refused.offset,
-        first: refused.refusal.first(),
-        second: refused.refusal.second(),
+        number: answer.number,
+        offset: answer.offset,
+        first: answer.first,
+        second: answer.second,
         rows,
         peak: 0,
         ended: false,

@@ -1,7 +1,8 @@
 use mathlib.Core.Path.{◌≡◌, sym, ap, ◌∙◌}
 use native.Mathlib.Omega.{arith}
 use borrow.Author.Rules.{rules}
-use Rattle.std.specs.Prelude.{Ok}
+use Rattle.std.specs.Prelude.{Ok, Err}
+use Rattle.refusals.specs.declared.Refusal.TheVariants.{Malformed}
 use Rattle.definition.specs.Decoding.{decode}
 use Rattle.decode.specs.View.{counted_of, count_in}
 use Rattle.stack_analysis.proofs.Entries.{too_long_lem, too-high, not-whole, short-log, may-walk, few}
@@ -23,8 +24,8 @@ overflow_mul-needed c = record { fits = omega (arith, few _ _ (counted (goal.at.
 
 pub returns-in_err-needed : goal.returns-in_err-needed
 returns-in_err-needed c R log k l =
-    let m = not-whole R _ _ _ log _ k (omega arith) (omega (arith, c.from.ensures, c.from-2.ensures, c.items-limit.ensures, c.from-3.ensures)) _ (ap counted_of (sym c.in_err-needed.was) ∙ c.count_instructions.ensures) in
-    search (m, rules)
+    let e : c.from_residual.result ≡ Err (record { offset = c.in_err-needed.field-0.0.offset; refusal = Malformed }) = search rules in
+    rw e (not-whole R _ _ _ log _ k (omega arith) (omega (arith, c.from.ensures, c.from-2.ensures, c.items-limit.ensures, c.from-3.ensures)) _ (ap counted_of (sym c.in_err-needed.was) ∙ c.count_instructions.ensures))
 
 pub returns-then-needed-lent : goal.returns-then-needed-lent
 returns-then-needed-lent c R log k l =
