@@ -8,11 +8,11 @@ use native.Mathlib.Omega.{arith}
 use borrow.Author.Tests.{ltb-true, ltb-false, lt-ltb, le-ltb}
 use lib.Dec.{ltb}
 use lib.ListN.{length, take, drop, get_or, set, length-set, length-append}
-use lib.Seq.{get_or-set_same, get_or-set_other, set-set, take_at, drop_at}
+use lib.Seq.{get_or-set_same, get_or-set_other, take_at, drop_at}
 use Rattle.definition.specs.Walk.{Item}
-use Rattle.slots.specs.View.{Slots, slots, slot_item, sufficient, cells, tops, Canon, Sound}
+use Rattle.slots.specs.View.{Slots, sufficient, cells, tops}
 use Rattle.slots.specs.Parts.{Each, Placed, apart, turn}
-use Rattle.slots.proofs.Codes.{either, same_item, same-canon}
+use Rattle.slots.proofs.Codes.{either}
 
 -- Lists
 

@@ -4,7 +4,7 @@ use mathlib.Core.Option.{some}
 use Prim.Native.Nat.{ℕ, zero, suc, ◌+◌, ◌-◌, ◌%◌, ◌^◌, ◌≤◌, ◌<◌}
 use native.Mathlib.Omega.{arith}
 use borrow.Author.Tests.{le-leb, lt-leb, ne_eqb}
-use lib.ListN.{length, get_or}
+use lib.ListN.{get_or}
 use Rattle.std.specs.Prelude.{Result, Ok, Err}
 use Rattle.definition.specs.Classes.{DEPTH, SIZE, PICK, ZK}
 use Rattle.definition.specs.Decoding.{Instruction, serialize, plus}
@@ -25,7 +25,7 @@ use Rattle.slots.proofs.Codes.{either, by_code, item-low, item-high}
 use Rattle.slots.proofs.Laws.{length-tops}
 use Rattle.stack.specs.View.{stacks_in}
 use Rattle.stack.specs.Parts.{PopsIn, Sizes}
-use Rattle.stack.proofs.Pops.{pop-short, pop-is, had-one, on-at, on-refused}
+use Rattle.stack.proofs.Pops.{pop-short, pop-is, on-at, on-refused}
 
 -- PICK
 

@@ -200,7 +200,12 @@ impl Stacks {
     }
 
     /// Appends the lowest count of the top depth items.
-    pub fn try_extend_from_within(&mut self, depth: u64, count: u32, limit: Limit) -> Result<(), Refusal>
+    pub fn try_extend_from_within(
+        &mut self,
+        depth: u64,
+        count: u32,
+        limit: Limit,
+    ) -> Result<(), Refusal>
         requires { (count ≤ depth) × (count ≤ 244) }
         ensures { Yields result self.new (copy_items limit.items depth count (view self.old)) }
     {
@@ -228,7 +233,7 @@ impl Stacks {
         ensures { Yields result self.new (tuck_top limit.items (view self.old)) }
     {
         self.needs(1)?;
-        self.needs(2)?;
+        self.needs(2)?; // missing items are told before room
         self.room(1, limit)?;
         let top = self.mains as usize;
         self.copy_slot(top - 1, top);
@@ -302,7 +307,7 @@ impl Stacks {
     fn top_count(&self) -> Result<u64, Refusal>
         ensures { Pops self.now result }
     {
-        self.needs(1)?;
+        self.needs(1)?; // a missing item is told before any index
         let top = self.mains as usize - 1;
         Ok(read_index(slot_value(self.codes[top], self.bytes[top]))?)
     }
@@ -376,9 +381,9 @@ impl Stacks {
             0x2a if self.mains < 3 => Err(Refusal::MainDry { needed: 1, had: 0 }),
             0x2a => {
                 self.mains -= 3;
-                let n = self.top_count()?;
+                let count = self.top_count()?;
                 self.mains -= 1;
-                self.zk_drop(n, limit)
+                self.zk_drop(count, limit)
             }
             _ => Err(Refusal::BadTag),
         }
