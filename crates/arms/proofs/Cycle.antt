@@ -1,18 +1,17 @@
 -- The arm walker and the conditional walker call each other.
-use Rattle.std.proofs.Common.{List, [], ◌∷◌, ◌≡◌, refl, sym, ap, ◌∙◌, ℕ, ◌+◌, ◌*◌, ◌-◌, ◌≤◌, ◌<◌, arith, length, Option, Result, Ok, Err}
+use Rattle.std.proofs.Common.{List, ◌∷◌, ◌≡◌, refl, ◌∙◌, ℕ, ◌+◌, ◌*◌, ◌-◌, ◌≤◌, ◌<◌, arith, length, Option, Result, Ok, Err}
 use Rattle.definition.specs.Basics.{Bytes}
 use Rattle.definition.specs.Stacks.{Rules}
 use Rattle.definition.specs.Walk.{not_ended, ended, Frame}
 use Rattle.refusals.specs.declared.Refusal.{Refusal}
 use Rattle.stack.specs.declared.Stacks.{Stacks}
-use Rattle.walk.specs.Runs.{arm_of, running, met_conditional, halted, ending, going, stopping, Stand, stand, resume, rows_at, Goes, Room, Ready, Runs}
+use Rattle.walk.specs.Runs.{arm_of, running, met_conditional, ending, going, stopping, Stand, stand, resume, rows_at, Goes, Room, Ready, Runs}
 use Rattle.walk.specs.declared.ArmEnd.{ArmEnd}
 use Rattle.walk.specs.declared.ArmEnd.TheVariants.{Else}
 use Rattle.walk.specs.declared.Stop.{Stop}
-use Rattle.walk.specs.declared.Stop.TheVariants as Stop
 use Rattle.walk.specs.declared.Walk.{Walk}
 use Rattle.walk.proofs.Goings.{stays, goes_on_lem, among}
-use Rattle.arms.specs.Walkers.{Open, frame, SamePlace, entered, Enters, Finishes, Walks, Closes}
+use Rattle.arms.specs.Walkers.{Open, frame, SamePlace, Enters, Finishes, Walks, Closes}
 
 -- the second arm starts from where the first did, and stands behind what the first has walked
 abbrev pub second : Option Stacks → Walk → Walk

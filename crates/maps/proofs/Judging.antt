@@ -3,7 +3,7 @@ use Rattle.std.proofs.Common.{Bool, true, false, ◌&&◌, not, List, [], ◌∷
 use Rattle.std.proofs.Math.Bool.{and_assoc, and-false}
 use Rattle.definition.proofs.Sound.{and-true}
 use mathlib.Core.Path.{ap₂}
-use borrow.Author.Tests.{le-leb, lt-leb, eqb-true, eq-eqb, ne_eqb}
+use borrow.Author.Tests.{le-leb, lt-leb, eqb-true, eq-eqb}
 use lib.Seq.{length-take-le}
 use Rattle.std.proofs.lemmas.List.{take-append-drop}
 use Rattle.std.specs.List.{list_all}
@@ -13,7 +13,7 @@ use Rattle.opcodes.specs.declared.TheConstants.{CLASSES}
 use Rattle.definition_rules.proofs.GoodMaps.{GoodMap, good_map_rows}
 use Rattle.opcodes.specs.View.{ClassRows}
 use Rattle.maps.proofs.ClassRows.{rows-lent, good-rows}
-use Rattle.definition_rules.specs.Maps.{row_count, first_row, rows_of, good_row, good_rows, good_map, good_limit, table_from}
+use Rattle.definition_rules.specs.Maps.{row_count, first_row, good_row, good_rows, good_map, table_from}
 use Rattle.opcodes.proofs.Numbering.{number-below}
 use Rattle.opcodes.proofs.Every.{every, tabled}
 use Rattle.maps.specs.View.{Numbers}

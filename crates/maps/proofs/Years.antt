@@ -1,10 +1,10 @@
 -- Laws of a year's map in lent bytes.
-use mathlib.Core.List.{List, [], ◌∷◌, ◌++◌}
-use mathlib.Core.Path.{◌≡◌, refl, sym, ap, ap₂, subst, ◌∙◌}
-use Prim.Native.Nat.{ℕ, zero, suc, ◌+◌, ◌≤◌, ◌<◌}
+use mathlib.Core.List.{List, [], ◌∷◌}
+use mathlib.Core.Path.{◌≡◌, refl, sym, ap, ap₂, ◌∙◌}
+use Prim.Native.Nat.{ℕ, zero, suc, ◌+◌, ◌<◌}
 use native.Mathlib.Omega.{arith}
-use borrow.Author.Tests.{ne_eqb, le-leb, lt-leb}
-use lib.ListN.{length, drop, get_or}
+use borrow.Author.Tests.{ne_eqb, le-leb}
+use lib.ListN.{length, get_or}
 use Rattle.definition.specs.Basics.{Bytes}
 use Rattle.definition.specs.Classes.{class_number}
 use Rattle.definition_rules.specs.Maps.{table_from, built_in_map}

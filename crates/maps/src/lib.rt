@@ -21,7 +21,10 @@ fn good_rows(rows: &[u8]) -> bool
     ensures { result ≡ good_rows 0 rows.now }
 {
     let (early, later) = rows.split_at(0x61);
-    early == &opcodes::CLASSES[..0x61] && later.iter().all(|&class| class <= 31 && class != opcodes::PUSH)
+    early == &opcodes::CLASSES[..0x61]
+        && later
+            .iter()
+            .all(|&class| class <= 31 && class != opcodes::PUSH)
 }
 
 // Where the rows of a map begin.
@@ -42,7 +45,11 @@ fn classes(map: &[u8]) -> Option<Classes<'_>>
         return None;
     }
     let rows = &map[first..first + 256];
-    if good_rows(rows) { Some(Classes::new(rows)) } else { None }
+    if good_rows(rows) {
+        Some(Classes::new(rows))
+    } else {
+        None
+    }
 }
 
 /// A lent limit; none where it is bad.
@@ -50,7 +57,11 @@ fn limit(items: u32) -> Option<Limit>
     ensures some { IfSome result (λ l. (good_limit items ≡ true) × (l.items ≡ items)) }
     ensures none { IfNone result (good_limit items ≡ false) }
 {
-    if (1..=244).contains(&items) { Some(Limit::new(items)) } else { None }
+    if (1..=244).contains(&items) {
+        Some(Limit::new(items))
+    } else {
+        None
+    }
 }
 
 /// What a walk goes by under a lent map and what is lent beside it. A bad map is told before a bad limit.

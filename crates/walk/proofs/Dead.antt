@@ -1,5 +1,5 @@
 -- The loop over a dead arm.
-use Rattle.std.proofs.Common.{◌≡◌, refl, ℕ, ◌+◌, ◌*◌, ◌<◌, List, None, max, arith, length}
+use Rattle.std.proofs.Common.{◌≡◌, refl, ℕ, ◌+◌, ◌*◌, List, None, max, arith, length}
 use lib.ListN.{set}
 use Rattle.definition.specs.Basics.{Bytes}
 use Rattle.definition.specs.Stacks.{Rules}
@@ -8,7 +8,7 @@ use Rattle.definition.specs.Walk.{total_of}
 use Rattle.opcodes.specs.Class.{number_of}
 use Rattle.opcodes.specs.declared.Class.{Class}
 use Rattle.opcodes.specs.declared.Class.TheVariants.{Unmodelled, Push, Nothing, If, NotIf, Else, EndIf, Return, ToAlt, FromAlt, Depth, Size, Nip, Tuck, Pick, Roll, Zk, Dup, TwoDup, ThreeDup, Over, TwoOver, Rot, TwoRot, Swap, TwoSwap, Effect10, Effect20, Effect01, Effect11, Effect31, Effect21}
-use Rattle.walk.specs.Runs.{running, Stand, stand, arm, Goes, Any}
+use Rattle.walk.specs.Runs.{running, Stand, stand, arm}
 use Rattle.walk.specs.declared.Walk as W
 use Rattle.decode.proofs.Codes.{InstructionAt}
 use Rattle.decode.specs.declared.Instruction.{Instruction}

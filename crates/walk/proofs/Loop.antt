@@ -6,12 +6,12 @@ use lib.ListN.{set}
 use Rattle.definition.specs.Basics.{Bytes}
 use Rattle.definition.specs.Decoding.{instructions}
 use Rattle.definition.specs.Decoding as Decoding
-use Rattle.definition.specs.Classes.{Class, Ordinary, IF, NOTIF, ELSE, ENDIF, RETURN, ordinary, unmodelled, push, nothing, plain, class_at}
+use Rattle.definition.specs.Classes.{Class, Ordinary, IF, NOTIF, ELSE, ENDIF, RETURN, ordinary, plain, class_at}
 use Rattle.definition.specs.Refusals.{max_element}
 use Rattle.definition.specs.Replay.{AreBytes}
 use Rattle.definition.specs.Stacks.{Rules, Outcome, done, step, push_item, push_literal, plain_step}
 use Rattle.definition.specs.Stacks as S
-use Rattle.definition.specs.Walk.{Item, exact, dead, Frame, moves, on_outcome, effect, marking, total_of, log_row}
+use Rattle.definition.specs.Walk.{Item, exact, dead, Frame, moves, effect, marking, total_of, log_row}
 use Rattle.decode.specs.View.{code_at, Decoded, decoded_at, data_start, item_of, low_bytes, Held}
 use Rattle.decode.proofs.Codes.{InstructionAt, code-instruction, code-ends, code-malformed}
 use Rattle.decode.specs.declared.Instruction.{Instruction}
@@ -24,12 +24,11 @@ use Rattle.refusals.specs.declared.Refusal.{Refusal}
 use Rattle.refusals.specs.declared.Refusal.TheVariants as F
 use Rattle.slots.specs.View.{slot_item, sufficient, code_of}
 use Rattle.slots.proofs.Codes.{code-item}
-use Rattle.stack.specs.View.{view, outcome, Says, Steps}
+use Rattle.stack.specs.View.{view, Says, Steps}
 use Rattle.stack.specs.declared.Stacks.{Stacks}
 use Rattle.stack.specs.declared.Stepped.{Stepped}
-use Rattle.walk.specs.Runs.{Halt, running, finished, met_conditional, met_else, met_endif, halted, going, stopping, Stand, stand, arm, Goes, Any, Room, Runs}
+use Rattle.walk.specs.Runs.{running, finished, met_conditional, met_else, met_endif, going, stopping, Stand, stand, arm, Goes, Any, Room, Runs}
 use Rattle.walk.specs.declared.Stop.{Stop}
-use Rattle.walk.specs.declared.Stop.TheVariants as Stop
 use Rattle.walk.specs.declared.Walk.{Walk}
 use Rattle.walk.proofs.Rows.{row-live, total-live}
 use Rattle.walk.proofs.Literals.{unknown-long, exact-pushed, long-pushed, short-pushed}

@@ -1,5 +1,5 @@
 -- The rows that are written and the peak.
-use Rattle.std.proofs.Common.{List, ◌≡◌, refl, ◌∙◌, ℕ, ◌+◌, ◌*◌, max, Option, Some, None}
+use Rattle.std.proofs.Common.{List, ◌≡◌, ◌∙◌, ℕ, ◌+◌, ◌*◌}
 use lib.ListN.{set}
 use Rattle.definition.specs.Walk.{dead, live, total_of, log_row}
 use Rattle.definition.proofs.Arms.{main_height, alt_height, row-stores}

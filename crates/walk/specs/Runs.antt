@@ -18,7 +18,6 @@ use Rattle.walk.specs.declared.ArmEnd.TheVariants.{End, Else, Endif}
 use Rattle.walk.specs.declared.Options.{Options}
 use Rattle.walk.specs.declared.Rules.{Rules}
 use Rattle.walk.specs.declared.Stop.{Stop}
-use Rattle.walk.specs.declared.Stop.TheVariants as Stop
 use Rattle.walk.specs.declared.Walk.{Walk}
 
 -- what is lent beside the classes

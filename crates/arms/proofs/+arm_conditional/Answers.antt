@@ -1,4 +1,4 @@
-use Rattle.std.proofs.Common.{rules, arith, ◌≡◌, Result, Ok, Err, sym, ◌∙◌}
+use Rattle.std.proofs.Common.{rules, arith, ◌≡◌, Ok, Err}
 use Rattle.definition.specs.Stacks.{built_in}
 use Rattle.walk.specs.Runs.{rules_in}
 use Rattle.walk.specs.declared.ArmEnd.TheVariants.{Else}

@@ -1,11 +1,10 @@
-use Rattle.std.proofs.Common.{rules, arith, [], ◌≡◌, Option, Some, None, Result, Ok, Err, refl, sym, ap, ◌∙◌}
+use Rattle.std.proofs.Common.{rules, arith, [], ◌≡◌, Some, None, Ok, Err, refl, sym, ap, ◌∙◌}
 use Rattle.definition.specs.Classes.{class_at}
 use Rattle.definition.specs.Decoding.{instructions}
 use Rattle.definition.specs.Stacks.{step}
 use Rattle.decode.specs.View.{code_at}
 use Rattle.decode.proofs.Bytes.{slice-bytes}
 use Rattle.decode.proofs.Codes.{InstructionAt}
-use Rattle.opcodes.specs.Class.{number_of}
 use Rattle.opcodes.specs.declared.Class.TheVariants as C
 use Rattle.slots.proofs.Codes.{sufficient-high}
 use Rattle.walk.specs.Runs.{rules_in, stand, running}
@@ -33,33 +32,33 @@ did c =
     let x = c.loop-instruction.stacks in
     let m = called c in
     elim c.match-of.branch [
-      in-Push+in-Unknown+else-too_long w ↦ did-by m C.Push w.in-Push.is x _ w.stepped-is (tt, (pushes-unknown m w.in-Unknown.is _ (rw c.meet.ensures.past at w.too_long.ensures) w.if-too_long.false x w.push_code.ensures))
-    | in-Push+in-Exact+then-suffices w ↦ did-by m C.Push w.in-Push.is x _ w.stepped-is (tt, (pushes-code m w.in-Exact.is _ w.code_of-code.ensures (sym w.suffices.ensures ∙ w.if-suffices.true) x w.push_code-then-suffices.ensures))
-    | in-Push+in-Exact+else-suffices w ↦ did-by m C.Push w.in-Push.is x _ w.stepped-is (tt, (pushes-exact m w.in-Exact.is x w.push_exact.ensures))
-    | in-ToAlt w ↦ did-by m C.ToAlt w.in-ToAlt.is x _ w.stepped-is (tt, w.move_to_alt-stepped.ensures)
-    | in-FromAlt w ↦ did-by m C.FromAlt w.in-FromAlt.is x _ w.stepped-is (tt, w.move_from_alt-stepped.ensures)
-    | in-Depth w ↦ did-by m C.Depth w.in-Depth.is x _ w.stepped-is (tt, (steps-by m _ x w.depth-stepped.ensures))
-    | in-Size w ↦ did-by m C.Size w.in-Size.is x _ w.stepped-is (tt, (steps-by m _ x w.size-stepped.ensures))
-    | in-Nip w ↦ did-by m C.Nip w.in-Nip.is x _ w.stepped-is (tt, w.nip-stepped.ensures)
-    | in-Tuck w ↦ did-by m C.Tuck w.in-Tuck.is x _ w.stepped-is (tt, w.tuck-stepped.ensures)
-    | in-Pick w ↦ did-by m C.Pick w.in-Pick.is x _ w.stepped-is (tt, (steps-by m _ x w.pick-stepped.ensures))
-    | in-Roll w ↦ did-by m C.Roll w.in-Roll.is x _ w.stepped-is (tt, w.roll-stepped.ensures)
-    | in-Zk w ↦ did-by m C.Zk w.in-Zk.is x _ w.stepped-is (tt, (steps-by m _ x w.zk-stepped.ensures))
-    | in-Dup w ↦ did-by m C.Dup w.in-Dup.is x _ w.stepped-is (tt, w.extend_from_within-stepped.ensures)
-    | in-TwoDup w ↦ did-by m C.TwoDup w.in-TwoDup.is x _ w.stepped-is (tt, w.extend_from_within-stepped-in-TwoDup.ensures)
-    | in-ThreeDup w ↦ did-by m C.ThreeDup w.in-ThreeDup.is x _ w.stepped-is (tt, w.extend_from_within-stepped-in-ThreeDup.ensures)
-    | in-Over w ↦ did-by m C.Over w.in-Over.is x _ w.stepped-is (tt, w.extend_from_within-stepped-in-Over.ensures)
-    | in-TwoOver w ↦ did-by m C.TwoOver w.in-TwoOver.is x _ w.stepped-is (tt, w.extend_from_within-stepped-in-TwoOver.ensures)
-    | in-Rot w ↦ did-by m C.Rot w.in-Rot.is x _ w.stepped-is (tt, w.rotate_left-stepped.ensures)
-    | in-TwoRot w ↦ did-by m C.TwoRot w.in-TwoRot.is x _ w.stepped-is (tt, w.rotate_left-stepped-in-TwoRot.ensures)
-    | in-Swap w ↦ did-by m C.Swap w.in-Swap.is x _ w.stepped-is (tt, w.rotate_left-stepped-in-Swap.ensures)
-    | in-TwoSwap w ↦ did-by m C.TwoSwap w.in-TwoSwap.is x _ w.stepped-is (tt, w.rotate_left-stepped-in-TwoSwap.ensures)
-    | in-Effect10 w ↦ did-by m C.Effect10 w.in-Effect10.is x _ w.stepped-is (tt, w.apply_effect-stepped.ensures)
-    | in-Effect20 w ↦ did-by m C.Effect20 w.in-Effect20.is x _ w.stepped-is (tt, w.apply_effect-stepped-in-Effect20.ensures)
-    | in-Effect01 w ↦ did-by m C.Effect01 w.in-Effect01.is x _ w.stepped-is (tt, w.apply_effect-stepped-in-Effect01.ensures)
-    | in-Effect11 w ↦ did-by m C.Effect11 w.in-Effect11.is x _ w.stepped-is (tt, w.apply_effect-stepped-in-Effect11.ensures)
-    | in-Effect31 w ↦ did-by m C.Effect31 w.in-Effect31.is x _ w.stepped-is (tt, w.apply_effect-stepped-in-Effect31.ensures)
-    | in-Effect21 w ↦ did-by m C.Effect21 w.in-Effect21.is x _ w.stepped-is (tt, w.apply_effect-stepped-in-Effect21.ensures)
+      | in-Push+in-Unknown+else-too_long w ↦ did-by m C.Push w.in-Push.is x _ w.stepped-is (tt, (pushes-unknown m w.in-Unknown.is _ (rw c.meet.ensures.past at w.too_long.ensures) w.if-too_long.false x w.push_code.ensures))
+      | in-Push+in-Exact+then-suffices w ↦ did-by m C.Push w.in-Push.is x _ w.stepped-is (tt, (pushes-code m w.in-Exact.is _ w.code_of-code.ensures (sym w.suffices.ensures ∙ w.if-suffices.true) x w.push_code-then-suffices.ensures))
+      | in-Push+in-Exact+else-suffices w ↦ did-by m C.Push w.in-Push.is x _ w.stepped-is (tt, (pushes-exact m w.in-Exact.is x w.push_exact.ensures))
+      | in-ToAlt w ↦ did-by m C.ToAlt w.in-ToAlt.is x _ w.stepped-is (tt, w.move_to_alt-stepped.ensures)
+      | in-FromAlt w ↦ did-by m C.FromAlt w.in-FromAlt.is x _ w.stepped-is (tt, w.move_from_alt-stepped.ensures)
+      | in-Depth w ↦ did-by m C.Depth w.in-Depth.is x _ w.stepped-is (tt, (steps-by m _ x w.depth-stepped.ensures))
+      | in-Size w ↦ did-by m C.Size w.in-Size.is x _ w.stepped-is (tt, (steps-by m _ x w.size-stepped.ensures))
+      | in-Nip w ↦ did-by m C.Nip w.in-Nip.is x _ w.stepped-is (tt, w.nip-stepped.ensures)
+      | in-Tuck w ↦ did-by m C.Tuck w.in-Tuck.is x _ w.stepped-is (tt, w.tuck-stepped.ensures)
+      | in-Pick w ↦ did-by m C.Pick w.in-Pick.is x _ w.stepped-is (tt, (steps-by m _ x w.pick-stepped.ensures))
+      | in-Roll w ↦ did-by m C.Roll w.in-Roll.is x _ w.stepped-is (tt, w.roll-stepped.ensures)
+      | in-Zk w ↦ did-by m C.Zk w.in-Zk.is x _ w.stepped-is (tt, (steps-by m _ x w.zk-stepped.ensures))
+      | in-Dup w ↦ did-by m C.Dup w.in-Dup.is x _ w.stepped-is (tt, w.extend_from_within-stepped.ensures)
+      | in-TwoDup w ↦ did-by m C.TwoDup w.in-TwoDup.is x _ w.stepped-is (tt, w.extend_from_within-stepped-in-TwoDup.ensures)
+      | in-ThreeDup w ↦ did-by m C.ThreeDup w.in-ThreeDup.is x _ w.stepped-is (tt, w.extend_from_within-stepped-in-ThreeDup.ensures)
+      | in-Over w ↦ did-by m C.Over w.in-Over.is x _ w.stepped-is (tt, w.extend_from_within-stepped-in-Over.ensures)
+      | in-TwoOver w ↦ did-by m C.TwoOver w.in-TwoOver.is x _ w.stepped-is (tt, w.extend_from_within-stepped-in-TwoOver.ensures)
+      | in-Rot w ↦ did-by m C.Rot w.in-Rot.is x _ w.stepped-is (tt, w.rotate_left-stepped.ensures)
+      | in-TwoRot w ↦ did-by m C.TwoRot w.in-TwoRot.is x _ w.stepped-is (tt, w.rotate_left-stepped-in-TwoRot.ensures)
+      | in-Swap w ↦ did-by m C.Swap w.in-Swap.is x _ w.stepped-is (tt, w.rotate_left-stepped-in-Swap.ensures)
+      | in-TwoSwap w ↦ did-by m C.TwoSwap w.in-TwoSwap.is x _ w.stepped-is (tt, w.rotate_left-stepped-in-TwoSwap.ensures)
+      | in-Effect10 w ↦ did-by m C.Effect10 w.in-Effect10.is x _ w.stepped-is (tt, w.apply_effect-stepped.ensures)
+      | in-Effect20 w ↦ did-by m C.Effect20 w.in-Effect20.is x _ w.stepped-is (tt, w.apply_effect-stepped-in-Effect20.ensures)
+      | in-Effect01 w ↦ did-by m C.Effect01 w.in-Effect01.is x _ w.stepped-is (tt, w.apply_effect-stepped-in-Effect01.ensures)
+      | in-Effect11 w ↦ did-by m C.Effect11 w.in-Effect11.is x _ w.stepped-is (tt, w.apply_effect-stepped-in-Effect11.ensures)
+      | in-Effect31 w ↦ did-by m C.Effect31 w.in-Effect31.is x _ w.stepped-is (tt, w.apply_effect-stepped-in-Effect31.ensures)
+      | in-Effect21 w ↦ did-by m C.Effect21 w.in-Effect21.is x _ w.stepped-is (tt, w.apply_effect-stepped-in-Effect21.ensures)
     ]
 
 pub loop-instruction-init : goal.loop-instruction-init
@@ -74,8 +73,9 @@ meet-requires-clause-short c = short_at c.loop-instruction.invariant (at (goal.a
 pub returns-in_default-decode_at : goal.returns-in_default-decode_at
 returns-in_default-decode_at c =
     let n : instructions (code_at c.args.code.now c.loop-instruction.w.at) ≡ [] = elim c.in_default-decode_at.branch [
-      in_default-decode_at-via-in-Ok+in_default w ↦ let e : c.decode_at.result ≡ Ok None = search rules in end-there _ _ c.decode_at.ensures.same e
-    | in_default-decode_at-via-in_default w ↦ malformed-there _ _ c.decode_at.ensures.same w.in_default-decode_at.is ] in
+      | in_default-decode_at-via-in-Ok+in_default w ↦ let e : c.decode_at.result ≡ Ok None = search rules in end-there _ _ c.decode_at.ensures.same e
+      | in_default-decode_at-via-in_default w ↦ malformed-there _ _ c.decode_at.ensures.same w.in_default-decode_at.is
+    ] in
     walk-runs (none_left c.loop-instruction.invariant refl (rw total-live c.max-w.ensures) n) (λ e. cc)
 
 pub returns-in-Unmodelled : goal.returns-in-Unmodelled
