@@ -198,7 +198,7 @@ pub fn analyze_rows(
     let mut w = start(main, alt);
     let ended = arm(fragment, log, rules, &mut w, 0);
     let verdict = conclude(&w, ended);
-    let end = match w.stacks {
+    let end = match &w.stacks {
         Some(stacks) if verdict.ended => EndStacks::of(stacks),
         _ => EndStacks::none(),
     };
