@@ -4,7 +4,6 @@
 
 ghost use Rattle.std.proofs.Math.Option.{some};
 ghost use Rattle.std.specs.Prelude.{◌≡◌, ℕ, ◌+◌, ◌-◌, ◌^◌, ◌≤◌, length};
-ghost use Rattle.definition.specs.Basics.{pick};
 ghost use Rattle.good_header.specs.View.{parts_from};
 ghost use Rattle.header.specs.View.{part_of};
 ghost use Rattle.text.specs.View.{Written};
