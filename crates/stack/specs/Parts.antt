@@ -1,36 +1,33 @@
 -- What the private functions of this crate ensure.
-use Rattle.std.specs.Prelude.{◌≡◌, ℕ, ◌-◌, ◌^◌, ◌≤◌, ◌<◌}
-use Rattle.definition.specs.Decoding as D
+use Rattle.std.specs.Prelude.{◌≡◌, ℕ, ◌+◌, ◌-◌, ◌^◌, ◌≤◌, ◌<◌, ltb, tt, Result, Ok, Err}
+use Rattle.definition.specs.Basics.{pick}
 use Rattle.definition.specs.Stacks as S
 use Rattle.definition.specs.Walk.{Item, marking}
-use Rattle.stack.specs.View.{refusal_of, view}
-use Rattle.stack.specs.declared.Count.{Count}
-use Rattle.stack.specs.declared.Count.TheVariants.{At, Refused}
-use Rattle.stack.specs.declared.Refusal.TheVariants.{BadIndex, CrookedNumber, NegativeIndex}
+use Rattle.refusals.specs.View.{refusal_of}
+use Rattle.refusals.specs.declared.Refusal.{Refusal}
+use Rattle.refusals.specs.declared.Refusal.TheVariants.{MainDry, StacksFull}
+use Rattle.stack.specs.View.{slots_of, stacks_in, view}
 use Rattle.stack.specs.declared.Stacks.{Stacks}
 
--- an index as it is read, or which refusal
-abbrev pub count_of : D.Index → Count
-count_of D.not_known = Refused BadIndex
-count_of D.no_number = Refused CrookedNumber
-count_of D.negative = Refused NegativeIndex
-count_of (D.index n) = At n
+-- whether main has n items
+abbrev pub needed : ℕ → Stacks → Result Unit Refusal
+needed n s = pick (ltb s.mains n) (Err (MainDry n s.mains)) (Ok tt)
 
--- the stacks without the top k of main
-abbrev pub without : Stacks → ℕ → Stacks
-without s k = record { bytes = s.bytes; mains = s.mains - k; alts = s.alts; codes = s.codes }
+-- whether so many more items stay within the limit
+abbrev pub roomy : ℕ → ℕ → Stacks → Result Unit Refusal
+roomy more limit s = pick (ltb limit (s.mains + s.alts + more)) (Err (StacksFull (s.mains + s.alts + more) limit)) (Ok tt)
 
 -- an index takes 63 bits at most, and was on main
-abbrev pub Small : ℕ → Count → Type 0
-Small mains (At n) = (n < 2 ^ 63) × (1 ≤ mains)
-Small mains (Refused f) = Unit {0}
+abbrev pub Small : ℕ → Result ℕ Refusal → Type 0
+Small mains (Ok n) = (n < 2 ^ 63) × (1 ≤ mains)
+Small mains (Err f) = Unit {0}
 
 -- on from a popped index
-abbrev pub counted : Count → S.Stacks Item → (ℕ → S.Stacks Item → S.Outcome Item) → S.Outcome Item
-counted (At n) s next = next n s
-counted (Refused f) s next = S.refused (refusal_of f)
+abbrev pub counted : Result ℕ Refusal → S.Stacks Item → (ℕ → S.Stacks Item → S.Outcome Item) → S.Outcome Item
+counted (Ok n) s next = next n s
+counted (Err f) s next = S.refused (refusal_of f)
 
 -- r is the index on top of main
-pub record Pops (s : Stacks) (r : Count) : Type 0 where
+pub record Pops (s : Stacks) (r : Result ℕ Refusal) : Type 0 where
   pub small : Small s.mains r
-  pub same : (next : ℕ → S.Stacks Item → S.Outcome Item) → S.pop_index marking (view s) next ≡ counted r (view (without s 1)) next
+  pub same : (next : ℕ → S.Stacks Item → S.Outcome Item) → S.pop_index marking (view s) next ≡ counted r (stacks_in (slots_of s) (s.mains - 1) s.alts) next

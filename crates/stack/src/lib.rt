@@ -1,780 +1,415 @@
-// The two stacks, by value, and what the ordinary opcodes do to them: document 01, section 3.
+// The two stacks, by value, and what the ordinary opcodes do to them.
 
 #![tactic(auto)]
 
 ghost use Rattle.std.specs.Prelude.{◌≡◌, true, false, ℕ, ◌+◌, ◌≤◌, ◌<◌};
-ghost use Rattle.definition.specs.Classes.{DEPTH, SIZE, PICK, ZK};
-ghost use Rattle.definition.specs.Stacks.{push_item, drop_items, copy_items, rotate_items, tuck_top, nip_second, move_to_alt, move_from_alt, pop_index, zk_drop, plain_step};
-ghost use Rattle.definition.specs.Decoding.{index_of};
-ghost use Rattle.definition.specs.Walk.{exact, bytes_known, marking, join_stacks};
-ghost use Rattle.decode.specs.View.{low_bytes, item_of, Held};
-ghost use Rattle.slots.specs.View.{slot_item, code_of, sufficient};
-ghost use Rattle.stack.specs.View.{view, Fit, Fresh, Says, Steps};
-ghost use Rattle.stack.specs.Parts.{count_of, Pops};
+ghost use Rattle.slots.specs.View.{slots, Sound};
 
 use decode::Value;
-use number_form::{Index, number_value, read_index};
-use slots::{
-    all_suffice, code_length, code_of, common_codes, copy_bytes, copy_codes, join_codes,
-    rotate_bytes, rotate_codes, slot_value, suffices,
-};
+use number_form::{number_value, read_index};
+use refusals::Refusal;
+use slots::{UNKNOWN, code_length, code_of, copy_slots, join_slots, slot_value, suffices};
 
-// Both stacks lie in the same 244 slots: main from the bottom, alt from the top end. A slot has a code and bytes, as the
-// crate slots has them. The two heights lie between the arrays: each array is then copied by itself, where it is written.
+/// How many items the two stacks may hold together, as a caller lends it.
+#[derive(Clone, Copy, Debug, PartialEq, Eq)]
+pub struct Limit {
+    items: u32,
+    pub ghost low: { items ≤ 244 },
+}
+
+impl Limit {
+    /// As many as there are slots.
+    pub const BUILT_IN: Limit = Limit { items: 244 };
+
+    pub fn new(items: u32) -> Limit
+        requires { items ≤ 244 }
+        ensures { result.items ≡ items }
+    {
+        Limit { items }
+    }
+
+    pub fn items(self) -> u32
+        ensures { result ≡ self.items }
+    {
+        self.items
+    }
+}
+
+/// Both stacks lie in the same 244 slots: main from the bottom, alt from the top end. A slot has a code and bytes, as the
+/// crate slots has them: a code is one byte, so that codes and bytes in two arrays take little more than half the memory
+/// of one array of pairs.
 #[derive(Clone, Copy)]
 pub struct Stacks {
     pub bytes: [u64; 244],
     pub mains: u32,
     pub alts: u32,
     pub codes: [u8; 244],
+    // the two stacks do not overlap
+    pub ghost room: { mains + alts ≤ 244 },
+    // every slot is as the crate slots says, in use or not
+    pub ghost sound: { Sound (slots bytes codes) },
 }
 
-// The refusals of a walk, 5 to 16 of section 7, 24 and 25 of request L2 and 30 of request L7, with those of their figures that are
-// not fixed.
-#[derive(Clone, Copy)]
-pub enum Refusal {
-    Nesting,
-    StacksFull { wanted: u32, limit: u32 },
-    MainDry { needed: u64, had: u32 },
-    AltDry,
-    BadIndex,
-    CrookedNumber,
-    NegativeIndex,
-    BadTag,
-    Unmodelled { opcode: u8 },
-    LongElement { size: usize },
-    ArmsDiffer,
-    StrayElse,
-    SecondElse,
-    StrayEndif,
-    OpenIf,
-}
-
-#[derive(Clone, Copy)]
-pub enum Answer {
-    Done,
-    Refused(Refusal),
-}
-
-// What each method returns: the changed stacks, or a refusal.
+/// What each method returns: the changed stacks, and whether it was refused.
 #[derive(Clone, Copy)]
 pub struct Stepped {
     pub stacks: Stacks,
-    pub answer: Answer,
-}
-
-// An index or a count popped from main, or why there is none.
-#[derive(Clone, Copy)]
-pub enum Count {
-    At(u64),
-    Refused(Refusal),
-}
-
-// The index or the count that a value is.
-fn count_of(v: Value) -> Count
-    requires { Held v }
-    ensures { result ≡ count_of (index_of (bytes_known (item_of v))) }
-{
-    let index = read_index(v);
-    match index {
-        Index::At(n) => Count::At(n),
-        Index::Unknown => Count::Refused(Refusal::BadIndex),
-        Index::NoNumber => Count::Refused(Refusal::CrookedNumber),
-        Index::Negative => Count::Refused(Refusal::NegativeIndex),
-    }
+    pub answer: Result<(), Refusal>,
 }
 
 impl Stacks {
+    ghost use Rattle.definition.specs.Classes.{DEPTH, SIZE, PICK, ZK};
+    ghost use Rattle.definition.specs.Stacks.{push_item, drop_items, copy_items, rotate_items, tuck_top, nip_second, move_to_alt, move_from_alt, pop_index, zk_drop, plain_step};
+    ghost use Rattle.definition.specs.Walk.{exact, marking, join_stacks, unknowns};
+    ghost use Rattle.decode.specs.View.{low_bytes, item_of, Held};
+    ghost use Rattle.slots.specs.View.{slot_item, code_of, sufficient};
+    ghost use Rattle.stack.specs.View.{view, Says, Steps};
+    ghost use Rattle.stack.specs.Parts.{needed, roomy, Pops};
+
+    /// So many unknown items on each stack.
     pub fn new(main: u32, alt: u32) -> Stacks
         requires { main + alt ≤ 244 }
-        ensures { Fresh main alt result }
+        ensures { view result ≡ unknowns main alt }
     {
         Stacks {
-            bytes: [0u64; 244],
+            bytes: [0; 244],
             mains: main,
             alts: alt,
-            codes: [9u8; 244],
+            codes: [UNKNOWN; 244],
         }
     }
 
-    pub fn push(self, v: Value, limit: u32) -> Stepped
-        requires fit { Fit self }
-        requires held { Held v }
-        requires limit_bound { limit ≤ 244 }
-        ensures { Says result (push_item limit (item_of v) (view self)) }
+    // Whether main has n items.
+    fn needs(&self, n: u64) -> Result<(), Refusal>
+        ensures { result ≡ needed n self.now }
     {
-        if let Value::Exact { len, bytes } = v {
-            let code = code_of(len, bytes);
-            if suffices(code) {
-                return self.push_code(code, limit);
+        if u64::from(self.mains) < n {
+            return Err(Refusal::MainDry {
+                needed: n,
+                had: self.mains,
+            });
+        }
+        Ok(())
+    }
+
+    // Whether so many more items fit.
+    fn room(&self, more: u32, limit: Limit) -> Result<(), Refusal>
+        requires { more ≤ 244 }
+        ensures { result ≡ roomy more limit.items self.now }
+    {
+        let wanted = self.mains + self.alts + more;
+        if limit.items < wanted {
+            return Err(Refusal::StacksFull {
+                wanted,
+                limit: limit.items,
+            });
+        }
+        Ok(())
+    }
+
+    /// Pushes a value.
+    pub fn push(self, v: Value, limit: Limit) -> Stepped
+        requires { Held v }
+        ensures { Says result (push_item limit.items (item_of v) (view self)) }
+    {
+        match v {
+            Value::Unknown => self.push_code(UNKNOWN, limit),
+            Value::Exact { len, bytes } => {
+                let code = code_of(len, bytes);
+                if suffices(code) {
+                    self.push_code(code, limit)
+                } else {
+                    self.push_exact(len, bytes, limit)
+                }
             }
-            return self.push_exact(len, bytes, limit);
         }
-        self.push_code(9, limit)
     }
 
-    // Pushes an item that a code says by itself.
-    pub fn push_code(mut self, code: u8, limit: u32) -> Stepped
-        requires fit { Fit self }
-        requires code_value { sufficient code ≡ true }
-        requires limit_bound { limit ≤ 244 }
-        ensures { Says result (push_item limit (slot_item code 0) (view self)) }
+    /// Pushes an item that a code says by itself.
+    pub fn push_code(mut self, code: u8, limit: Limit) -> Stepped
+        requires { sufficient code ≡ true }
+        ensures { Says result (push_item limit.items (slot_item code 0) (view self)) }
     {
-        let m = self.mains;
-        let a = self.alts;
-        if limit < m + a + 1 {
-            return Stepped {
-                stacks: self,
-                answer: Answer::Refused(Refusal::StacksFull {
-                    wanted: m + a + 1,
-                    limit: limit,
-                }),
-            };
+        let answer = self.room(1, limit);
+        if answer.is_ok() {
+            self.codes[self.mains as usize] = code;
+            self.mains += 1;
         }
-        self.mains = m + 1;
-        let i = m as usize;
-        let mut codes = self.codes;
-        codes[i] = code;
-        self.codes = codes;
-        Stepped {
-            stacks: self,
-            answer: Answer::Done,
-        }
+        Stepped { stacks: self, answer }
     }
 
-    // Pushes an exact item whose code does not suffice: it is its length.
-    pub fn push_exact(mut self, len: u8, bytes: u64, limit: u32) -> Stepped
-        requires fit { Fit self }
+    /// Pushes an exact item whose code does not suffice: it is its length.
+    pub fn push_exact(mut self, len: u8, bytes: u64, limit: Limit) -> Stepped
         requires held { Held (Value.Exact len bytes) }
         requires bytes_value { sufficient (code_of len bytes) ≡ false }
-        requires limit_bound { limit ≤ 244 }
-        ensures { Says result (push_item limit (exact (low_bytes len bytes)) (view self)) }
+        ensures { Says result (push_item limit.items (exact (low_bytes len bytes)) (view self)) }
     {
-        let m = self.mains;
-        let a = self.alts;
-        if limit < m + a + 1 {
-            return Stepped {
-                stacks: self,
-                answer: Answer::Refused(Refusal::StacksFull {
-                    wanted: m + a + 1,
-                    limit: limit,
-                }),
-            };
+        let answer = self.room(1, limit);
+        if answer.is_ok() {
+            self.codes[self.mains as usize] = len;
+            self.bytes[self.mains as usize] = bytes;
+            self.mains += 1;
         }
-        self.mains = m + 1;
-        let i = m as usize;
-        let mut codes = self.codes;
-        codes[i] = len;
-        self.codes = codes;
-        let mut all = self.bytes;
-        all[i] = bytes;
-        self.bytes = all;
-        Stepped {
-            stacks: self,
-            answer: Answer::Done,
-        }
+        Stepped { stacks: self, answer }
     }
 
+    /// Drops n items of main.
     pub fn drop_items(mut self, n: u64) -> Stepped
-        requires { Fit self }
         ensures { Says result (drop_items n (view self)) }
     {
-        let m = self.mains;
-        if (m as u64) < n {
-            return Stepped {
-                stacks: self,
-                answer: Answer::Refused(Refusal::MainDry { needed: n, had: m }),
-            };
+        let answer = self.needs(n);
+        if answer.is_ok() {
+            self.mains -= n as u32;
         }
-        self.mains = m - (n as u32);
-        Stepped {
-            stacks: self,
-            answer: Answer::Done,
-        }
+        Stepped { stacks: self, answer }
     }
 
-    // A plain class.
-    pub fn apply_effect(mut self, pops: u32, pushes: u32, limit: u32) -> Stepped
-        requires fit { Fit self }
-        requires pushes_bound { pushes ≤ 1 }
-        requires limit_bound { limit ≤ 244 }
-        ensures { Says result (plain_step marking limit pops pushes (view self)) }
+    /// A plain class: it drops `pops` items, and then pushes one unknown item or none.
+    pub fn apply_effect(mut self, pops: u32, pushes: u32, limit: Limit) -> Stepped
+        requires { pushes ≤ 1 }
+        ensures { Says result (plain_step marking limit.items pops pushes (view self)) }
     {
-        let m = self.mains;
-        let a = self.alts;
-        if m < pops {
-            return Stepped {
-                stacks: self,
-                answer: Answer::Refused(Refusal::MainDry {
-                    needed: pops as u64,
-                    had: m,
-                }),
-            };
+        let answer = self.needs(u64::from(pops));
+        if answer.is_err() {
+            return Stepped { stacks: self, answer };
         }
-        let n = m - pops;
-        self.mains = n;
+        self.mains -= pops;
         if pushes == 0 {
-            return Stepped {
-                stacks: self,
-                answer: Answer::Done,
-            };
+            return Stepped { stacks: self, answer };
         }
-        if limit < n + a + 1 {
-            return Stepped {
-                stacks: self,
-                answer: Answer::Refused(Refusal::StacksFull {
-                    wanted: n + a + 1,
-                    limit: limit,
-                }),
-            };
-        }
-        let i = n as usize;
-        self.mains = n + 1;
-        let mut codes = self.codes;
-        if codes[i] == 9 {
-            return Stepped {
-                stacks: self,
-                answer: Answer::Done,
-            };
-        }
-        codes[i] = 9;
-        self.codes = codes;
-        Stepped {
-            stacks: self,
-            answer: Answer::Done,
-        }
+        self.push_code(UNKNOWN, limit)
     }
 
-    // Appends the lowest count of the top depth items.
-    pub fn extend_from_within(mut self, depth: u64, count: u32, limit: u32) -> Stepped
-        requires fit { Fit self }
-        requires count_le_depth { (count ≤ depth) × (count ≤ 244) }
-        requires limit_bound { limit ≤ 244 }
-        ensures { Says result (copy_items limit depth count (view self)) }
+    /// Appends the lowest count of the top depth items.
+    pub fn extend_from_within(mut self, depth: u64, count: u32, limit: Limit) -> Stepped
+        requires { (count ≤ depth) × (count ≤ 244) }
+        ensures { Says result (copy_items limit.items depth count (view self)) }
     {
-        let m = self.mains;
-        let a = self.alts;
-        if (m as u64) < depth {
-            return Stepped {
-                stacks: self,
-                answer: Answer::Refused(Refusal::MainDry {
-                    needed: depth,
-                    had: m,
-                }),
-            };
+        let answer = self.needs(depth).and(self.room(count, limit));
+        if answer.is_ok() {
+            let to = self.mains as usize;
+            let from = to - depth as usize;
+            copy_slots(&mut self.codes, from, to, count as usize);
+            copy_slots(&mut self.bytes, from, to, count as usize);
+            self.mains += count;
         }
-        if limit < m + a + count {
-            return Stepped {
-                stacks: self,
-                answer: Answer::Refused(Refusal::StacksFull {
-                    wanted: m + a + count,
-                    limit: limit,
-                }),
-            };
-        }
-        let to = m as usize;
-        let from = to - depth as usize;
-        let n = count as usize;
-        self.mains = m + count;
-        let codes = self.codes;
-        let moved = copy_codes(codes, from, to, n);
-        let suffice = all_suffice(moved, to, n);
-        self.codes = moved;
-        if suffice {
-            return Stepped {
-                stacks: self,
-                answer: Answer::Done,
-            };
-        }
-        let bytes = self.bytes;
-        let moved_bytes = copy_bytes(bytes, from, to, n);
-        self.bytes = moved_bytes;
-        Stepped {
-            stacks: self,
-            answer: Answer::Done,
-        }
+        Stepped { stacks: self, answer }
     }
 
-    // Puts the lowest shift, 1 or 2, of the top count items on top.
+    /// Puts the lowest shift, 1 or 2, of the top count items on top.
     pub fn rotate_left(mut self, count: u64, shift: u32) -> Stepped
-        requires fit { Fit self }
-        requires le_shift { (1 ≤ shift) × (shift ≤ 2) × (shift ≤ count) }
+        requires { (1 ≤ shift) × (shift ≤ 2) × (shift ≤ count) }
         ensures { Says result (rotate_items count shift (view self)) }
     {
-        let m = self.mains;
-        if (m as u64) < count {
-            return Stepped {
-                stacks: self,
-                answer: Answer::Refused(Refusal::MainDry {
-                    needed: count,
-                    had: m,
-                }),
-            };
+        let answer = self.needs(count);
+        if answer.is_ok() {
+            let top = self.mains as usize;
+            let from = top - count as usize;
+            self.codes[from..top].rotate_left(shift as usize);
+            self.bytes[from..top].rotate_left(shift as usize);
         }
-        let n = count as usize;
-        let k = shift as usize;
-        let b = m as usize - n;
-        let codes = self.codes;
-        let turned = rotate_codes(codes, b, k, n - k);
-        let suffice = all_suffice(turned, b, n);
-        self.codes = turned;
-        if suffice {
-            return Stepped {
-                stacks: self,
-                answer: Answer::Done,
-            };
-        }
-        let bytes = self.bytes;
-        let turned_bytes = rotate_bytes(bytes, b, k, n - k);
-        self.bytes = turned_bytes;
-        Stepped {
-            stacks: self,
-            answer: Answer::Done,
-        }
+        Stepped { stacks: self, answer }
     }
 
-    // A copy of the top, and then the two that were on top above it.
-    pub fn tuck(mut self, limit: u32) -> Stepped
-        requires fit { Fit self }
-        requires limit_bound { limit ≤ 244 }
-        ensures { Says result (tuck_top limit (view self)) }
+    /// A copy of the top, and then the two that were on top above it.
+    pub fn tuck(mut self, limit: Limit) -> Stepped
+        ensures { Says result (tuck_top limit.items (view self)) }
     {
-        let m = self.mains;
-        let a = self.alts;
-        let wanted = m + a + 1;
-        if m < 1 {
-            return Stepped {
-                stacks: self,
-                answer: Answer::Refused(Refusal::MainDry { needed: 1, had: m }),
-            };
+        let answer = self.needs(1).and(self.needs(2)).and(self.room(1, limit));
+        if answer.is_ok() {
+            let top = self.mains as usize;
+            self.codes[top] = self.codes[top - 1];
+            self.bytes[top] = self.bytes[top - 1];
+            self.codes.swap(top - 2, top - 1);
+            self.bytes.swap(top - 2, top - 1);
+            self.mains += 1;
         }
-        if m < 2 {
-            return Stepped {
-                stacks: self,
-                answer: Answer::Refused(Refusal::MainDry { needed: 2, had: m }),
-            };
-        }
-        if limit < wanted {
-            return Stepped {
-                stacks: self,
-                answer: Answer::Refused(Refusal::StacksFull { wanted, limit }),
-            };
-        }
-        let b = (m - 2) as usize;
-        self.mains = m + 1;
-        let codes = self.codes;
-        let copied = copy_codes(codes, b + 1, b + 2, 1);
-        let turned = rotate_codes(copied, b, 2, 1);
-        let suffice = all_suffice(turned, b, 3);
-        self.codes = turned;
-        if suffice {
-            return Stepped {
-                stacks: self,
-                answer: Answer::Done,
-            };
-        }
-        let bytes = self.bytes;
-        let copies = copy_bytes(bytes, b + 1, b + 2, 1);
-        let turned_bytes = rotate_bytes(copies, b, 2, 1);
-        self.bytes = turned_bytes;
-        Stepped {
-            stacks: self,
-            answer: Answer::Done,
-        }
+        Stepped { stacks: self, answer }
     }
 
+    /// Drops the item below the top.
     pub fn nip(mut self) -> Stepped
-        requires { Fit self }
         ensures { Says result (nip_second (view self)) }
     {
-        let m = self.mains;
-        if m < 2 {
-            return Stepped {
-                stacks: self,
-                answer: Answer::Refused(Refusal::MainDry { needed: 2, had: m }),
-            };
+        let answer = self.needs(2);
+        if answer.is_ok() {
+            let top = self.mains as usize - 1;
+            self.codes[top - 1] = self.codes[top];
+            self.bytes[top - 1] = self.bytes[top];
+            self.mains -= 1;
         }
-        let b = (m - 2) as usize;
-        self.mains = m - 1;
-        let codes = self.codes;
-        let moved = copy_codes(codes, b + 1, b, 1);
-        let suffice = all_suffice(moved, b, 1);
-        self.codes = moved;
-        if suffice {
-            return Stepped {
-                stacks: self,
-                answer: Answer::Done,
-            };
-        }
-        let bytes = self.bytes;
-        let moved_bytes = copy_bytes(bytes, b + 1, b, 1);
-        self.bytes = moved_bytes;
-        Stepped {
-            stacks: self,
-            answer: Answer::Done,
-        }
+        Stepped { stacks: self, answer }
     }
 
+    /// Moves the top of main to alt. No room is wanted: with 244 items, main's top lies where alt's new top comes.
     pub fn move_to_alt(mut self) -> Stepped
-        requires { Fit self }
         ensures { Says result (move_to_alt (view self)) }
     {
-        let m = self.mains;
-        let a = self.alts;
-        if m < 1 {
-            return Stepped {
-                stacks: self,
-                answer: Answer::Refused(Refusal::MainDry { needed: 1, had: m }),
-            };
+        let answer = self.needs(1);
+        if answer.is_ok() {
+            let from = self.mains as usize - 1;
+            let to = 243 - self.alts as usize;
+            self.codes[to] = self.codes[from];
+            self.bytes[to] = self.bytes[from];
+            self.mains -= 1;
+            self.alts += 1;
         }
-        let from = (m - 1) as usize;
-        let to = (243 - a) as usize;
-        self.mains = m - 1;
-        self.alts = a + 1;
-        // with 244 items this is the slot that alt takes: the item stays, and no room is wanted
-        if from == to {
-            return Stepped {
-                stacks: self,
-                answer: Answer::Done,
-            };
-        }
-        let codes = self.codes;
-        if codes[from] == 9 {
-            if codes[to] == 9 {
-                return Stepped {
-                    stacks: self,
-                    answer: Answer::Done,
-                };
-            }
-        }
-        let moved = copy_codes(codes, from, to, 1);
-        let suffice = all_suffice(moved, to, 1);
-        self.codes = moved;
-        if suffice {
-            return Stepped {
-                stacks: self,
-                answer: Answer::Done,
-            };
-        }
-        let bytes = self.bytes;
-        let moved_bytes = copy_bytes(bytes, from, to, 1);
-        self.bytes = moved_bytes;
-        Stepped {
-            stacks: self,
-            answer: Answer::Done,
-        }
+        Stepped { stacks: self, answer }
     }
 
+    /// Moves the top of alt to main.
     pub fn move_from_alt(mut self) -> Stepped
-        requires { Fit self }
         ensures { Says result (move_from_alt (view self)) }
     {
-        let m = self.mains;
-        let a = self.alts;
-        if a < 1 {
+        if self.alts == 0 {
             return Stepped {
                 stacks: self,
-                answer: Answer::Refused(Refusal::AltDry),
+                answer: Err(Refusal::AltDry),
             };
         }
-        let from = (244 - a) as usize;
-        let to = m as usize;
-        self.mains = m + 1;
-        self.alts = a - 1;
-        let codes = self.codes;
-        if codes[from] == 9 {
-            if codes[to] == 9 {
-                return Stepped {
-                    stacks: self,
-                    answer: Answer::Done,
-                };
-            }
-        }
-        let moved = copy_codes(codes, from, to, 1);
-        let suffice = all_suffice(moved, to, 1);
-        self.codes = moved;
-        if suffice {
-            return Stepped {
-                stacks: self,
-                answer: Answer::Done,
-            };
-        }
-        let bytes = self.bytes;
-        let moved_bytes = copy_bytes(bytes, from, to, 1);
-        self.bytes = moved_bytes;
+        let from = 244 - self.alts as usize;
+        let to = self.mains as usize;
+        self.codes[to] = self.codes[from];
+        self.bytes[to] = self.bytes[from];
+        self.mains += 1;
+        self.alts -= 1;
         Stepped {
             stacks: self,
-            answer: Answer::Done,
+            answer: Ok(()),
         }
     }
 
+    /// What two stacks have in common, at equal heights.
     pub fn join(mut self, other: Stacks) -> Stepped
-        requires fit { Fit self }
-        requires fit_2 { Fit other }
         ensures { Says result (join_stacks (view self) (view other)) }
     {
-        let m = self.mains;
-        let a = self.alts;
-        if m != other.mains {
+        if self.mains != other.mains || self.alts != other.alts {
             return Stepped {
                 stacks: self,
-                answer: Answer::Refused(Refusal::ArmsDiffer),
+                answer: Err(Refusal::ArmsDiffer),
             };
         }
-        if a != other.alts {
-            return Stepped {
-                stacks: self,
-                answer: Answer::Refused(Refusal::ArmsDiffer),
-            };
-        }
-        let codes = self.codes;
-        let codes1 = other.codes;
-        let low = common_codes(codes, codes1, 0, m as usize);
-        let all = common_codes(low, codes1, (244 - a) as usize, 244);
-        let suffice = all_suffice(all, 0, m as usize);
-        let suffice1 = all_suffice(all, (244 - a) as usize, a as usize);
-        if suffice {
-            if suffice1 {
-                self.codes = all;
-                return Stepped {
-                    stacks: self,
-                    answer: Answer::Done,
-                };
-            }
-        }
-        let bytes = self.bytes;
-        let bytes1 = other.bytes;
-        let main = join_codes(codes, bytes, codes1, bytes1, 0, m as usize);
-        let both = join_codes(main, bytes, codes1, bytes1, (244 - a) as usize, 244);
-        self.codes = both;
+        let main = self.mains as usize;
+        let alt = 244 - self.alts as usize;
+        join_slots(&mut self.codes, &self.bytes, &other.codes, &other.bytes, 0, main);
+        join_slots(&mut self.codes, &self.bytes, &other.codes, &other.bytes, alt, 244);
         Stepped {
             stacks: self,
-            answer: Answer::Done,
+            answer: Ok(()),
         }
     }
 
     // The index or the count on top of main, which is still there.
-    fn top_count(self) -> Count
-        requires { Fit self }
-        ensures { Pops self result }
+    fn top_count(&self) -> Result<u64, Refusal>
+        ensures { Pops self.now result }
     {
-        let m = self.mains;
-        if m < 1 {
-            return Count::Refused(Refusal::MainDry { needed: 1, had: m });
-        }
-        let i = (m - 1) as usize;
-        let codes = self.codes;
-        let code = codes[i];
-        if suffices(code) {
-            return count_of(slot_value(code, 0));
-        }
-        let bytes = self.bytes;
-        let n = bytes[i];
-        count_of(slot_value(code, n))
+        self.needs(1)?;
+        let i = self.mains as usize - 1;
+        Ok(read_index(slot_value(self.codes[i], self.bytes[i]))?)
     }
 
-    // PICK and ROLL judge everything before they write, and do not call the methods above, which judge again: a copy of both
-    // arrays would be kept across the call.
-    pub fn pick(mut self, limit: u32) -> Stepped
-        requires fit { Fit self }
-        requires limit_bound { limit ≤ 244 }
-        ensures { Steps result limit PICK (view self) }
+    /// PICK: pops an index, and copies the item so far below the top.
+    pub fn pick(mut self, limit: Limit) -> Stepped
+        ensures { Steps result limit.items PICK (view self) }
     {
-        let count = self.top_count();
-        match count {
-            Count::Refused(refusal) => {
-                return Stepped {
-                    stacks: self,
-                    answer: Answer::Refused(refusal),
-                };
+        match self.top_count() {
+            Ok(n) => {
+                self.mains -= 1;
+                self.extend_from_within(n + 1, 1, limit)
             }
-            Count::At(n) => {
-                let depth = n + 1;
-                let m = self.mains - 1;
-                let a = self.alts;
-                self.mains = m;
-                if (m as u64) < depth {
-                    return Stepped {
-                        stacks: self,
-                        answer: Answer::Refused(Refusal::MainDry {
-                            needed: depth,
-                            had: m,
-                        }),
-                    };
-                }
-                if limit < m + a + 1 {
-                    return Stepped {
-                        stacks: self,
-                        answer: Answer::Refused(Refusal::StacksFull {
-                            wanted: m + a + 1,
-                            limit: limit,
-                        }),
-                    };
-                }
-                let i = m as usize;
-                let from = i - depth as usize;
-                self.mains = m + 1;
-                let codes = self.codes;
-                let moved = copy_codes(codes, from, i, 1);
-                let suffice = all_suffice(moved, i, 1);
-                self.codes = moved;
-                if suffice {
-                    return Stepped {
-                        stacks: self,
-                        answer: Answer::Done,
-                    };
-                }
-                let bytes = self.bytes;
-                let moved_bytes = copy_bytes(bytes, from, i, 1);
-                self.bytes = moved_bytes;
-                return Stepped {
-                    stacks: self,
-                    answer: Answer::Done,
-                };
-            }
+            Err(refusal) => Stepped {
+                stacks: self,
+                answer: Err(refusal),
+            },
         }
     }
 
+    /// ROLL: pops an index, and moves the item so far below the top onto it.
     pub fn roll(mut self) -> Stepped
-        requires { Fit self }
         ensures { Says result (pop_index marking (view self) (λ n t. rotate_items (n + 1) 1 t)) }
     {
-        let count = self.top_count();
-        match count {
-            Count::Refused(refusal) => {
-                return Stepped {
-                    stacks: self,
-                    answer: Answer::Refused(refusal),
-                };
+        match self.top_count() {
+            Ok(n) => {
+                self.mains -= 1;
+                self.rotate_left(n + 1, 1)
             }
-            Count::At(n) => {
-                let count = n + 1;
-                let m = self.mains - 1;
-                self.mains = m;
-                if (m as u64) < count {
-                    return Stepped {
-                        stacks: self,
-                        answer: Answer::Refused(Refusal::MainDry {
-                            needed: count,
-                            had: m,
-                        }),
-                    };
-                }
-                let k = count as usize;
-                let b = m as usize - k;
-                let codes = self.codes;
-                let turned = rotate_codes(codes, b, 1, k - 1);
-                let suffice = all_suffice(turned, b, k);
-                self.codes = turned;
-                if suffice {
-                    return Stepped {
-                        stacks: self,
-                        answer: Answer::Done,
-                    };
-                }
-                let bytes = self.bytes;
-                let turned_bytes = rotate_bytes(bytes, b, 1, k - 1);
-                self.bytes = turned_bytes;
-                return Stepped {
-                    stacks: self,
-                    answer: Answer::Done,
-                };
-            }
-        }
-    }
-
-    pub fn depth(self, limit: u32) -> Stepped
-        requires fit { Fit self }
-        requires limit_bound { limit ≤ 244 }
-        ensures { Steps result limit DEPTH (view self) }
-    {
-        let v = number_value(self.mains as u64);
-        self.push(v, limit)
-    }
-
-    pub fn size(self, limit: u32) -> Stepped
-        requires fit { Fit self }
-        requires limit_bound { limit ≤ 244 }
-        ensures { Steps result limit SIZE (view self) }
-    {
-        let m = self.mains;
-        if m < 1 {
-            return Stepped {
+            Err(refusal) => Stepped {
                 stacks: self,
-                answer: Answer::Refused(Refusal::MainDry { needed: 1, had: m }),
-            };
+                answer: Err(refusal),
+            },
         }
-        let i = (m - 1) as usize;
-        let codes = self.codes;
-        let code = codes[i];
-        if code == 9 {
-            return self.apply_effect(0, 1, limit);
+    }
+
+    /// DEPTH: pushes the height of main.
+    pub fn depth(self, limit: Limit) -> Stepped
+        ensures { Steps result limit.items DEPTH (view self) }
+    {
+        let height = number_value(u64::from(self.mains));
+        self.push(height, limit)
+    }
+
+    /// SIZE: pushes the length of the top, which stays.
+    pub fn size(self, limit: Limit) -> Stepped
+        ensures { Steps result limit.items SIZE (view self) }
+    {
+        let answer = self.needs(1);
+        if answer.is_err() {
+            return Stepped { stacks: self, answer };
         }
-        let v = number_value(code_length(code) as u64);
-        self.push(v, limit)
+        let code = self.codes[self.mains as usize - 1];
+        if code == UNKNOWN {
+            return self.push_code(UNKNOWN, limit);
+        }
+        let length = number_value(u64::from(code_length(code)));
+        self.push(length, limit)
     }
 
     // Drops n items and pushes 1.
-    fn zk_drop(mut self, n: u64, limit: u32) -> Stepped
-        requires fit { Fit self }
-        requires limit_bound { limit ≤ 244 }
-        ensures { Says result (zk_drop marking limit n (view self)) }
+    fn zk_drop(self, n: u64, limit: Limit) -> Stepped
+        ensures { Says result (zk_drop marking limit.items n (view self)) }
     {
-        let m = self.mains;
-        if (m as u64) < n {
-            return Stepped {
-                stacks: self,
-                answer: Answer::Refused(Refusal::MainDry { needed: n, had: m }),
-            };
+        let dropped = self.drop_items(n);
+        if dropped.answer.is_err() {
+            return dropped;
         }
-        self.mains = m - (n as u32);
-        self.push_code(11, limit)
+        dropped.stacks.push_code(11, limit)
     }
 
-    // The tag 0x20 (Groth16) pops key, proof and a count, and drops that many; 0x21 (R0Succinct) drops 8. Their codes are 10
-    // more.
-    pub fn zk(mut self, limit: u32) -> Stepped
-        requires fit { Fit self }
-        requires limit_bound { limit ≤ 244 }
-        ensures { Steps result limit ZK (view self) }
+    /// ZK: the tag 0x20 (Groth16) pops key, proof and a count, and drops that many; 0x21 (R0Succinct) drops 8. Their codes are
+    /// 10 more.
+    pub fn zk(mut self, limit: Limit) -> Stepped
+        ensures { Steps result limit.items ZK (view self) }
     {
-        let m = self.mains;
-        if m < 1 {
-            return Stepped {
-                stacks: self,
-                answer: Answer::Refused(Refusal::MainDry { needed: 1, had: m }),
-            };
+        let answer = self.needs(1);
+        if answer.is_err() {
+            return Stepped { stacks: self, answer };
         }
-        let i = (m - 1) as usize;
-        let codes = self.codes;
-        let code = codes[i];
-        if code == 0x2b {
-            self.mains = m - 1;
-            return self.zk_drop(8, limit);
-        }
-        if code != 0x2a {
-            return Stepped {
-                stacks: self,
-                answer: Answer::Refused(Refusal::BadTag),
-            };
-        }
-        // without a key or a proof, one item is missing
-        if m < 3 {
-            return Stepped {
-                stacks: self,
-                answer: Answer::Refused(Refusal::MainDry { needed: 1, had: 0 }),
-            };
-        }
-        self.mains = m - 3;
-        let count = self.top_count();
-        match count {
-            Count::At(n) => {
-                self.mains = m - 4;
-                self.zk_drop(n, limit)
+        match self.codes[self.mains as usize - 1] {
+            0x2b => {
+                self.mains -= 1;
+                self.zk_drop(8, limit)
             }
-            Count::Refused(why) => Stepped {
+            // without a key or a proof, one item is missing
+            0x2a if self.mains < 3 => Stepped {
                 stacks: self,
-                answer: Answer::Refused(why),
+                answer: Err(Refusal::MainDry { needed: 1, had: 0 }),
+            },
+            0x2a => {
+                self.mains -= 3;
+                match self.top_count() {
+                    Ok(n) => {
+                        self.mains -= 1;
+                        self.zk_drop(n, limit)
+                    }
+                    Err(refusal) => Stepped {
+                        stacks: self,
+                        answer: Err(refusal),
+                    },
+                }
+            }
+            _ => Stepped {
+                stacks: self,
+                answer: Err(Refusal::BadTag),
             },
         }
     }
