@@ -4,15 +4,16 @@
 
 #![tactic(auto)]
 
-ghost use Rattle.std.specs.Prelude.{◌≡◌, ◌+◌, ◌≤◌, ◌<◌};
-ghost use Rattle.slots.specs.View.{slots, code_of, sufficient, Canon, Sound};
-ghost use Rattle.slots.specs.Parts.{Copied, Joined, Each, JoinedAt, InSlot, code_length};
+ghost use Rattle.std.specs.Prelude.{◌≡◌, true, ℕ, ◌<◌, get_or};
+ghost use Rattle.slots.specs.View.{code_of, sufficient, Canon};
+ghost use Rattle.slots.specs.Parts.{Each, common_code, CommonAt, settled_code, SettledAt, InSlot, code_length};
 
 use decode::Value;
 
 /// The code of an unknown item.
 pub const UNKNOWN: u8 = 9;
 
+#[tactic(auto, unfolding(crate::specs::View::sufficient))]
 /// Whether a code says its item by itself, whatever the bytes of the slot.
 pub fn suffices(code: u8) -> bool
     ensures { result ≡ sufficient code }
@@ -20,6 +21,7 @@ pub fn suffices(code: u8) -> bool
     code == 0 || code >= UNKNOWN
 }
 
+#[tactic(auto, unfolding(crate::specs::View::code_of))]
 /// The code of an exact item of so many bytes.
 pub fn code_of(len: u8, bytes: u64) -> u8
     ensures { result ≡ code_of len bytes }
@@ -31,42 +33,46 @@ pub fn code_of(len: u8, bytes: u64) -> u8
     }
 }
 
-/// Copies count codes, or as many bytes of slots, to a place above them.
-pub fn copy_slots<T: Copy>(slots: &mut [T; 244], from: usize, to: usize, count: usize)
-    requires { (from + count ≤ to) × (to + count ≤ 244) }
-    ensures { Copied slots.old from to count slots.new }
+// What two slots have in common by their codes.
+#[tactic(auto, unfolding(crate::specs::Parts::common_code))]
+fn common(code: u8, other: u8) -> u8
+    ensures { result ≡ common_code code other }
 {
-    for k in 0..count {
-        slots[to + k] = slots[from + k];
-    }
+    if code == other { code } else { UNKNOWN }
 }
 
-// The code of a slot that joins another.
-fn joined(code: u8, bytes: u64, code1: u8, bytes1: u64) -> u8
-    requires { (Canon code bytes) × (Canon code1 bytes1) }
-    ensures { Joined code bytes code1 bytes1 result }
+// What is left of that by their bytes.
+#[tactic(auto, unfolding(crate::specs::Parts::settled_code))]
+fn settled(code: u8, bytes: u64, other: u64) -> u8
+    ensures { result ≡ settled_code code bytes other }
 {
-    if code == code1 && (suffices(code) || bytes == bytes1) {
+    if suffices(code) || bytes == other {
         code
     } else {
         UNKNOWN
     }
 }
 
-/// Gives the slots from `from` up to `to` the codes that join others. The bytes stay.
-pub fn join_slots(
-    codes: &mut [u8; 244],
-    bytes: &[u64; 244],
-    codes1: &[u8; 244],
-    bytes1: &[u64; 244],
-    from: usize,
-    to: usize,
-)
-    requires { (Sound (slots bytes.now codes.old)) × (Sound (slots bytes1.now codes1.now)) × (from ≤ to) × (to ≤ 244) }
-    ensures { Each (JoinedAt (slots bytes.now codes.old) (slots bytes1.now codes1.now)) codes.old from to codes.new }
+/// The first half of a join of slots, by their codes: those that differ become unknown. Whether the codes that are left say
+/// their items by themselves.
+pub fn join_codes(codes: &mut [u8; 244], other: &[u8; 244]) -> bool
+    ensures common { Each (CommonAt codes.old other.now) codes.old 0 244 codes.new }
+    ensures suffice { result ≡ true → (j : ℕ) → j < 244 → sufficient (get_or codes.new j 0) ≡ true }
 {
-    for i in from..to {
-        codes[i] = joined(codes[i], bytes[i], codes1[i], bytes1[i]);
+    let mut suffice = true;
+    for i in 0..244 {
+        codes[i] = common(codes[i], other[i]);
+        suffice &= suffices(codes[i]);
+    }
+    suffice
+}
+
+/// The second half, by their bytes.
+pub fn join_bytes(codes: &mut [u8; 244], bytes: &[u64; 244], other: &[u64; 244])
+    ensures { Each (SettledAt codes.old bytes.now other.now) codes.old 0 244 codes.new }
+{
+    for i in 0..244 {
+        codes[i] = settled(codes[i], bytes[i], other[i]);
     }
 }
 
@@ -86,6 +92,7 @@ pub fn slot_value(code: u8, bytes: u64) -> Value
     }
 }
 
+#[tactic(auto, unfolding(crate::specs::Parts::code_length))]
 /// The length of an exact item, by its code.
 pub fn code_length(code: u8) -> u8
     ensures { result ≡ code_length code }

@@ -31,10 +31,17 @@ slots_of s = slots s.bytes s.codes
 abbrev pub view : Stacks → S.Stacks Item
 view s = stacks_in (slots_of s) s.mains s.alts
 
--- the result of a method says the outcome o of the definition
-pub record Says (r : Stepped) (o : S.Outcome Item) : Type 0 where
-  pub same : outcome r.answer (view r.stacks) ≡ o
+-- an operation's answer and the stacks that it leaves are the outcome o of the definition
+pub record Yields (answer : Result Unit Refusal) (s : Stacks) (o : S.Outcome Item) : Type 0 where
+  pub same : outcome answer (view s) ≡ o
 
--- the same of a step of the class o at this limit, whatever else the rules and the instruction hold
-pub record Steps (r : Stepped) (limit : ℕ) (o : Ordinary) (s : S.Stacks Item) : Type 0 where
-  pub same : (R : S.Rules) (i : Instruction) → R.limit ≡ limit → outcome r.answer (view r.stacks) ≡ S.step marking R i o s
+-- the same of a step of the class o at this limit from t on, whatever else the rules and the instruction hold
+pub record YieldsStep (answer : Result Unit Refusal) (s : Stacks) (limit : ℕ) (o : Ordinary) (t : S.Stacks Item) : Type 0 where
+  pub same : (R : S.Rules) (i : Instruction) → R.limit ≡ limit → outcome answer (view s) ≡ S.step marking R i o t
+
+-- the same of what a method by value returns
+abbrev pub Says : Stepped → S.Outcome Item → Type 0
+Says r o = Yields r.answer r.stacks o
+
+abbrev pub Steps : Stepped → ℕ → Ordinary → S.Stacks Item → Type 0
+Steps r limit o t = YieldsStep r.answer r.stacks limit o t
