@@ -157,7 +157,13 @@ pub fn mark_paper_rows(paper: &[u8], rules: Rules, log: &mut [u16]) -> PaperVerd
     let limit = rules.limit.items();
     match header::dispatch_check(paper, limit) {
         Ok(()) => mark_fragments(paper, rules, log),
-        Err(over) => refused(over.entry, Refusal::DispatchTooLarge { sum: over.sum, limit }),
+        Err(over) => refused(
+            over.entry,
+            Refusal::DispatchTooLarge {
+                sum: over.sum,
+                limit,
+            },
+        ),
     }
 }
 
