@@ -19,7 +19,7 @@ use Rattle.slots.specs.Parts.{Each, code_length}
 use Rattle.slots.proofs.Codes.{either, either-le, by_code, item-low, item-high, item-none, not-sufficient, is-sufficient}
 use Rattle.slots.proofs.Laws.{length-tops, each_none, each_more}
 use Rattle.slots.proofs.Values.{length-of, length-one}
-use Rattle.stack.specs.View.{slots_of, view, Fit}
+use Rattle.stack.specs.View.{slots_of, stacks_in, view}
 use Rattle.ends.specs.Parts.{end_slot}
 use Rattle.stack.specs.declared.Stacks.{Stacks}
 
@@ -103,11 +103,11 @@ span-moved f g a b (suc n) h =
 
 module _ (s : Stacks) where
   pub main-length : length (view s).main ≡ s.mains
-  unfolding view
+  unfolding stacks_in
   main-length = length-tops (cells (slots_of s)) s.mains
 
   pub alt-length : length (view s).alt ≡ s.alts
-  unfolding view
+  unfolding stacks_in
   alt-length = length-tops (backs (slots_of s)) s.alts
 
   total-is : S.total (view s) ≡ s.mains + s.alts
@@ -115,9 +115,9 @@ module _ (s : Stacks) where
 
 -- From bottom to top
 
-module _ (s : Stacks) (f : Fit s) where
+module _ (s : Stacks) where
   items-are : items_of (view s) ≡ span (end_item (slots_of s) s.mains) 0 (s.mains + s.alts)
-  unfolding view
+  unfolding stacks_in
   items-are =
       let c : ℕ → Item = end_item (slots_of s) s.mains in
       let lo : span (cells (slots_of s)) 0 s.mains ≡ span c 0 s.mains = span_ext (cells (slots_of s)) c 0 s.mains (λ k g h. ap (cells (slots_of s)) (slot-main s.mains k (omega arith))) in
@@ -136,9 +136,9 @@ module _ (s : Stacks) (f : Fit s) where
         alt-length s,
         items-are,
         ← n,
-        list-is item_length c lens k 255 (omega (arith, f.room)) e.lengths.whole (λ j l. e.lengths.each j (omega arith) l)
+        list-is item_length c lens k 255 (omega (arith, s.room)) e.lengths.whole (λ j l. e.lengths.each j (omega arith) l)
             (λ j l m. e.lengths.above j l ∙ get_or-replicate 244 j 255 0 m),
-        list-is item_number c bytes k 0 (omega (arith, f.room)) e.numbers.whole (λ j l. e.numbers.each j (omega arith) l)
+        list-is item_number c bytes k 0 (omega (arith, s.room)) e.numbers.whole (λ j l. e.numbers.each j (omega arith) l)
             (λ j l m. e.numbers.above j l ∙ get_or-replicate 244 j 0 0 m),
       )
 
@@ -154,13 +154,13 @@ helds-tops : (f : ℕ → Item) → ((j : ℕ) → HeldItem (f j)) → (n : ℕ)
 helds-tops f h zero = tt
 helds-tops f h (suc n) = (h n, helds-tops f h n)
 
-module _ (s : Stacks) (f : Fit s) where
+module _ (s : Stacks) where
   held-view : HeldStacks (view s)
-  unfolding view
+  unfolding stacks_in
   held-view =
-      let c : (j : ℕ) → HeldItem (cells (slots_of s) j) = λ j. item-held _ _ (f.sound.canon j) in
+      let c : (j : ℕ) → HeldItem (cells (slots_of s) j) = λ j. item-held _ _ (s.sound.canon j) in
       record {
-        room = rw (total-is s) f.room;
+        room = rw (total-is s) s.room;
         main = helds-tops (cells (slots_of s)) c s.mains;
         alt = helds-tops (backs (slots_of s)) (λ j. c (243 - j)) s.alts;
       }

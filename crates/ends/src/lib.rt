@@ -6,7 +6,7 @@ ghost use Rattle.std.specs.Prelude.{◌≡◌, ℕ, ◌+◌, ◌<◌, get_or};
 ghost use Rattle.definition.specs.Walk.{unknown};
 ghost use Rattle.decode.specs.View.{item_of};
 ghost use Rattle.slots.specs.View.{slot_item, Canon};
-ghost use Rattle.stack.specs.View.{view, Fit};
+ghost use Rattle.stack.specs.View.{view};
 ghost use Rattle.ends.specs.View.{items_of, value_at, end_stacks_of, item_length, item_number, packed_end, no_stacks};
 ghost use Rattle.ends.specs.Parts.{end_slot};
 
@@ -74,7 +74,6 @@ impl EndStacks {
 
     // The items of stacks.
     pub fn of(stacks: Stacks) -> EndStacks
-        requires { Fit stacks }
         ensures { result ≡ packed_end (view stacks) }
     {
         let main = stacks.mains;

@@ -1,13 +1,14 @@
 -- The entry point: its answer is the definition's analysis, and demand 3 holds of it.
 use mathlib.Core.Bool.{Bool, true, false}
 use mathlib.Core.List.{List, []}
-use mathlib.Core.Option.{Option, none, some}
+use mathlib.Core.Option as O
+use mathlib.Core.Option.{none, some}
 use mathlib.Core.Path.{◌≡◌, refl, sym, ap, ap₂, subst, ◌∙◌}
 use Prim.Native.Nat.{ℕ, ◌+◌, ◌*◌, ◌-◌, ◌≤◌, ◌<◌, max}
 use native.Mathlib.Omega.{arith}
 use borrow.Author.Tests.{lt-ltb, le-ltb, le-leb, lt-leb}
 use lib.ListN.{length, replicate, length-replicate}
-use Rattle.std.specs.Prelude.{Result, Ok, Err, Some, None}
+use Rattle.std.specs.Prelude.{Option, Some, None, Result, Ok, Err}
 use Rattle.definition.specs.Basics.{Bytes}
 use Rattle.definition.specs.Decoding.{decode, instructions, malformed_at}
 use Rattle.definition.specs.Refusals as D
@@ -28,7 +29,7 @@ use Rattle.stack.specs.declared.Stacks.{Stacks}
 use Rattle.ends.proofs.Packing.{main-length, alt-length, ends-back}
 use Rattle.stack_analysis.specs.View.{end_of, verdict_of, has_end, end_stacks, packed_verdict, summarized}
 use Rattle.stack_analysis.specs.Entry.{MayWalk, Begins, with_end}
-use Rattle.walk.specs.Runs.{running, stand, resume, Ready}
+use Rattle.walk.specs.Runs.{arm_of, running, stand, resume, Ready}
 use Rattle.arms.specs.Walkers.{Walks, concluded}
 use Rattle.walk.specs.declared.ArmEnd.{ArmEnd}
 use Rattle.walk.specs.declared.ArmEnd.TheVariants.{End, Else, Endif}
@@ -49,17 +50,17 @@ module _ (R : Rules) (s : Bytes) (main alt : ℕ) (log : List ℕ) where
       rw (b.arm, b.at, ← (code-start s), b.last, b.rows, b.peak, total)
 
 -- the walk of a fragment has ended
-pub walk-ends : (R : Rules) (s : Bytes) (main alt : ℕ) (log new : List ℕ) (v w : Walk) (r : Result ArmEnd Refusal) → Walks R s 0 v log r w new
+pub walk-ends : (R : Rules) (s : Bytes) (main alt : ℕ) (log new : List ℕ) (v w : Walk) (r : Result ArmEnd Refusal) → Walks R s 0 v log w r new
     → Begins main alt v → walked R s main alt log ≡ record { verdict = concluded r w; log = new }
 walk-ends R s main alt log new v w r g b = sym (started R s main alt log v b) ∙ g.goes.same [] refl ∙ concluded-is R s w new r
 
 -- The tests before the walk
 
-counted-malformed : (m : Option ℕ) (n : ℕ) (e : Malformed) → counted_of (Err e) ≡ count_by m n → m ≡ some e.offset
+counted-malformed : (m : O.Option ℕ) (n : ℕ) (e : Malformed) → counted_of (Err e) ≡ count_by m n → m ≡ some e.offset
 counted-malformed none n e q = absurd (omega (arith, ap (λ (c : Count). c.answer.number) q))
 counted-malformed (some p) n e q = ap some (sym (ap (λ (c : Count). c.answer.offset) q))
 
-counted-whole : (m : Option ℕ) (n k : ℕ) → counted_of (Ok k) ≡ count_by m n → (m ≡ none) × (k ≡ n)
+counted-whole : (m : O.Option ℕ) (n k : ℕ) → counted_of (Ok k) ≡ count_by m n → (m ≡ none) × (k ≡ n)
 counted-whole none n k e = (refl, ap (λ (c : Count). c.count) e)
 counted-whole (some p) n k e = absurd (omega (arith, ap (λ (c : Count). c.answer.number) e))
 
@@ -128,6 +129,16 @@ live_end (Ok End) w t e h = rw e
 live_end (Ok Else) w t e h = cc
 live_end (Ok Endif) w t e h = cc
 live_end (Err x) w t e h = cc
+
+none_end : (r : Result ArmEnd Refusal) (w : Walk) → ((t : Stacks) → w.stacks ≡ Some t → ⊥) → has_end (concluded r w).end ≡ false
+none_end (Ok End) w h = by w.stacks h
+  where
+    by : (o : Option Stacks) → ((t : Stacks) → o ≡ Some t → ⊥) → has_end (arm_of o) ≡ false
+    by None g = refl
+    by (Some t) g = absurd (g t refl)
+none_end (Ok Else) w h = refl
+none_end (Ok Endif) w h = refl
+none_end (Err x) w h = refl
 
 -- its items have room
 few-items : (t : Stacks) → (e : EndStacks) → e ≡ packed_end (view t) → e.main + e.alt ≤ 244
@@ -198,6 +209,9 @@ module _ (R : Rules) (small : R.limit ≤ 244) (s : Bytes) (main alt : ℕ) (log
     answers-dead h e k r is =
         let c : (concluded o w).end ≡ dead = dead_end (concluded o w).end (sym ended-is ∙ h) in
         answers (record { verdict = concluded o w; log = new }) comes-to v same e (rw c k) (rw c) (no_items e k) r is
+
+    pub answers-none : ((t : Stacks) → w.stacks ≡ Some t → ⊥) → (e : EndStacks) → e ≡ packed_end no_stacks → (r : Verdict) → r ≡ with_end v e → Analysed R s main alt log r new
+    answers-none h = answers-dead (ended-is ∙ none_end o w h)
 
     pub summed : (v ≡ summarized (analysis R s main alt log).verdict) × (new ≡ (analysis R s main alt log).log)
     summed = (rw comes-to same, rw comes-to)

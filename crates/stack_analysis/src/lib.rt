@@ -17,7 +17,7 @@ ghost use Rattle.stack_analysis.specs.Entry.{Starts, Begins, with_end};
 
 use arms::arm;
 use ends::EndStacks;
-use refusals::{Refusal, Refused};
+use refusals::{Answer, Refusal, Refused};
 use stack::{Limit, Stacks};
 use walk::{ArmEnd, Options, Walk};
 
@@ -52,11 +52,12 @@ pub struct Summary {
 fn refused(refused: Refused, rows: usize) -> Summary
     ensures { result ≡ summarized (refused_verdict refused.offset (refusal_of refused.refusal) rows) }
 {
+    let answer = Answer::from(Err(refused));
     Summary {
-        number: refused.refusal.number(),
-        offset: refused.offset,
-        first: refused.refusal.first(),
-        second: refused.refusal.second(),
+        number: answer.number,
+        offset: answer.offset,
+        first: answer.first,
+        second: answer.second,
         rows,
         peak: 0,
         ended: false,
@@ -71,20 +72,25 @@ fn accepted(w: &Walk) -> Summary
         ≡ summarized
         (record { answer = answer 0 0 0 0; rows = w.now.rows; peak = w.now.peak; end = arm_of w.now.stacks }) }
 {
-    let (main, alt) = match &w.stacks {
-        Some(stacks) => (stacks.mains, stacks.alts),
-        None => (0, 0),
-    };
-    Summary {
+    let summary = Summary {
         number: 0,
         offset: 0,
         first: 0,
         second: 0,
         rows: w.rows,
         peak: w.peak,
-        ended: w.stacks.is_some(),
-        main,
-        alt,
+        ended: false,
+        main: 0,
+        alt: 0,
+    };
+    match &w.stacks {
+        Some(stacks) => Summary {
+            ended: true,
+            main: stacks.mains,
+            alt: stacks.alts,
+            ..summary
+        },
+        None => summary,
     }
 }
 

@@ -33,12 +33,10 @@ fn run(letters: &[u8], start: Stacks) -> Stacks {
 // A read or a write that fails is said on standard error.
 fn main(rt: HostRuntime) {
     let mut letters = [0u8; 40000];
-    let i = input::read_input(&mut rt.stdin(), &mut letters);
-    if i.failed {
+    let Ok(n) = input::read_input(&mut rt.stdin(), &mut letters) else {
         let _ = rt.eprintln("stack_bench: cannot read standard input");
         return;
-    }
-    let n = i.size;
+    };
     let start = Stacks::new(200, 0);
     let s = run(&letters[..n], start);
     if println!(rt; "{} {}", s.mains, s.alts).is_err() {

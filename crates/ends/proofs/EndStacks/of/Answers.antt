@@ -29,7 +29,7 @@ pub bounds-lens-k : goal.bounds-lens-k
 bounds-lens-k c = omega arith
 
 pub end_number-requires : goal.end_number-requires
-end_number-requires c = c.requires.sound.canon c.end_slot-i.result
+end_number-requires c = c.args.stacks.sound.canon c.end_slot-i.result
 
 pub bounds-bytes-k : goal.bounds-bytes-k
 bounds-bytes-k c = omega arith
@@ -43,4 +43,4 @@ loop-k-preserved c = let s = c.args.stacks in (
 )
 
 pub returns : goal.returns
-returns c = ends-are c.args.stacks c.requires c.loop-k.k c.loop-k.lens c.loop-k.bytes c.loop-k.invariant.0 (omega arith) (omega arith)
+returns c = ends-are c.args.stacks c.loop-k.k c.loop-k.lens c.loop-k.bytes c.loop-k.invariant.0 (omega arith) (omega arith)
