@@ -1,6 +1,8 @@
 -- Laws of the words of a fault.
+use Rattle.std.specs.Prelude.{Option, Some, None}
+use Rattle.std.proofs.Math.Option.{none, some}
 use mathlib.Core.List.{[]}
-use mathlib.Core.Path.{◌≡◌, sym, ap}
+use mathlib.Core.Path.{◌≡◌, sym, ap, ◌∙◌}
 use Prim.Native.Nat.{ℕ, zero, suc, ◌+◌, ◌-◌}
 use native.Mathlib.Omega.{arith}
 use lib.Seq.{paste-zero}
@@ -9,9 +11,8 @@ use Rattle.definition.specs.Lines.{text, labelled}
 use Rattle.text.specs.View.{Written}
 use Rattle.text.proofs.Texts.{written_as}
 use Rattle.faults.specs.Faults.{part_name, fault, fault_words}
-use Rattle.faults.specs.View.{fault_of}
+use Rattle.faults.specs.View.{fault_of, found_of}
 use Rattle.faults.specs.declared.Fault.{Fault}
-use Rattle.faults.specs.declared.Fault.TheVariants.{Nothing}
 
 module _ {lent : Bytes} {at : ℕ} {new : Bytes} {next : ℕ} where
   pub part-first : (part : ℕ) → part ≡ 0 → Written lent at (text "the initialiser") new next → Written lent at (part_name part) new next
@@ -25,16 +26,18 @@ module _ {lent : Bytes} {at : ℕ} {new : Bytes} {next : ℕ} where
       written_as (ap (labelled "the body of entry ") e) w
 
   -- by its case
-  pub words_of : {f g : Fault} → f ≡ g → Written lent at (fault_words (fault_of g)) new next → Written lent at (fault_words (fault_of f)) new next
-  words_of e w = written_as (ap (λ (x : Fault). fault_words (fault_of x)) (sym e)) w
+  pub words_of : {f g : Fault} → f ≡ g → Written lent at (fault_words (some (fault_of g))) new next
+      → Written lent at (fault_words (some (fault_of f))) new next
+  words_of e w = written_as (ap (λ (x : Fault). fault_words (some (fault_of x))) (sym e)) w
 
-  pub words-found : (f : Fault) (paper : Bytes) → fault_of f ≡ fault paper → Written lent at (fault_words (fault_of f)) new next
-      → Written lent at (fault_words (fault paper)) new next
-  words-found f paper e w = written_as (ap fault_words e) w
+  pub words_found : {o : Option Fault} {f : Fault} (paper : Bytes) → o ≡ Some f → found_of o ≡ fault paper
+      → Written lent at (fault_words (some (fault_of f))) new next → Written lent at (fault_words (fault paper)) new next
+  words_found paper e h w = written_as (ap fault_words (sym (ap found_of e) ∙ h)) w
 
-pub words-none : {f : Fault} (lent : Bytes) (at : ℕ) → f ≡ Nothing → Written lent at (fault_words (fault_of f)) lent at
+pub words_none : {o : Option Fault} (lent : Bytes) (at : ℕ) (paper : Bytes) → o ≡ None → found_of o ≡ fault paper
+    → Written lent at (fault_words (fault paper)) lent at
 unfolding fault_words
-words-none {f} lent at e =
+words_none lent at paper e h =
     let n : at ≡ at + 0 = omega arith in
-    let w : Written lent at [] lent at = record { ends = n; holds = paste-zero lent at [] } in
-    words_of e w
+    let w : Written lent at (fault_words none) lent at = record { ends = n; holds = paste-zero lent at [] } in
+    written_as (ap fault_words (sym (ap found_of e) ∙ h)) w

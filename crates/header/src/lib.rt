@@ -2,7 +2,7 @@
 
 #![tactic(auto)]
 
-ghost use Rattle.std.specs.Prelude.{List, ◌≡◌, ℕ, ◌+◌, ◌*◌, ◌^◌, ◌<◌, length};
+ghost use Rattle.std.specs.Prelude.{List, ◌≡◌, ℕ, ◌+◌, ◌*◌, ◌^◌, ◌<◌, ◌≤◌, length};
 // `Papers.f` is the f of the definitions, in crates/definition/specs/Papers.antt.
 ghost use Rattle.definition.specs.Papers as Papers;
 ghost use Rattle.definition.specs.Papers.{part_at, bytes_of, entries, most_parameters, fragments, dispatch};
@@ -88,6 +88,14 @@ pub fn initialiser(paper: &[u8]) -> Part
     ensures { part_of result ≡ Papers.initialiser paper.now }
 {
     part_at(paper, 4)
+}
+
+/// Part `k`: the initialiser is part 0, the body of entry k part k + 1. Offset and length of part k stand at 4 + 6 * k.
+pub fn nth_part(paper: &[u8], k: usize) -> Part
+    requires { k ≤ 2 ^ 16 }
+    ensures { part_of result ≡ part_at paper.now (4 + 6 * k) }
+{
+    part_at(paper, 4 + 6 * k)
 }
 
 /// Entry `k`, from 0.

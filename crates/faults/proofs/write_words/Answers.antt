@@ -1,12 +1,5 @@
-use native.Mathlib.Omega.{arith}
-use Rattle.faults.proofs.Words.{words_of, words-none}
+use Rattle.faults.proofs.Words.{words_of}
 use Rattle.faults.proofs.write_words.Goals as goal
-
-pub returns-in-Nothing-clause-same : goal.returns-in-Nothing-clause-same
-returns-in-Nothing-clause-same c = words-none c.args.out.now c.args.at c.in-Nothing.is
-
-pub returns-in-Nothing-clause-short : goal.returns-in-Nothing-clause-short
-returns-in-Nothing-clause-short c = omega arith
 
 pub returns-in-Short-clause-same : goal.returns-in-Short-clause-same
 returns-in-Short-clause-same c = words_of c.in-Short.is c.write_short.ensures.same
