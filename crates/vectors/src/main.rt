@@ -115,7 +115,7 @@ fn put_byte(rt: &impl Print, out: &mut [u8], used: usize, b: u8) -> usize
     ensures { result ≤ length out.new }
 {
     let mut digits = [0u8; 2];
-    let k = text::write_hex(&mut digits, 0, b as u64);
+    let k = text::write_hex(&mut digits, 0, b);
     put_text(rt, out, used, &digits[..k])
 }
 
