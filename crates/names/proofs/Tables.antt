@@ -4,20 +4,21 @@ use mathlib.Core.List.{List, [], ◌∷◌}
 use mathlib.Core.Logic.{⊎_elim}
 use mathlib.Core.Option.{Option, none, some}
 use mathlib.Core.Path.{◌≡◌, refl, sym, ap, subst, ◌∙◌}
-use Prim.Native.Nat.{ℕ, zero, suc, ◌+◌, ◌-◌, ◌*◌, ◌/◌, ◌%◌, ◌≤◌, ◌<◌}
+use Prim.Native.Nat.{ℕ, zero, suc, ◌+◌, ◌-◌, ◌≤◌, ◌<◌}
 use native.Mathlib.Nat.{eq-or-lt_of_le}
 use native.Mathlib.Omega.{arith}
-use borrow.Author.Tests.{eq-eqb, ne_eqb}
+use borrow.Author.Tests.{eq-eqb}
 use lib.Dec.{T, leb, ltb, eqb, eqb→eq, leb→le}
-use lib.ListN.{length, take, drop, get_or, drop_of_length-le}
-use lib.Seq.{drop-cons}
+use lib.ListN.{length, take, drop, get_or}
 use mir.Facts.{and_yes}
 use Rattle.definition.specs.Basics.{Bytes, pick}
 use Rattle.definition_listings.specs.Assembling.{same, code_in}
 use Rattle.definition_listings.specs.OpcodeNames.{Named, name_table, name_of}
 use Rattle.opcodes.proofs.Every.{every, at}
-use Rattle.names.specs.declared.Word.TheVariants.{Strange, Code}
-use Rattle.names.specs.View.{name_word}
+use Rattle.std.specs.Cmp.Lexicographic.{pointwise}
+use Rattle.std.specs.Prelude.{Some, None}
+use Rattle.std.proofs.lemmas.Slice.Eq.{bytes_eq-Decides}
+use Rattle.names.specs.View.{code_option}
 use Rattle.names.specs.Tables.{all_letters, name_at, name_right, names_right, starts_right, place_of, names_placed, codes_right}
 
 -- a test that holds, and one that is true
@@ -159,51 +160,7 @@ module _ (codes : List ℕ) (right : T (codes_right codes)) where
   pub no_name : (w : Bytes) → same (name_of (get_or codes (place_of w) 0)) w ≡ false → code_in name_table w ≡ none
   no_name w f = none_in name_table w codes-both.1 own-names f
 
--- The loop of `same`
-
-pub same-lengths : (l m : Bytes) → (length l ≡ length m → ⊥) → false ≡ same l m
-same-lengths l m n = by (same l m) refl
-  where
-    by : (b : Bool) → same l m ≡ b → false ≡ b
-    by true e = absurd (n (ap length (same-equal l m e)))
-    by false e = refl
-
--- the letters up to j are the same
-pub record SameTo (l m : Bytes) (j : ℕ) : Type 0 where
-  pub lengths : length l ≡ length m
-  pub within : j ≤ length l
-  pub is : same l m ≡ same (drop j l) (drop j m)
-
-module _ (l m : Bytes) where
-  pub same_start : length l ≡ length m → SameTo l m 0
-  same_start e = record { lengths = e; within = omega arith; is = refl }
-
-  module _ (j : ℕ) (s : SameTo l m j) where
-    at-letters : j < length l → same l m ≡ eqb (get_or l j 0) (get_or m j 0) && same (drop (suc j) l) (drop (suc j) m)
-    at-letters h = s.is ∙ rw (drop-cons l j 0 h, drop-cons m j 0 (omega (arith, s.lengths)))
-
-    pub same-differ : j < length l → (get_or l j 0 ≡ get_or m j 0 → ⊥) → false ≡ same l m
-    same-differ h n = sym (at-letters h ∙ rw (ne_eqb (get_or l j 0) (get_or m j 0) n))
-
-    pub same_more : j < length l → get_or l j 0 ≡ get_or m j 0 → SameTo l m (j + 1)
-    same_more h e =
-        let n : j + 1 ≡ suc j = omega arith in
-        record {
-          lengths = s.lengths;
-          within = omega arith;
-          is = at-letters h ∙ rw (eq-eqb (get_or l j 0) (get_or m j 0) e, n);
-        }
-
-    pub same-all : length l ≤ j → true ≡ same l m
-    same-all h = sym (s.is ∙ rw (drop_of_length-le l h, drop_of_length-le m {i = j} (omega (arith, s.lengths))))
-
--- The place of a word, and the name there
-
-pub place_is : (w : Bytes) (last half third two : ℕ) → last ≡ get_or w (length w - 1) 0 → half ≡ get_or w (length w / 2) 0
-    → third ≡ get_or w (length w / 3) 0 → two ≡ get_or w (length w * 2 / 3) 0
-    → (349 * (length w % 512 + last) + 231 * half + 259 * third + 470 * two) % 512 ≡ place_of w
-unfolding place_of
-place_is w last half third two a b c d = rw (a, b, c, d)
+-- The letters between two starts, and the code at a word's place
 
 -- two starts that follow one another
 pub between : (letters : Bytes) (starts : List ℕ) (code from to : ℕ) → letters ≡ all_letters → T (starts_right starts) → code < 256 → from ≡ get_or starts code 0
@@ -219,23 +176,24 @@ name-between letters starts code from to l s h f t =
     let m : take (to - from) (drop from letters) ≡ name_at starts code = rw (f, t, n, l) in
     m ∙ (name-of starts s code h).name
 
-module _ (w letters : Bytes) (starts codes : List ℕ) (l : letters ≡ all_letters) (s : T (starts_right starts)) (c : T (codes_right codes)) where
-  -- the letters between two starts are compared with the word
-  named : (code i from to : ℕ) (r b : Bool) → i ≡ code → i < 256 → from ≡ get_or starts i 0 → to ≡ get_or starts (i + 1) 0
-      → r ≡ same (take (to - from) (drop from letters)) w → r ≡ b → same (name_of code) w ≡ b
-  named code i from to r b j h f t q e =
-      ap (λ n. same (name_of n) w) (sym j) ∙ ap (λ (x : Bytes). same x w) (sym (name-between letters starts i from to l s h f t)) ∙ sym q ∙ e
+module _ (w : Bytes) where
+  pub code-empty : length w ≡ 0 → None ≡ code_option (code_in name_table w)
+  unfolding name_table
+  code-empty e = by w e
+    where
+      by : (w : Bytes) → length w ≡ 0 → None ≡ code_option (code_in name_table w)
+      by [] e = refl
+      by (c ∷ w) e = absurd (omega arith)
 
-  pub named-code : (code i from to : ℕ) (r : Bool) → i ≡ code → i < 256 → from ≡ get_or starts i 0 → to ≡ get_or starts (i + 1) 0
-      → r ≡ same (take (to - from) (drop from letters)) w → r ≡ true → 0 < length w → Code code ≡ name_word (code_in name_table w)
-  named-code code i from to r j h f t q e n = rw (name-read code w (omega arith) n (named code i from to r true j h f t q e))
+  module _ (code : ℕ) (name : Bytes) (is : name ≡ name_of code) (r : Bool) (compared : r ≡ pointwise eqb name w) where
+    pub code-named : code < 256 → 0 < length w → r ≡ true → Some code ≡ code_option (code_in name_table w)
+    code-named h n e = rw (name-read code w h n (equal-same (name_of code) w (sym is ∙ (bytes_eq-Decides name w).0 (sym compared ∙ e))))
 
-  pub named_none : (place i from to : ℕ) (r : Bool) → place ≡ place_of w → i ≡ get_or codes place 0 → i < 256 → from ≡ get_or starts i 0 → to ≡ get_or starts (i + 1) 0
-      → r ≡ same (take (to - from) (drop from letters)) w → r ≡ false → Strange ≡ name_word (code_in name_table w)
-  named_none place i from to r p j h f t q e =
-      rw (no_name codes c w (named (get_or codes (place_of w) 0) i from to r false (j ∙ ap (λ n. get_or codes n 0) p) h f t q e))
-
-pub named-empty : (w : Bytes) → length w ≡ 0 → Strange ≡ name_word (code_in name_table w)
-unfolding name_table
-named-empty [] e = refl
-named-empty (c ∷ w) e = absurd (omega arith)
+    pub code_none : (codes : List ℕ) → T (codes_right codes) → code ≡ get_or codes (place_of w) 0 → r ≡ false → None ≡ code_option (code_in name_table w)
+    code_none codes c at f = rw (no_name codes c w (differs (same (name_of (get_or codes (place_of w) 0)) w) refl))
+      where
+        differs : (b : Bool) → same (name_of (get_or codes (place_of w) 0)) w ≡ b → same (name_of (get_or codes (place_of w) 0)) w ≡ false
+        differs false e = e
+        differs true e =
+            let q : name ≡ w = is ∙ ap name_of at ∙ same-equal (name_of (get_or codes (place_of w) 0)) w e in
+            absurd (true-or-false r (compared ∙ (bytes_eq-Decides name w).1 q) f)
