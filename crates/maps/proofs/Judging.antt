@@ -11,7 +11,7 @@ use lib.Seq.{drop-cons, length-take-le}
 use Rattle.definition.specs.Basics.{Bytes}
 use Rattle.definition.specs.Classes.{class_number}
 use Rattle.definition_rules.specs.Maps.{row_count, first_row, good_row, good_rows, good_map, good_limit}
-use Rattle.opcodes.proofs.Classes.{number-below}
+use Rattle.opcodes.proofs.Numbering.{number-below}
 use Rattle.opcodes.proofs.Every.{every, tabled}
 use Rattle.maps.specs.View.{Numbers, JudgedUpTo}
 

@@ -84,4 +84,4 @@ module _ (rows : List ℕ) (e : length rows ≡ 256) (t : T (every (λ n. eqb (g
   rules-by = λ i. record { class_for = λ code. class_at (row_is code i); limit = 244; examined = false }
 
   pub built-in-rows : BuiltInRows rows
-  built-in-rows = record { good = good-rows; same = rules-by }
+  built-in-rows = record { good = good-rows; row = row_is; same = rules-by }
