@@ -1,9 +1,10 @@
 -- What a refusal of the code stands for in the definitions.
-use Rattle.std.specs.Prelude.{Result}
+use Rattle.std.specs.Prelude.{Result, Ok, Err}
 use Rattle.definition.specs.Refusals as D
 use Rattle.refusals.specs.declared.Refusal.{Refusal}
 use Rattle.refusals.specs.declared.Refusal.TheVariants.{LongFragment, StartTooLarge, Malformed, ShortLog, Nesting, StacksFull, MainDry, AltDry, BadIndex, BadTag, Unmodelled, ArmsDiffer, StrayElse, SecondElse, StrayEndif, OpenIf, OpcodeCount, ScriptSize, BadHeader, DispatchTooLarge, LongPaper, TallyFull, BadSitting, CrookedNumber, NegativeIndex, StrangeWord, OutputShort, BadMap, BadLimit, LongElement}
 use Rattle.refusals.specs.declared.Refused.{Refused}
+use Rattle.refusals.specs.declared.Answer.{Answer}
 
 -- a refusal, with its figures
 abbrev pub refusal_of : Refusal → D.Refusal
@@ -41,3 +42,12 @@ refusal_of (LongElement size) = D.long_element size
 -- a refusal where it stands: number, offset and figures
 abbrev pub answer_of : Refused → D.Answer
 answer_of r = D.refused_at r.offset (refusal_of r.refusal)
+
+-- accepted, or the refusal
+abbrev pub answer_in : Result (Unit {0}) Refused → D.Answer
+answer_in (Ok done) = D.accepted
+answer_in (Err refused) = answer_of refused
+
+-- the answer in numbers, field for field
+abbrev pub numbers_of : Answer → D.Answer
+numbers_of a = record { number = a.number; offset = a.offset; first = a.first; second = a.second }

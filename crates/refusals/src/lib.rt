@@ -4,7 +4,7 @@
 
 ghost use Rattle.std.specs.Prelude.{◌≡◌, ℕ};
 ghost use Rattle.definition.specs.Refusals.{refused_at};
-ghost use Rattle.refusals.specs.View.{refusal_of};
+ghost use Rattle.refusals.specs.View.{refusal_of, answer_in, numbers_of};
 
 /// A reason to refuse, with those of its figures that are not fixed.
 #[derive(Clone, Copy, Debug, PartialEq, Eq)]
@@ -134,5 +134,35 @@ impl From<Refusal> for Refused {
 
     fn from(refusal: Refusal) -> Refused {
         Refused { offset: 0, refusal }
+    }
+}
+
+/// An answer in numbers: the verdict number, the offset and the two figures, all 0 where nothing is refused.
+#[derive(Clone, Copy, Debug, PartialEq, Eq)]
+pub struct Answer {
+    pub number: u32,
+    pub offset: usize,
+    pub first: u64,
+    pub second: u64,
+}
+
+impl From<Result<(), Refused>> for Answer {
+    ghost from_gives = { λ outcome answer. numbers_of answer ≡ answer_in outcome };
+
+    fn from(outcome: Result<(), Refused>) -> Answer {
+        match outcome {
+            Ok(()) => Answer {
+                number: 0,
+                offset: 0,
+                first: 0,
+                second: 0,
+            },
+            Err(Refused { offset, refusal }) => Answer {
+                number: refusal.number(),
+                offset,
+                first: refusal.first(),
+                second: refusal.second(),
+            },
+        }
     }
 }
