@@ -3,15 +3,16 @@
 #![tactic(auto)]
 
 ghost use Rattle.std.proofs.Math.Option.{some};
-ghost use Rattle.std.specs.Prelude.{◌≡◌, ℕ, ◌+◌, ◌-◌, ◌^◌, ◌≤◌, length};
+ghost use Rattle.std.specs.Prelude.{◌≡◌, ◌++◌, ℕ, ◌+◌, ◌-◌, ◌^◌, ◌≤◌, length};
 ghost use Rattle.good_header.specs.View.{parts_from};
 ghost use Rattle.header.specs.View.{part_of};
-ghost use Rattle.text.specs.View.{Written};
+ghost use Rattle.arrayvec.specs.ArrayVec.{array_vec_len};
 ghost use Rattle.faults.specs.Faults.{short_paper, bad_count, cut_header, in_header, past_paper, sharing, shared_with};
 ghost use Rattle.faults.specs.Faults.{part_fault, fault, part_name, fault_words};
 ghost use Rattle.faults.specs.View.{fault_of, found_of, shared_of};
 
 use header::{Part, nth_part};
+use text::{Line, push_labelled, push_word};
 
 /// A fault; parts are counted from 0, the initialiser and then the bodies.
 #[derive(Clone, Copy, Debug, PartialEq, Eq)]
@@ -79,102 +80,67 @@ pub fn find(paper: &[u8]) -> Option<Fault>
     }
 }
 
-// The words of each fault, behind `: `.
-fn write_short(out: &mut [u8], at: usize, bytes: usize) -> usize
-    requires { at + 110 ≤ length out.old }
-    ensures same { Written out.old at (fault_words (some (short_paper bytes))) out.new result }
-    ensures short { result ≤ at + 110 }
-{
-    let a = text::write_labelled(out, at, b": ", bytes as u64);
-    text::write_word(out, a, b" bytes, fewer than 8")
-}
-
-fn write_count(out: &mut [u8], at: usize, entries: u16) -> usize
-    requires { at + 110 ≤ length out.old }
-    ensures same { Written out.old at (fault_words (some (bad_count entries))) out.new result }
-    ensures short { result ≤ at + 110 }
-{
-    let a = text::write_labelled(out, at, b": entries ", entries as u64);
-    text::write_word(out, a, b", 1 to 32 allowed")
-}
-
-fn write_cut(out: &mut [u8], at: usize, entries: u16, bytes: usize) -> usize
-    requires { at + 110 ≤ length out.old }
-    ensures same { Written out.old at (fault_words (some (cut_header entries bytes))) out.new result }
-    ensures short { result ≤ at + 110 }
-{
-    let needed = 8 + 6 * entries as u64;
-    let a = text::write_labelled(out, at, b": ", entries as u64);
-    let b = text::write_labelled(out, a, b" entries need ", needed);
-    text::write_labelled(out, b, b" bytes, the paper has ", bytes as u64)
-}
-
-fn write_part(out: &mut [u8], at: usize, part: usize) -> usize
-    requires { at + 38 ≤ length out.old }
-    ensures same { Written out.old at (part_name part) out.new result }
-    ensures short { result ≤ at + 38 }
+// Appends the name of a part.
+#[tactic(auto, using(crate::proofs::Words::body_name))]
+fn push_part<const N: usize>(line: &mut Line<N>, part: usize)
+    requires { array_vec_len line.old + 38 ≤ N }
+    ensures items { line.new.items ≡ line.old.items ++ part_name part }
+    ensures short { array_vec_len line.new ≤ array_vec_len line.old + 38 }
 {
     if part == 0 {
-        return text::write_word(out, at, b"the initialiser");
+        push_word(line, b"the initialiser");
+    } else {
+        push_labelled(line, b"the body of entry ", (part - 1) as u64);
     }
-    text::write_labelled(out, at, b"the body of entry ", (part - 1) as u64)
 }
 
-fn write_inside(out: &mut [u8], at: usize, part: usize) -> usize
-    requires { at + 110 ≤ length out.old }
-    ensures same { Written out.old at (fault_words (some (in_header part))) out.new result }
-    ensures short { result ≤ at + 110 }
-{
-    let a = text::write_word(out, at, b": ");
-    let b = write_part(out, a, part);
-    text::write_word(out, b, b" starts in the header")
-}
-
-fn write_past(out: &mut [u8], at: usize, part: usize) -> usize
-    requires { at + 110 ≤ length out.old }
-    ensures same { Written out.old at (fault_words (some (past_paper part))) out.new result }
-    ensures short { result ≤ at + 110 }
-{
-    let a = text::write_word(out, at, b": ");
-    let b = write_part(out, a, part);
-    text::write_word(out, b, b" ends past the paper")
-}
-
-fn write_shared(out: &mut [u8], at: usize, part: usize, other: usize) -> usize
-    requires { at + 110 ≤ length out.old }
-    ensures same { Written out.old at (fault_words (some (sharing part other))) out.new result }
-    ensures short { result ≤ at + 110 }
-{
-    let a = text::write_word(out, at, b": ");
-    let b = write_part(out, a, part);
-    let c = text::write_word(out, b, b" shares a byte with ");
-    write_part(out, c, other)
-}
-
-// Of any fault.
-fn write_words(out: &mut [u8], at: usize, f: Fault) -> usize
-    requires { at + 110 ≤ length out.old }
-    ensures same { Written out.old at (fault_words (some (fault_of f))) out.new result }
-    ensures short { result ≤ at + 110 }
+// Appends the words of a fault behind `: `.
+#[tactic(auto, unfolding(crate::specs::Faults::fault_words))]
+fn push_words<const N: usize>(line: &mut Line<N>, f: Fault)
+    requires { array_vec_len line.old + 110 ≤ N }
+    ensures items { line.new.items ≡ line.old.items ++ fault_words (some (fault_of f)) }
+    ensures short { array_vec_len line.new ≤ array_vec_len line.old + 110 }
 {
     match f {
-        Fault::Short { bytes } => write_short(out, at, bytes),
-        Fault::Count { entries } => write_count(out, at, entries),
-        Fault::Cut { entries, bytes } => write_cut(out, at, entries, bytes),
-        Fault::Inside { part } => write_inside(out, at, part),
-        Fault::Past { part } => write_past(out, at, part),
-        Fault::Shared { part, other } => write_shared(out, at, part, other),
+        Fault::Short { bytes } => {
+            push_labelled(line, b": ", bytes as u64);
+            push_word(line, b" bytes, fewer than 8");
+        }
+        Fault::Count { entries } => {
+            push_labelled(line, b": entries ", u64::from(entries));
+            push_word(line, b", 1 to 32 allowed");
+        }
+        Fault::Cut { entries, bytes } => {
+            push_labelled(line, b": ", u64::from(entries));
+            push_labelled(line, b" entries need ", 8 + 6 * u64::from(entries));
+            push_labelled(line, b" bytes, the paper has ", bytes as u64);
+        }
+        Fault::Inside { part } => {
+            push_word(line, b": ");
+            push_part(line, part);
+            push_word(line, b" starts in the header");
+        }
+        Fault::Past { part } => {
+            push_word(line, b": ");
+            push_part(line, part);
+            push_word(line, b" ends past the paper");
+        }
+        Fault::Shared { part, other } => {
+            push_word(line, b": ");
+            push_part(line, part);
+            push_word(line, b" shares a byte with ");
+            push_part(line, other);
+        }
     }
 }
 
-// What is wrong with the header of a paper, in words behind `: `; nothing where nothing is.
-pub fn write_fault(out: &mut [u8], at: usize, paper: &[u8]) -> usize
-    requires { at + 110 ≤ length out.old }
-    ensures same { Written out.old at (fault_words (fault paper.now)) out.new result }
-    ensures short { result ≤ at + 110 }
+/// Appends what is wrong with the header of a paper, in words behind `: `; nothing where nothing is.
+pub fn push_fault<const N: usize>(line: &mut Line<N>, paper: &[u8])
+    requires { array_vec_len line.old + 110 ≤ N }
+    ensures items { line.new.items ≡ line.old.items ++ fault_words (fault paper.now) }
+    ensures short { array_vec_len line.new ≤ array_vec_len line.old + 110 }
 {
-    match find(paper) {
-        Some(f) => write_words(out, at, f),
-        None => at,
+    if let Some(fault) = find(paper) {
+        push_words(line, fault);
     }
 }
