@@ -1,18 +1,16 @@
 -- What two slots have in common.
 use mathlib.Core.Bool.{Bool, true, false, ◌&&◌, or-true}
 use mathlib.Core.Path.{◌≡◌, refl, sym, ap, ◌∙◌}
-use mathlib.Core.List.{List, [], ◌∷◌}
-use Prim.Native.Nat.{ℕ, zero, suc, ◌+◌, ◌≤◌, ◌<◌}
+use mathlib.Core.List.{[], ◌∷◌}
+use Prim.Native.Nat.{ℕ, zero, suc, ◌<◌}
 use native.Mathlib.Omega.{arith}
-use borrow.Author.Tests.{eq-eqb, ne_eqb, eqb-true, eqb-false, ltb-true, ltb-false}
-use lib.Dec.{eqb, ltb}
-use lib.ListN.{length, get_or, set}
+use borrow.Author.Tests.{eq-eqb, ne_eqb, eqb-true}
+use lib.Dec.{eqb}
 use Rattle.definition.specs.Basics.{Bytes, pick}
 use Rattle.definition.specs.Walk.{Item, unknown, exact, same_bytes, join_item, join_items}
-use Rattle.slots.specs.View.{Slots, slots, slot_item, sufficient, cells, tops, Canon, Sound}
-use Rattle.slots.specs.Parts.{Joined, Each, common_code, CommonAt, settled_code, SettledAt}
+use Rattle.slots.specs.View.{slot_item, sufficient, tops, Canon}
+use Rattle.slots.specs.Parts.{Joined, common_code, settled_code}
 use Rattle.slots.proofs.Codes.{either, sufficient-high, canon-unknown, same_item, slot_code, slot_bytes, code_is, bytes-are}
-use Rattle.slots.proofs.Laws.{each_more}
 
 -- Bytes
 

@@ -1,14 +1,14 @@
 -- The join of two stacks.
-use mathlib.Core.Bool.{Bool, true, false}
-use mathlib.Core.Path.{◌≡◌, refl, sym, ap, ◌∙◌}
+use mathlib.Core.Bool.{true}
+use mathlib.Core.Path.{◌≡◌, sym, ap, ◌∙◌}
 use mathlib.Core.List.{List}
 use Prim.Native.Nat.{ℕ, ◌+◌, ◌-◌, ◌≤◌, ◌<◌}
 use native.Mathlib.Omega.{arith}
 use borrow.Author.Tests.{eq-eqb, ne_eqb}
-use lib.ListN.{length, get_or, get_or-eq_default}
+use lib.ListN.{get_or, get_or-eq_default}
 use Rattle.definition.specs.Refusals.{arms_differ}
 use Rattle.definition.specs.Stacks as S
-use Rattle.definition.specs.Walk.{Item, join_item, join_stacks}
+use Rattle.definition.specs.Walk.{join_item, join_stacks}
 use Rattle.slots.specs.View.{Slots, slots, sufficient, cells, backs, Sound, Canon}
 use Rattle.slots.specs.Parts.{Each, Joined, CommonAt, SettledAt, common_code, settled_code}
 use Rattle.slots.proofs.Codes.{either-le}

@@ -1,13 +1,11 @@
 -- Slots written and copied.
-use mathlib.Core.Bool.{Bool, true, false}
-use mathlib.Core.Path.{◌≡◌, refl, sym, ap, ◌∙◌}
+use mathlib.Core.Path.{◌≡◌, refl, ◌∙◌}
 use mathlib.Core.List.{List}
 use Prim.Native.Nat.{ℕ, ◌+◌, ◌-◌, ◌≤◌, ◌<◌}
-use native.Mathlib.Nat.{add-zero}
 use native.Mathlib.Omega.{arith}
 use lib.ListN.{length, get_or, set}
 use lib.Seq.{get_or-set_same, get_or-set_other}
-use Rattle.slots.specs.View.{Slots, slots, slot_item, cells}
+use Rattle.slots.specs.View.{slots, slot_item, cells}
 use Rattle.slots.specs.Parts.{Placed, apart}
 use Rattle.slots.proofs.Codes.{either}
 use Rattle.stack.specs.View.{slots_of}

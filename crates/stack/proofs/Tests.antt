@@ -1,6 +1,6 @@
 -- What the tests for items and for room leave: an operation is refused as its definition says, or goes on.
 use mathlib.Core.Bool.{Bool, true, false}
-use mathlib.Core.Path.{◌≡◌, refl, sym, ap, ◌∙◌}
+use mathlib.Core.Path.{◌≡◌, refl, sym, ◌∙◌}
 use Prim.Native.Nat.{ℕ, ◌+◌, ◌≤◌, ◌<◌}
 use native.Mathlib.Omega.{arith}
 use borrow.Author.Tests.{ltb-true, ltb-false}
@@ -15,7 +15,7 @@ use Rattle.definition.specs.Walk.{Item, marking}
 use Rattle.refusals.specs.View.{refusal_of}
 use Rattle.refusals.specs.declared.Refusal.{Refusal}
 use Rattle.refusals.specs.declared.Refusal.TheVariants.{MainDry, StacksFull}
-use Rattle.stack.specs.View.{outcome, view, Yields, YieldsStep}
+use Rattle.stack.specs.View.{view, Yields, YieldsStep}
 use Rattle.stack.specs.Parts.{needed, roomy}
 use Rattle.stack.specs.declared.Stacks.{Stacks}
 

@@ -1,6 +1,6 @@
 -- Slots turned by `rotate_left` on a part of each array.
 use mathlib.Core.Bool.{Bool, true, false}
-use mathlib.Core.Path.{◌≡◌, refl, sym, ap, ◌∙◌}
+use mathlib.Core.Path.{◌≡◌, refl, ap, ◌∙◌}
 use mathlib.Core.List.{List, ◌++◌}
 use Prim.Native.Nat.{ℕ, ◌+◌, ◌-◌, ◌≤◌, ◌<◌}
 use native.Mathlib.Omega.{arith}
@@ -10,7 +10,7 @@ use lib.Dec.{ltb}
 use lib.ListN.{length, get_or, take, drop}
 use Rattle.std.proofs.lemmas.Grind.{common_steps}
 use Rattle.std.proofs.lemmas.List.{get_or-append_right, get_or_append_left, get_or-drop, get_or-take, length-take-le}
-use Rattle.slots.specs.View.{Slots, slots, cells, Sound, Canon}
+use Rattle.slots.specs.View.{slots, Sound, Canon}
 use Rattle.slots.specs.Parts.{Placed, turn}
 use Rattle.slots.proofs.Laws.{turn_low, turn-high}
 

@@ -1,8 +1,6 @@
 -- Pushes of values, by their codes and with their bytes.
-use mathlib.Core.Bool.{true, false}
-use mathlib.Core.Path.{◌≡◌, sym, ap, ◌∙◌}
-use Prim.Native.Nat.{ℕ, ◌≤◌}
-use native.Mathlib.Omega.{arith}
+use mathlib.Core.Path.{◌≡◌}
+use Prim.Native.Nat.{ℕ}
 use Rattle.definition.specs.Stacks as S
 use Rattle.definition.specs.Stacks.{push_item}
 use Rattle.definition.specs.Walk.{Item}

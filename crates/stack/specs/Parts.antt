@@ -10,7 +10,7 @@ use Rattle.refusals.specs.declared.Refusal.{Refusal}
 use Rattle.refusals.specs.declared.Refusal.TheVariants.{MainDry, StacksFull}
 use Rattle.slots.specs.View.{Slots, slot_item}
 use Rattle.slots.specs.Parts.{Placed, Joined}
-use Rattle.stack.specs.View.{slots_of, stacks_in, view}
+use Rattle.stack.specs.View.{slots_of, stacks_in}
 use Rattle.stack.specs.declared.Stacks.{Stacks}
 
 -- whether main has n items

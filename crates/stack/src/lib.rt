@@ -8,7 +8,7 @@ ghost use Rattle.slots.specs.View.{slots, Sound};
 use decode::Value;
 use number_form::{number_value, read_index};
 use refusals::Refusal;
-use slots::{UNKNOWN, code_length, code_of, join_bytes, join_codes, slot_value, suffices};
+use slots::{UNKNOWN, code_length, code_of, join_bytes, join_codes, slot_value};
 
 /// How many items the two stacks may hold together, as a caller lends it.
 #[derive(Clone, Copy, Debug, PartialEq, Eq)]
@@ -36,8 +36,9 @@ impl Limit {
 }
 
 /// Both stacks lie in the same 244 slots: main from the bottom, alt from the top end. A slot has a code and bytes, as the
-/// crate slots has them: a code is one byte, so that codes and bytes in two arrays take little more than half the memory
-/// of one array of pairs.
+/// crate slots has them.
+// Codes and bytes stand in two arrays: in one array of values the stacks take nearly twice the memory, and a join ten times
+// the instructions.
 #[derive(Clone, Copy)]
 pub struct Stacks {
     pub bytes: [u64; 244],
@@ -200,7 +201,12 @@ impl Stacks {
     }
 
     /// Appends the lowest count of the top depth items.
-    pub fn try_extend_from_within(&mut self, depth: u64, count: u32, limit: Limit) -> Result<(), Refusal>
+    pub fn try_extend_from_within(
+        &mut self,
+        depth: u64,
+        count: u32,
+        limit: Limit,
+    ) -> Result<(), Refusal>
         requires { (count ≤ depth) × (count ≤ 244) }
         ensures { Yields result self.new (copy_items limit.items depth count (view self.old)) }
     {
@@ -228,7 +234,7 @@ impl Stacks {
         ensures { Yields result self.new (tuck_top limit.items (view self.old)) }
     {
         self.needs(1)?;
-        self.needs(2)?;
+        self.needs(2)?; // missing items are told before room
         self.room(1, limit)?;
         let top = self.mains as usize;
         self.copy_slot(top - 1, top);
@@ -302,7 +308,7 @@ impl Stacks {
     fn top_count(&self) -> Result<u64, Refusal>
         ensures { Pops self.now result }
     {
-        self.needs(1)?;
+        self.needs(1)?; // a missing item is told before any index
         let top = self.mains as usize - 1;
         Ok(read_index(slot_value(self.codes[top], self.bytes[top]))?)
     }
@@ -376,9 +382,9 @@ impl Stacks {
             0x2a if self.mains < 3 => Err(Refusal::MainDry { needed: 1, had: 0 }),
             0x2a => {
                 self.mains -= 3;
-                let n = self.top_count()?;
+                let count = self.top_count()?;
                 self.mains -= 1;
-                self.zk_drop(n, limit)
+                self.zk_drop(count, limit)
             }
             _ => Err(Refusal::BadTag),
         }

@@ -9,23 +9,22 @@
 use decode::Value;
 use stack::{Limit, Stacks};
 
-// The operations one after another; a refused one leaves stacks that fit, and the next goes on from there.
+// The operations one after another, in place; after a refused one the next goes on from what it left.
 fn run(letters: &[u8], start: Stacks) -> Stacks {
     let mut s = start;
     for letter in letters {
-        let t = match *letter {
-            b'p' => s.push(Value::Exact { len: 1, bytes: 1 }, Limit::BUILT_IN),
-            b'd' => s.drop_items(1),
-            b'c' => s.extend_from_within(1, 1, Limit::BUILT_IN),
-            b'r' => s.rotate_left(3, 1),
-            b't' => s.move_to_alt(),
-            b'f' => s.move_from_alt(),
-            b'e' => s.apply_effect(2, 1, Limit::BUILT_IN),
-            b'u' => s.apply_effect(0, 1, Limit::BUILT_IN),
-            b'j' => s.join(start),
+        let _ = match *letter {
+            b'p' => s.try_push(Value::Exact { len: 1, bytes: 1 }, Limit::BUILT_IN),
+            b'd' => s.try_drop_items(1),
+            b'c' => s.try_extend_from_within(1, 1, Limit::BUILT_IN),
+            b'r' => s.try_rotate_left(3, 1),
+            b't' => s.try_move_to_alt(),
+            b'f' => s.try_move_from_alt(),
+            b'e' => s.try_apply_effect(2, 1, Limit::BUILT_IN),
+            b'u' => s.try_apply_effect(0, 1, Limit::BUILT_IN),
+            b'j' => s.try_join(&start),
             _ => continue,
         };
-        s = t.stacks;
     }
     s
 }

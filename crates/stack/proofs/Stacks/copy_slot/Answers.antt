@@ -1,4 +1,4 @@
-use mathlib.Core.Path.{◌≡◌, refl, sym, ◌∙◌}
+use mathlib.Core.Path.{refl}
 use native.Mathlib.Omega.{arith}
 use Rattle.stack.proofs.Moves.{copied-one}
 use Rattle.stack.proofs.Stacks.copy_slot.Goals as goal

@@ -1,4 +1,4 @@
-use mathlib.Core.Path.{◌≡◌, refl, sym, ◌∙◌}
+use mathlib.Core.Path.{◌∙◌}
 use Rattle.stack.proofs.Indices.{size-value}
 use Rattle.stack.proofs.Stacks.size_value.Goals as goal
 

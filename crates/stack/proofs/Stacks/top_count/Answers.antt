@@ -1,5 +1,3 @@
-use mathlib.Core.Path.{◌≡◌, refl, sym, ◌∙◌}
-use native.Mathlib.Omega.{arith}
 use borrow.Author.Rules.{rules}
 use Rattle.stack.proofs.Tests.{has, which-dry}
 use Rattle.stack.proofs.Pops.{pops-short, pops-at, pops-none}

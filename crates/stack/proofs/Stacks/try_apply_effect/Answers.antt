@@ -1,4 +1,4 @@
-use mathlib.Core.Path.{◌≡◌, refl, sym, ◌∙◌}
+use mathlib.Core.Path.{sym}
 use borrow.Author.Rules.{rules}
 use Rattle.stack.proofs.Tests.{yields, done-of, refused}
 use Rattle.stack.proofs.Mains.{effect-short, effect-none, effect-one}

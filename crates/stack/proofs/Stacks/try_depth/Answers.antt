@@ -1,4 +1,3 @@
-use mathlib.Core.Path.{◌≡◌, refl, sym, ◌∙◌}
 use Rattle.stack.proofs.Tests.{yields_step}
 use Rattle.stack.proofs.Indices.{number-held, depth-is}
 use Rattle.stack.proofs.Stacks.try_depth.Goals as goal

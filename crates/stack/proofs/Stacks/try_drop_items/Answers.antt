@@ -1,4 +1,4 @@
-use mathlib.Core.Path.{◌≡◌, refl, sym, ◌∙◌}
+use mathlib.Core.Path.{sym}
 use borrow.Author.Rules.{rules}
 use Rattle.stack.proofs.Tests.{dry, has}
 use Rattle.stack.proofs.Mains.{drop-short, drop-is}

@@ -1,6 +1,3 @@
-use mathlib.Core.Path.{◌≡◌, refl, sym, ◌∙◌}
-use Prim.Native.Nat.{ℕ, ◌+◌, ◌-◌}
-use native.Mathlib.Omega.{arith}
 use borrow.Author.Rules.{rules}
 use Rattle.stack.proofs.Tests.{dry, has, full, fits}
 use Rattle.stack.proofs.Mains.{copy-short, copy-full, copy-done}

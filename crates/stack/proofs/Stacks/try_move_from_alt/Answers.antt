@@ -1,5 +1,4 @@
-use mathlib.Core.Path.{◌≡◌, refl, sym, ◌∙◌}
-use native.Mathlib.Omega.{arith}
+use mathlib.Core.Path.{sym}
 use Rattle.stack.proofs.Alts.{from-alt-short, from-alt-done}
 use Rattle.stack.proofs.Stacks.try_move_from_alt.Goals as goal
 

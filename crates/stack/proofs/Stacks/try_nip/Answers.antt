@@ -1,5 +1,3 @@
-use mathlib.Core.Path.{◌≡◌, refl, sym, ◌∙◌}
-use native.Mathlib.Omega.{arith}
 use borrow.Author.Rules.{rules}
 use Rattle.stack.proofs.Tests.{dry, has}
 use Rattle.stack.proofs.Mains.{nip-short, nip-done}

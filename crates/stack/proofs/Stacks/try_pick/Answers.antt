@@ -1,7 +1,5 @@
-use mathlib.Core.Path.{◌≡◌, refl, sym, ◌∙◌}
 use borrow.Author.Rules.{rules}
 use Rattle.stack.proofs.Tests.{yields_step, refuses_step}
-use Rattle.stack.proofs.Pops.{next_fits, had-one}
 use Rattle.stack.proofs.Indices.{pick-at, pick-refused}
 use Rattle.stack.specs.View.{slots_of}
 use Rattle.stack.proofs.Stacks.try_pick.Goals as goal

@@ -1,4 +1,3 @@
-use mathlib.Core.Path.{◌≡◌, refl, sym, ◌∙◌}
 use Rattle.stack.proofs.Tests.{yields}
 use Rattle.stack.proofs.Values.{exact-slot, push-exact}
 use Rattle.stack.proofs.Stacks.try_push.Goals as goal

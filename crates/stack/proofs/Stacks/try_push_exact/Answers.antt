@@ -1,4 +1,3 @@
-use native.Mathlib.Omega.{arith}
 use Rattle.slots.proofs.Codes.{exact-canon}
 use Rattle.stack.proofs.Stacks.try_push_exact.Goals as goal
 

@@ -1,7 +1,6 @@
-use mathlib.Core.Path.{◌≡◌, refl, sym, ◌∙◌}
 use borrow.Author.Rules.{rules}
 use Rattle.stack.proofs.Tests.{yields, refuses}
-use Rattle.stack.proofs.Pops.{next_fits, had-one, on-at, on-refused}
+use Rattle.stack.proofs.Pops.{on-at, on-refused}
 use Rattle.stack.specs.View.{slots_of}
 use Rattle.stack.proofs.Stacks.try_roll.Goals as goal
 

@@ -1,5 +1,3 @@
-use mathlib.Core.Path.{◌≡◌, refl, sym, ◌∙◌}
-use native.Mathlib.Omega.{arith}
 use borrow.Author.Rules.{rules}
 use Rattle.stack.proofs.Tests.{dry, has, full, fits}
 use Rattle.stack.proofs.Mains.{tuck-short, tuck-one, tuck-full, tuck-done}

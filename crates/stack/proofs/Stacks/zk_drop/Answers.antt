@@ -1,4 +1,3 @@
-use borrow.Author.Rules.{rules}
 use Rattle.stack.proofs.Tests.{yields, done-of}
 use Rattle.stack.proofs.Indices.{zk-drop-done}
 use Rattle.stack.proofs.Stacks.zk_drop.Goals as goal
