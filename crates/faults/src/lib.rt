@@ -2,102 +2,82 @@
 
 #![tactic(auto)]
 
-ghost use Rattle.std.proofs.Math.Option.{none, some};
-ghost use Rattle.std.specs.Prelude.{◌≡◌, ◌++◌, ℕ, ◌+◌, ◌*◌, ◌≤◌, ◌<◌, ltb, length};
-ghost use Rattle.definition.specs.Basics.{pick};
-ghost use Rattle.definition.specs.Papers.{part_at};
-ghost use Rattle.good_header.specs.View.{parts_at};
+ghost use Rattle.std.proofs.Math.Option.{some};
+ghost use Rattle.std.specs.Prelude.{◌≡◌, ◌++◌, ℕ, ◌+◌, ◌-◌, ◌^◌, ◌≤◌, length};
+ghost use Rattle.good_header.specs.View.{parts_from};
+ghost use Rattle.header.specs.View.{part_of};
 ghost use Rattle.arrayvec.specs.ArrayVec.{array_vec_len};
 ghost use Rattle.faults.specs.Faults.{short_paper, bad_count, cut_header, in_header, past_paper, sharing, shared_with};
 ghost use Rattle.faults.specs.Faults.{part_fault, fault, part_name, fault_words};
-ghost use Rattle.faults.specs.View.{fault_of};
+ghost use Rattle.faults.specs.View.{fault_of, found_of, shared_of};
 
+use header::{Part, nth_part};
 use text::{Line, push_labelled, push_word};
 
-// A fault; parts are counted from 0, the initialiser and then the bodies.
-#[derive(Clone, Copy)]
+/// A fault; parts are counted from 0, the initialiser and then the bodies.
+#[derive(Clone, Copy, Debug, PartialEq, Eq)]
 pub enum Fault {
-    Nothing,
     Short { bytes: usize },
-    Count { entries: u32 },
-    Cut { entries: u32, bytes: usize },
+    Count { entries: u16 },
+    Cut { entries: u16, bytes: usize },
     Inside { part: usize },
     Past { part: usize },
     Shared { part: usize, other: usize },
 }
 
-// The first of `count` parts that shares a byte with the part at `at`: how many come before it, and `count` where there is
-// none. Offset and length of the first of them stand at `from`.
-fn first_shared(paper: &[u8], at: usize, from: usize, count: usize) -> usize
-    requires { (at ≤ 1000) × (from + 6 * count ≤ 1000) }
-    ensures same { (k j : ℕ)
-        → shared_with (part_at paper.now at) k j (parts_at paper.now from count)
-        ≡ pick (ltb result count) (some (sharing k (j + result))) none }
-    ensures near { result ≤ count }
+// The first of the paper's parts, from part `from` up to part `count`, that shares a byte with this one.
+#[tactic(auto, using(crate::proofs::Parts::part_rules))]
+fn first_shared(paper: &[u8], part: Part, from: usize, count: usize) -> Option<usize>
+    requires { count ≤ 2 ^ 16 }
+    ensures { (k : ℕ) → shared_of k result ≡ shared_with (part_of part) k from (parts_from paper.now from (count - from)) }
 {
-    let mut n: usize = 0;
-    while n < count {
-        if good_header::share(paper, at, from + 6 * n) {
-            return n;
+    for k in from..count {
+        if good_header::share(part, nth_part(paper, k)) {
+            return Some(k);
         }
-        n += 1;
     }
-    count
+    None
 }
 
-// What is wrong with the parts, of which there are `count`: with each by itself, and then with those after it.
-fn fault_in(paper: &[u8], header: usize, count: usize) -> Fault
-    requires { count ≤ 33 }
-    ensures { fault_of result ≡ part_fault header (length paper.now) 0 (parts_at paper.now 4 count) }
+// What is wrong with the first `count` parts: with each by itself, and then with those after it.
+#[tactic(auto, using(crate::proofs::Parts::part_rules))]
+fn fault_in(paper: &[u8], header: usize, count: usize) -> Option<Fault>
+    requires { count ≤ 2 ^ 16 }
+    ensures { found_of result ≡ part_fault header (length paper.now) 0 (parts_from paper.now 0 count) }
 {
-    let mut k: usize = 0;
-    while k < count {
-        let at = 4 + 6 * k;
-        let offset = header::field(paper, at) as usize;
-        let size = header::field(paper, at + 2) as usize;
-        if offset < header {
-            return Fault::Inside { part: k };
+    for k in 0..count {
+        let part = nth_part(paper, k);
+        if part.start() < header {
+            return Some(Fault::Inside { part: k });
         }
-        if paper.len() < offset + size {
-            return Fault::Past { part: k };
+        if paper.len() < part.end() {
+            return Some(Fault::Past { part: k });
         }
-        let left = count - k - 1;
-        let n = first_shared(paper, at, at + 6, left);
-        if n < left {
-            return Fault::Shared {
-                part: k,
-                other: k + 1 + n,
-            };
+        if let Some(other) = first_shared(paper, part, k + 1, count) {
+            return Some(Fault::Shared { part: k, other });
         }
-        k += 1;
     }
-    Fault::Nothing
+    None
 }
 
-// What is wrong with a header, if anything is.
-pub fn find(paper: &[u8]) -> Fault
-    ensures { fault_of result ≡ fault paper.now }
+/// What is wrong with a header, if anything is.
+#[tactic(auto, using(crate::proofs::Parts::header_rules))]
+pub fn find(paper: &[u8]) -> Option<Fault>
+    ensures { found_of result ≡ fault paper.now }
 {
-    let size = paper.len();
-    if size < 8 {
-        return Fault::Short { bytes: size };
-    }
+    let bytes = paper.len();
     let entries = header::field(paper, 0);
-    if entries == 0 {
-        return Fault::Count { entries };
-    }
-    if entries > 32 {
-        return Fault::Count { entries };
-    }
-    let count = entries as usize;
+    let count = usize::from(entries);
     let header = 8 + 6 * count;
-    if size < header {
-        return Fault::Cut {
-            entries,
-            bytes: size,
-        };
+    if bytes < 8 {
+        Some(Fault::Short { bytes })
+    } else if !(1..=32).contains(&count) {
+        Some(Fault::Count { entries })
+    } else if bytes < header {
+        Some(Fault::Cut { entries, bytes })
+    } else {
+        fault_in(paper, header, count + 1)
     }
-    fault_in(paper, header, count + 1)
 }
 
 // Appends the name of a part.
@@ -114,15 +94,14 @@ fn push_part<const N: usize>(line: &mut Line<N>, part: usize)
     }
 }
 
-// Appends the words of a fault behind `: `, nothing where there is none.
+// Appends the words of a fault behind `: `.
 #[tactic(auto, unfolding(crate::specs::Faults::fault_words))]
 fn push_words<const N: usize>(line: &mut Line<N>, f: Fault)
     requires { array_vec_len line.old + 110 ≤ N }
-    ensures items { line.new.items ≡ line.old.items ++ fault_words (fault_of f) }
+    ensures items { line.new.items ≡ line.old.items ++ fault_words (some (fault_of f)) }
     ensures short { array_vec_len line.new ≤ array_vec_len line.old + 110 }
 {
     match f {
-        Fault::Nothing => {}
         Fault::Short { bytes } => {
             push_labelled(line, b": ", bytes as u64);
             push_word(line, b" bytes, fewer than 8");
@@ -161,6 +140,7 @@ pub fn push_fault<const N: usize>(line: &mut Line<N>, paper: &[u8])
     ensures items { line.new.items ≡ line.old.items ++ fault_words (fault paper.now) }
     ensures short { array_vec_len line.new ≤ array_vec_len line.old + 110 }
 {
-    let f = find(paper);
-    push_words(line, f);
+    if let Some(fault) = find(paper) {
+        push_words(line, fault);
+    }
 }

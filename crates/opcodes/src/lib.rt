@@ -109,6 +109,7 @@ impl From<Class> for u8 {
 }
 
 /// The class of an opcode, by its range.
+#[tactic(auto, unfolding(definition::specs::Classes::class_number))]
 pub fn class_of(opcode: u8) -> Class
     ensures { number_of result ≡ class_number opcode }
 {

@@ -14,35 +14,15 @@ use Rattle.lines.specs.View.{lines_in}
 use Rattle.lines.specs.declared.Lines.{Lines}
 use Rattle.places.specs.View.{written}
 
--- these numbers stored one after another, the first of them in place k
-abbrev pub stored : ℕ → List ℕ → List ℕ → List ℕ
-stored k [] out = out
-stored k (n ∷ ns) out = stored (suc k) ns (set out k n)
-
--- the first place stays
-behind : (k : ℕ) (ns out : List ℕ) (x : ℕ) → stored (suc k) ns (x ∷ out) ≡ (x ∷ stored k ns out)
-behind k [] out x = refl
-behind k (n ∷ ns) out x = behind (suc k) ns (set out k n) x
-
-all-stored : (ns out : List ℕ) → length ns ≤ length out → stored 0 ns out ≡ (ns ++ drop (length ns) out)
-all-stored [] out h = refl
-all-stored (n ∷ ns) [] h = absurd (omega arith)
-all-stored (n ∷ ns) (x ∷ out) h = behind 0 ns out n ∙ ap (λ (l : List ℕ). n ∷ l) (all-stored ns out (omega arith))
-
-pub too_few : (ns out : List ℕ) → length out < length ns → out ≡ written ns out
+-- all as lent where there are fewer
+pub too_few : {A : Type 0} (values out : List A) → length out < length values → out ≡ written values out
 unfolding written
-too_few ns out h = rw (lt-ltb (length out) (length ns) h)
+too_few values out h = rw (lt-ltb (length out) (length values) h)
 
-pub all-written : (ns out : List ℕ) → length ns ≤ length out → stored 0 ns out ≡ written ns out
+-- the values and the rest where there is room
+pub all-written : {A : Type 0} (values out : List A) → length values ≤ length out → (values ++ drop (length values) out) ≡ written values out
 unfolding written
-all-written ns out h = rw (le-ltb (length out) (length ns) h) (all-stored ns out h)
-
--- a text written into lent bytes
-pub text-written : (t out new : Bytes) (next : ℕ) → length t ≤ length out → Written out 0 t new next → new ≡ written t out
-unfolding written
-text-written t out new next h w =
-    let e : 0 + length t ≡ length t = omega arith in
-    rw (le-ltb (length out) (length t) h) (w.holds ∙ ap (λ k. t ++ drop k out) e)
+all-written values out h = rw (le-ltb (length out) (length values) h)
 
 -- a text written where there is room for it, by the other test
 pub where-room : (t out new : Bytes) → new ≡ pick (leb (length t) (length out)) (t ++ drop (length t) out) out → new ≡ written t out

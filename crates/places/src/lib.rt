@@ -21,25 +21,14 @@ use stack_analysis::{Summary, Verdict};
 use sums::SittingSums;
 use tally::Tally;
 
-fn flag(b: bool) -> u64
-    ensures { result ≡ flag b }
+/// Values into the first of the lent places, where there are that many: the rest stays as lent, and all of it where there are
+/// fewer.
+pub fn write_values<T: Copy>(values: &[T], lent: &mut [T])
+    ensures { lent.new ≡ written values.now lent.old }
 {
-    if b {
-        return 1;
+    if values.len() <= lent.len() {
+        lent[..values.len()].copy_from_slice(values);
     }
-    0
-}
-
-fn wide(x: u8) -> u64
-    ensures { result ≡ x }
-{
-    x as u64
-}
-
-fn wide_count(x: u32) -> u64
-    ensures { result ≡ x }
-{
-    x as u64
 }
 
 // The verdict's numbers into the lent places, where there are nine of them: number, offset, two figures, rows, peak,
@@ -47,18 +36,18 @@ fn wide_count(x: u32) -> u64
 pub fn write(v: Summary, out: &mut [u64])
     ensures { out.new ≡ written (summary_numbers v) out.old }
 {
-    if out.len() < 9 {
-        return;
-    }
-    out[0] = v.number as u64;
-    out[1] = v.offset as u64;
-    out[2] = v.first;
-    out[3] = v.second;
-    out[4] = v.rows as u64;
-    out[5] = v.peak as u64;
-    out[6] = flag(v.ended);
-    out[7] = v.main as u64;
-    out[8] = v.alt as u64;
+    let numbers = [
+        u64::from(v.number),
+        v.offset as u64,
+        v.first,
+        v.second,
+        v.rows as u64,
+        u64::from(v.peak),
+        u64::from(v.ended),
+        u64::from(v.main),
+        u64::from(v.alt),
+    ];
+    write_values(&numbers, out);
 }
 
 // The items of end stacks into the lent places, where there are three of them to an item: its length, its bytes as one
@@ -71,14 +60,10 @@ pub fn write_items(e: EndStacks, items: &mut [u64])
     if items.len() < 3 * count {
         return;
     }
-    let lens = e.lens;
-    let bytes = e.bytes;
-    let mut k: usize = 0;
-    while k < count {
-        items[3 * k] = wide(lens[k]);
-        items[3 * k + 1] = bytes[k];
+    for k in 0..count {
+        items[3 * k] = u64::from(e.lens[k]);
+        items[3 * k + 1] = e.bytes[k];
         items[3 * k + 2] = 0;
-        k += 1;
     }
 }
 
@@ -110,13 +95,10 @@ pub fn write_verdict(v: Verdict, items: &mut [u64], out: &mut [u64]) -> u32
 pub fn write_answer(a: Answer, out: &mut [u64])
     ensures { out.new ≡ written (answer_numbers (answer_of a)) out.old }
 {
-    if out.len() < 4 {
-        return;
-    }
-    out[0] = a.number as u64;
-    out[1] = a.offset as u64;
-    out[2] = a.first;
-    out[3] = a.second;
+    write_values(
+        &[u64::from(a.number), a.offset as u64, a.first, a.second],
+        out,
+    );
 }
 
 // The numbers of a verdict on a paper into the lent places, where there are seven of them: number, entry, offset, two
@@ -124,56 +106,30 @@ pub fn write_answer(a: Answer, out: &mut [u64])
 pub fn write_paper(v: PaperVerdict, out: &mut [u64])
     ensures { out.new ≡ written (paper_numbers (paper_of v)) out.old }
 {
-    if out.len() < 7 {
-        return;
-    }
-    out[0] = v.number as u64;
-    out[1] = v.entry as u64;
-    out[2] = v.offset as u64;
-    out[3] = v.first;
-    out[4] = v.second;
-    out[5] = v.rows as u64;
-    out[6] = v.peak as u64;
+    let numbers = [
+        u64::from(v.number),
+        v.entry as u64,
+        v.offset as u64,
+        v.first,
+        v.second,
+        v.rows as u64,
+        u64::from(v.peak),
+    ];
+    write_values(&numbers, out);
 }
 
 // A part's start and length into the lent places, where there are two of them.
 pub fn write_part(start: usize, size: usize, out: &mut [u64])
     ensures { out.new ≡ written (start ∷ size ∷ []) out.old }
 {
-    if out.len() < 2 {
-        return;
-    }
-    out[0] = start as u64;
-    out[1] = size as u64;
-}
-
-fn smaller(a: usize, b: usize) -> usize
-    ensures { result ≡ min a b }
-{
-    if a < b {
-        return a;
-    }
-    b
-}
-
-// A text into the lent bytes, where they have room for it.
-pub fn write_text(from: &[u8], text: &mut [u8])
-    ensures { text.new ≡ written from.now text.old }
-{
-    if text.len() < from.len() {
-        return;
-    }
-    text::write_word(text, 0, from);
+    write_values(&[start as u64, size as u64], out);
 }
 
 // A text's size into the lent places, where there is one.
 pub fn write_size(size: usize, out: &mut [u64])
     ensures { out.new ≡ written (size ∷ []) out.old }
 {
-    if out.len() < 1 {
-        return;
-    }
-    out[0] = size as u64;
+    write_values(&[size as u64], out);
 }
 
 // The lines of a paper: the text into `text`, its size into `out`, and the verdict's number.
@@ -183,10 +139,8 @@ pub fn write_lines(l: Lines, text: &mut [u8], out: &mut [u64]) -> u32
     ensures text { text.new ≡ written (take l.size l.bytes) text.old }
     ensures out { out.new ≡ written (l.size ∷ []) out.old }
 {
-    let bytes = l.bytes;
-    let size = l.size;
-    write_text(&bytes[..size], text);
-    write_size(size, out);
+    write_values(&l.bytes[..l.size], text);
+    write_size(l.size, out);
     l.number
 }
 
@@ -199,14 +153,11 @@ pub fn write_sums(r: SittingSums, out: &mut [u64])
     if out.len() < 3 + sums::NUMBERS {
         return;
     }
-    out[0] = r.number as u64;
+    out[0] = u64::from(r.number);
     out[1] = r.sum;
-    out[2] = r.count as u64;
-    let counts = r.counts;
-    let mut k: usize = 0;
-    while k < sums::NUMBERS {
-        out[3 + k] = wide_count(counts[k]);
-        k += 1;
+    out[2] = u64::from(r.count);
+    for k in 0..sums::NUMBERS {
+        out[3 + k] = u64::from(r.counts[k]);
     }
 }
 
@@ -215,12 +166,7 @@ pub fn write_sums(r: SittingSums, out: &mut [u64])
 pub fn write_converted(c: Converted, out: &mut [u64])
     ensures { out.new ≡ written (c.number ∷ c.offset ∷ c.size ∷ []) out.old }
 {
-    if out.len() < 3 {
-        return;
-    }
-    out[0] = c.number as u64;
-    out[1] = c.offset as u64;
-    out[2] = c.size as u64;
+    write_values(&[u64::from(c.number), c.offset as u64, c.size as u64], out);
 }
 
 // The tally of four counters: fragments, accepted, rows, greatest peak.
@@ -239,11 +185,9 @@ pub fn tally_from(counters: &[u32; 4]) -> Tally
 pub fn display_start(body: &[u8], init: &[u8], offset: usize, mark: u32) -> usize
     ensures { result ≡ display_start body.now init.now offset mark }
 {
-    if mark == 0 {
-        return smaller(offset, body.len());
+    match mark {
+        0 => offset.min(body.len()),
+        1 => offset.min(init.len()),
+        _ => 0,
     }
-    if mark == 1 {
-        return smaller(offset, init.len());
-    }
-    0
 }

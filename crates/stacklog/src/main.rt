@@ -37,12 +37,10 @@ fn room() -> [u8; 700000]
 // A read or a write that fails is said on standard error, and is no verdict.
 fn main(rt: HostRuntime) {
     let mut paper = [0u8; 8001];
-    let i = input::read_input(&mut rt.stdin(), &mut paper);
-    if i.failed {
+    let Ok(n) = input::read_input(&mut rt.stdin(), &mut paper) else {
         let _ = rt.eprintln("stacklog: cannot read standard input");
         return;
-    }
-    let n = i.size;
+    };
     let mut text = room();
     let size = logged(&paper[..n], &mut text);
     if size > 700000 {

@@ -25,12 +25,10 @@ fn marked(input: &[u8]) -> Lines
 // A read or a write that fails is said on standard error, and is no verdict.
 fn main(rt: HostRuntime) {
     let mut paper = [0u8; 8001];
-    let i = input::read_input(&mut rt.stdin(), &mut paper);
-    if i.failed {
+    let Ok(n) = input::read_input(&mut rt.stdin(), &mut paper) else {
         let _ = rt.eprintln("stackmark: cannot read standard input");
         return;
-    }
-    let n = i.size;
+    };
     let l = marked(&paper[..n]);
     let bytes = l.bytes;
     let size = l.size;

@@ -10,20 +10,8 @@ returns-then-items-count c = search (too-few-items)
 pub loop-k-init : goal.loop-k-init
 loop-k-init c = (listing_none _ _ _, omega arith)
 
-pub bounds-items-k : goal.bounds-items-k
-bounds-items-k c = omega arith
-
-pub bounds-items-k-in-loop-k : goal.bounds-items-k-in-loop-k
-bounds-items-k-in-loop-k c = simp length-set (omega arith)
-
-pub bounds-items-k-in-loop-k-2 : goal.bounds-items-k-in-loop-k-2
-bounds-items-k-in-loop-k-2 c = simp length-set (omega arith)
-
 pub loop-k-preserved : goal.loop-k-preserved
-loop-k-preserved c = (rw c.wide.ensures (listing-more _ _ _ c.loop-k.invariant.0 (omega arith)), omega arith)
-
-pub shape_of-items : goal.shape_of-items
-shape_of-items c = c.loop-k.invariant.0.kept
+loop-k-preserved c = (rw c.from.ensures (listing-more _ _ _ c.loop-k.invariant.0 (omega arith)), omega arith)
 
 pub returns : goal.returns
 returns c = let a = c.args in

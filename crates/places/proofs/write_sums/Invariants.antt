@@ -4,7 +4,7 @@ use Rattle.places.proofs.Sittings.{Counts}
 use Rattle.places.proofs.write_sums.Given as goal
 
 abbrev pub invariant-loop-k : goal.invariant-loop-k
-invariant-loop-k l = (Counts l.initial.out l.counts l.k l.out) × (l.k ≤ length l.counts)
+invariant-loop-k l = (Counts l.initial.out l.r.counts l.k l.out) × (l.k ≤ length l.r.counts)
 
 abbrev pub decreases-loop-k : goal.decreases-loop-k
-decreases-loop-k l = length l.counts - l.k
+decreases-loop-k l = length l.r.counts - l.k

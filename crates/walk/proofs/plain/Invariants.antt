@@ -1,11 +1,12 @@
-use Prim.Native.Nat.{◌-◌}
-use lib.ListN.{length}
-use Rattle.definition_rules.specs.Maps.{rules_by}
-use Rattle.walk.proofs.Loop.{walk_of, Walking}
+use Rattle.std.proofs.Common.{◌-◌, length, Some}
+use Rattle.walk.specs.Runs.{rules_in, stand, running}
+use Rattle.walk.proofs.Loop.{Walking}
 use Rattle.walk.proofs.plain.Given as goal
 
-abbrev pub invariant-loop-r : goal.invariant-loop-r
-invariant-loop-r l = Walking (rules_by l.classes (record { limit = l.limit; examined = l.examined })) l.code l.initial.log (walk_of l.initial.t l.initial.at l.initial.last l.initial.rows l.initial.peak) l.log (walk_of l.t l.at l.last l.rows l.peak)
+abbrev pub invariant-loop-instruction : goal.invariant-loop-instruction
+invariant-loop-instruction l =
+    Walking (rules_in l.rules) l.code l.initial.log (stand l.initial.w running) l.log
+    (record { stacks = Some l.stacks; at = l.w.at; last = l.w.last; rows = l.w.rows; peak = l.w.peak; halt = running })
 
-abbrev pub decreases-loop-r : goal.decreases-loop-r
-decreases-loop-r l = length l.code - l.at
+abbrev pub decreases-loop-instruction : goal.decreases-loop-instruction
+decreases-loop-instruction l = length l.code - l.w.at
