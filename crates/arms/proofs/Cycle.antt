@@ -1,5 +1,5 @@
 -- The arm walker and the conditional walker call each other.
-use Rattle.std.proofs.Common.{List, ◌∷◌, ◌≡◌, refl, ◌∙◌, ℕ, ◌+◌, ◌*◌, ◌-◌, ◌≤◌, ◌<◌, arith, length, Option, Result, Ok, Err}
+use Rattle.std.proofs.Common.{List, ◌∷◌, ◌≡◌, refl, ◌∙◌, ℕ, ◌+◌, ◌*◌, ◌-◌, ◌≤◌, ◌<◌, arith, length, Option, Result, Ok, Err, ap, subst, sym}
 use Rattle.definition.specs.Basics.{Bytes}
 use Rattle.definition.specs.Stacks.{Rules}
 use Rattle.definition.specs.Walk.{not_ended, ended, Frame}
@@ -8,6 +8,7 @@ use Rattle.stack.specs.declared.Stacks.{Stacks}
 use Rattle.walk.specs.Runs.{arm_of, running, met_conditional, ending, going, stopping, Stand, stand, resume, rows_at, Goes, Room, Ready, Runs}
 use Rattle.walk.specs.declared.ArmEnd.{ArmEnd}
 use Rattle.walk.specs.declared.ArmEnd.TheVariants.{Else}
+use Rattle.walk.specs.declared.Place.{Place}
 use Rattle.walk.specs.declared.Stop.{Stop}
 use Rattle.walk.specs.declared.Walk.{Walk}
 use Rattle.walk.proofs.Goings.{stays, goes_on_lem, among}
@@ -15,14 +16,16 @@ use Rattle.arms.specs.Walkers.{Open, frame, SamePlace, Enters, Finishes, Walks, 
 
 -- the second arm starts from where the first did, and stands behind what the first has walked
 abbrev pub second : Option Stacks → Walk → Walk
-second start a = record { stacks = start; at = a.at; last = a.last; rows = a.rows; peak = a.peak }
+second start a = record { stacks = start; place = a.place; peak = a.peak }
 
-rows-there : (s : Bytes) {w v : Walk} → SamePlace w v → rows_at s v.at v.rows ≡ rows_at s w.at w.rows
-rows-there s {w} {v} p = rw (p.at, p.rows)
+pub ready-there : {s : Bytes} {w v : Walk} {log : List ℕ} → Ready s log w → SamePlace w v → Ready s log v
+ready-there {s} {w} {v} {log} r p = subst (λ (x : Place). Room s log x.at x.rows) (sym p.place) r
 
-module _ {s : Bytes} where
-  pub ready-there : {w v : Walk} {log : List ℕ} → Ready s log w → SamePlace w v → Ready s log v
-  ready-there {w} {v} r p = record { high = rw p.at r.high; short = r.short; room = rw (rows-there s p) r.room }
+pub at-there : {w v : Walk} → SamePlace w v → v.place.at ≡ w.place.at
+at-there p = ap (λ (x : Place). x.at) p.place
+
+rows-there : (s : Bytes) {w v : Walk} → SamePlace w v → rows_at s v.place.at v.place.rows ≡ rows_at s w.place.at w.place.rows
+rows-there s p = ap (λ (x : Place). rows_at s x.at x.rows) p.place
 
 module _ {R : Rules} {s : Bytes} where
   -- the next walker may start
@@ -34,9 +37,9 @@ module _ {R : Rules} {s : Bytes} where
     pub not_entered : (x : Refusal) → o ≡ Err x → Closes R s depth w log v (Err x) log
     not_entered x q = record {
       goes = record {
-        low = rw e.place.at (omega arith);
-        high = rw e.place.at r.high;
-        fewer = rw (rows-there s e.place) (omega arith);
+        low = rw (at-there e.stays) (omega arith);
+        high = rw (at-there e.stays) r.high;
+        fewer = rw (rows-there s e.stays) (omega arith);
         same = λ fs h. e.same fs log h ∙ rw q;
       };
     }
@@ -57,9 +60,9 @@ module _ {R : Rules} {s : Bytes} where
         pub first_refused : (x : Refusal) → p ≡ Err x → Closes R s depth w log a (Err x) log₁
         first_refused x q = record {
           goes = record {
-            low = omega (arith, e.place.at, first.goes.low);
+            low = omega (arith, at-there e.stays, first.goes.low);
             high = first.goes.high;
-            fewer = omega (arith, first.goes.fewer, rows-there s e.place);
+            fewer = omega (arith, first.goes.fewer, rows-there s e.stays);
             same = λ fs h. in-first fs h ∙ rw q;
           };
         }
@@ -68,9 +71,9 @@ module _ {R : Rules} {s : Bytes} where
         pub one_arm : (end : ArmEnd) → p ≡ Ok end → (end ≡ Else → ⊥) → {z : Result Unit Refusal} {f : Walk} → Finishes R s a end (arm_of v.stacks) z f → Closes R s depth w log f z log₁
         one_arm end q n {z} {f} h = record {
           goes = record {
-            low = rw h.place.at (omega (arith, e.place.at, first.goes.low));
-            high = rw h.place.at first.goes.high;
-            fewer = rw (rows-there s h.place) (omega (arith, first.goes.fewer, rows-there s e.place));
+            low = rw (at-there h.stays) (omega (arith, at-there e.stays, first.goes.low));
+            high = rw (at-there h.stays) first.goes.high;
+            fewer = rw (rows-there s h.stays) (omega (arith, first.goes.fewer, rows-there s e.stays));
             same = λ fs k. in-first fs k ∙ rw q (h.one n fs log₁);
           };
         }
@@ -82,9 +85,9 @@ module _ {R : Rules} {s : Bytes} where
           pub second_refused : (x : Refusal) → q ≡ Err x → Closes R s depth w log b (Err x) log₂
           second_refused x z = record {
             goes = record {
-              low = omega (arith, e.place.at, first.goes.low, other.goes.low);
+              low = omega (arith, at-there e.stays, first.goes.low, other.goes.low);
               high = other.goes.high;
-              fewer = omega (arith, first.goes.fewer, other.goes.fewer, rows-there s e.place);
+              fewer = omega (arith, first.goes.fewer, other.goes.fewer, rows-there s e.stays);
               same = λ fs h. in-second fs h ∙ rw z;
             };
           }
@@ -92,9 +95,9 @@ module _ {R : Rules} {s : Bytes} where
           pub two-arms : (end : ArmEnd) → q ≡ Ok end → {z : Result Unit Refusal} {f : Walk} → Finishes R s b end (arm_of a.stacks) z f → Closes R s depth w log f z log₂
           two-arms end e₂ {z} {f} h = record {
             goes = record {
-              low = rw h.place.at (omega (arith, e.place.at, first.goes.low, other.goes.low));
-              high = rw h.place.at other.goes.high;
-              fewer = rw (rows-there s h.place) (omega (arith, first.goes.fewer, other.goes.fewer, rows-there s e.place));
+              low = rw (at-there h.stays) (omega (arith, at-there e.stays, first.goes.low, other.goes.low));
+              high = rw (at-there h.stays) other.goes.high;
+              fewer = rw (rows-there s h.stays) (omega (arith, first.goes.fewer, other.goes.fewer, rows-there s e.stays));
               same = λ fs k. in-second fs k ∙ rw e₂ (h.two (arm_of v.stacks) fs log₂);
             };
           }
@@ -129,7 +132,7 @@ module _ {R : Rules} {s : Bytes} {depth : ℕ} {v : Walk} {before : List ℕ} {w
       pub ready-conditional : Ready s mid u
       ready-conditional = ready_on ready-in q.goes f
 
-      pub falls-in : 2 * (length s - u.at) + 1 < 2 * (length s - v.at)
+      pub falls-in : 2 * (length s - u.place.at) + 1 < 2 * (length s - v.place.at)
       falls-in = omega (arith, a.goes.low, q.onward e, q.goes.high)
 
       module _ {o : Result Unit Refusal} {x : Walk} {new : List ℕ} (c : Closes R s depth u mid x o new) where
@@ -142,5 +145,5 @@ module _ {R : Rules} {s : Bytes} {depth : ℕ} {v : Walk} {before : List ℕ} {w
         pub arm-again : o ≡ Ok tt → length new ≡ length mid → Arming R s depth v before x new
         arm-again h g = record { ready = a.ready; len = g ∙ f ∙ a.len; goes = rw h at past }
 
-        pub arm-nearer : length s - x.at < length s - w.at
+        pub arm-nearer : length s - x.place.at < length s - w.place.at
         arm-nearer = omega (arith, q.onward e, c.goes.low, c.goes.high)

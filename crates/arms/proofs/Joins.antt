@@ -78,7 +78,7 @@ module _ (R : Rules) (s : Bytes) where
 
   pub finishes-endif : (w : Walk) (other : Arm) (r : Result Unit Refusal) (v : Walk) → Joins R s w other r v → Finishes R s w Endif other r v
   finishes-endif w other r v j = record {
-    place = j.place;
+    stays = j.stays;
     one = λ n fs log. apart (stand w met_endif) (frame other not_ended ∷ fs) fs log (join (arm_of w.stacks) other fs) ∙ j.same fs log;
     two = λ start fs log. rw (join-comm other (arm_of w.stacks) fs) (apart (stand w met_endif) (frame start (ended other) ∷ fs) fs log (join (arm_of w.stacks) other fs) ∙ j.same fs log);
   }

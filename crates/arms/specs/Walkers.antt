@@ -22,9 +22,7 @@ frame start first = record { start = start; first = first }
 
 -- v is w with another arm
 pub record SamePlace (w v : Walk) : Type 0 where
-  pub at : v.at ≡ w.at
-  pub last : v.last ≡ w.last
-  pub rows : v.rows ≡ w.rows
+  pub place : v.place ≡ w.place
   pub peak : v.peak ≡ w.peak
 
 module _ (R : Rules) (s : Bytes) where
@@ -35,18 +33,18 @@ module _ (R : Rules) (s : Bytes) where
 
   -- with `depth` open; it goes on only where fewer than 24 are
   pub record Enters (depth : ℕ) (w : Walk) (r : Result Unit Refusal) (v : Walk) : Type 0 where
-    pub place : SamePlace w v
+    pub stays : SamePlace w v
     pub shallow : r ≡ Ok tt → depth < 24
     pub same : (fs : List Frame) (log : List ℕ) → Open depth fs → resume R s (stand w met_conditional) fs log ≡ entered r v fs log
 
   -- at ENDIF the arm of w joins the other
   pub record Joins (w : Walk) (other : Arm) (r : Result Unit Refusal) (v : Walk) : Type 0 where
-    pub place : SamePlace w v
+    pub stays : SamePlace w v
     pub same : (fs : List Frame) (log : List ℕ) → after R s (stand w met_endif) fs log (join (arm_of w.stacks) other fs) ≡ resume R s (stand v (going r)) fs log
 
   -- the last arm of a conditional has ended so; the other arm is the empty one, which stands as it started, or the first
   pub record Finishes (w : Walk) (end : ArmEnd) (other : Arm) (r : Result Unit Refusal) (v : Walk) : Type 0 where
-    pub place : SamePlace w v
+    pub stays : SamePlace w v
     pub one : (end ≡ Else → ⊥) → (fs : List Frame) (log : List ℕ) → resume R s (stand w (ending (Ok end))) (frame other not_ended ∷ fs) log ≡ resume R s (stand v (going r)) fs log
     pub two : (start : Arm) (fs : List Frame) (log : List ℕ) → resume R s (stand w (ending (Ok end))) (frame start (ended other) ∷ fs) log ≡ resume R s (stand v (going r)) fs log
 
@@ -60,7 +58,7 @@ pub record Closes (R : Rules) (s : Bytes) (depth : ℕ) (v : Walk) (before : Lis
 
 -- how a walk concludes where no conditional is open
 abbrev pub concluded : Result ArmEnd Refusal → Walk → Verdict
-concluded (Ok End) w = record { answer = D.accepted; rows = w.rows; peak = w.peak; end = arm_of w.stacks }
-concluded (Ok Else) w = refused_verdict w.last D.stray_else w.rows
-concluded (Ok Endif) w = refused_verdict w.last D.stray_endif w.rows
-concluded (Err r) w = refused_verdict w.last (refusal_of r) w.rows
+concluded (Ok End) w = record { answer = D.accepted; rows = w.place.rows; peak = w.peak; end = arm_of w.stacks }
+concluded (Ok Else) w = refused_verdict w.place.last D.stray_else w.place.rows
+concluded (Ok Endif) w = refused_verdict w.place.last D.stray_endif w.place.rows
+concluded (Err r) w = refused_verdict w.place.last (refusal_of r) w.place.rows

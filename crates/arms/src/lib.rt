@@ -22,34 +22,29 @@ fn enter(w: &mut Walk, depth: u32) -> Result<(), Refusal>
     if depth == 24 {
         return Err(Refusal::Nesting);
     }
-    if let Some(stacks) = w.stacks {
-        let popped = stacks.drop_items(1);
-        popped.answer?;
-        w.stacks = Some(popped.stacks);
+    if let Some(stacks) = &mut w.stacks {
+        stacks.try_drop_items(1)?;
     }
     Ok(())
 }
 
 // At ENDIF the arm of w joins the other. Where one of them is dead, the other stands.
-fn close(w: &mut Walk, other: Option<Stacks>) -> Result<(), Refusal>
-    ensures { (R : Rules) (s : Bytes) → Joins R s w.old (arm_of other) result w.new }
+fn close(w: &mut Walk, other: &Option<Stacks>) -> Result<(), Refusal>
+    ensures { (R : Rules) (s : Bytes) → Joins R s w.old (arm_of other.now) result w.new }
 {
     let Some(other) = other else {
         return Ok(());
     };
-    let Some(stacks) = w.stacks else {
-        w.stacks = Some(other);
+    let Some(stacks) = &mut w.stacks else {
+        w.stacks = Some(*other);
         return Ok(());
     };
-    let joined = stacks.join(other);
-    joined.answer?;
-    w.stacks = Some(joined.stacks);
-    Ok(())
+    stacks.try_join(other)
 }
 
 // The last arm of a conditional has ended so; the other arm is the empty one, as it started, or the first.
-fn finish(w: &mut Walk, end: ArmEnd, other: Option<Stacks>) -> Result<(), Refusal>
-    ensures { (R : Rules) (s : Bytes) → Finishes R s w.old end (arm_of other) result w.new }
+fn finish(w: &mut Walk, end: ArmEnd, other: &Option<Stacks>) -> Result<(), Refusal>
+    ensures { (R : Rules) (s : Bytes) → Finishes R s w.old end (arm_of other.now) result w.new }
 {
     match end {
         ArmEnd::Endif => close(w, other),
@@ -100,8 +95,8 @@ fn conditional(
             // the second arm starts from the same stacks
             let first = mem::replace(&mut w.stacks, start);
             let end = arm(code, log, rules, w, depth + 1)?;
-            finish(w, end, first)
+            finish(w, end, &first)
         }
-        end => finish(w, end, start),
+        end => finish(w, end, &start),
     }
 }

@@ -222,7 +222,7 @@ ready-start s log main alt v b short room = record {
   high = omega (arith, b.at);
   short = short;
   room =
-      let e : v.rows + length (instructions (code_at s v.at)) ≡ length (instructions (decode s)) = rw (b.at, b.rows, ← (code-start s)) (omega arith) in
+      let e : v.place.rows + length (instructions (code_at s v.place.at)) ≡ length (instructions (decode s)) = rw (b.at, b.rows, ← (code-start s)) (omega arith) in
       omega (arith, e, room);
 }
 

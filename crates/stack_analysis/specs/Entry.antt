@@ -27,9 +27,9 @@ Starts R s main alt log (Err r) = analysis R s main alt log ≡ refused_early r.
 -- a walk that has met nothing yet, from so many unknown items
 pub record Begins (main alt : ℕ) (w : Walk) : Type 0 where
   pub arm : arm_of w.stacks ≡ live (unknowns main alt)
-  pub at : w.at ≡ 0
-  pub last : w.last ≡ 0
-  pub rows : w.rows ≡ 0
+  pub at : w.place.at ≡ 0
+  pub last : w.place.last ≡ 0
+  pub rows : w.place.rows ≡ 0
   pub peak : w.peak ≡ main + alt
 
 -- the struct of a summary and end stacks

@@ -19,7 +19,7 @@ use arms::arm;
 use ends::EndStacks;
 use refusals::{Answer, Refusal, Refused};
 use stack::{Limit, Stacks};
-use walk::{ArmEnd, Options, Walk};
+use walk::{ArmEnd, Options, Place, Walk};
 
 /// The verdict: number, offset and two figures, the rows written, the peak, and the end stacks where there is an end.
 #[derive(Clone, Copy)]
@@ -70,14 +70,14 @@ fn refused(refused: Refused, rows: usize) -> Summary
 fn accepted(w: &Walk) -> Summary
     ensures { result
         ≡ summarized
-        (record { answer = answer 0 0 0 0; rows = w.now.rows; peak = w.now.peak; end = arm_of w.now.stacks }) }
+        (record { answer = answer 0 0 0 0; rows = w.now.place.rows; peak = w.now.peak; end = arm_of w.now.stacks }) }
 {
     let summary = Summary {
         number: 0,
         offset: 0,
         first: 0,
         second: 0,
-        rows: w.rows,
+        rows: w.place.rows,
         peak: w.peak,
         ended: false,
         main: 0,
@@ -106,10 +106,10 @@ fn conclude(w: &Walk, ended: Result<ArmEnd, Refusal>) -> Summary
     };
     refused(
         Refused {
-            offset: w.last,
+            offset: w.place.last,
             refusal,
         },
-        w.rows,
+        w.place.rows,
     )
 }
 
@@ -161,9 +161,11 @@ fn start(main: u32, alt: u32) -> Walk
 {
     Walk {
         stacks: Some(Stacks::new(main, alt)),
-        at: 0,
-        last: 0,
-        rows: 0,
+        place: Place {
+            at: 0,
+            last: 0,
+            rows: 0,
+        },
         peak: main + alt,
     }
 }

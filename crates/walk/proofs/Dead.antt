@@ -56,7 +56,7 @@ dead-high w d = rw d (omega arith)
 
 -- what is known once an instruction is met in a dead arm
 pub dead-met : {R : Rules} {s : Bytes} {before : List ℕ} {v : Stand} {old new : List ℕ} {w : W.Walk} {i : Instruction} {class : Class} → Walking R s before v old (stand w running) → w.stacks ≡ None
-    → InstructionAt s w.at i → length new ≡ length old → new ≡ set (set (set old (3 * w.rows) w.at) (3 * w.rows + 1) 65535) (3 * w.rows + 2) 65535 → R.class_for i.opcode ≡ class_at (number_of class)
+    → InstructionAt s w.place.at i → length new ≡ length old → new ≡ set (set (set old (3 * w.place.rows) w.place.at) (3 * w.place.rows + 1) 65535) (3 * w.place.rows + 2) 65535 → R.class_for i.opcode ≡ class_at (number_of class)
     → Met R s before v old (stand w running) new i w.peak class
 dead-met {old = old} {new} {w} k d at len row kind =
-    record { walking = k; run = refl; stands = at; len = len; row = rw d (row-dead w.rows w.at old new row); high = dead-high w d; kind = kind }
+    record { walking = k; run = refl; stands = at; len = len; row = rw d (row-dead w.place.rows w.place.at old new row); high = dead-high w d; kind = kind }

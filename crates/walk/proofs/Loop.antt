@@ -11,23 +11,22 @@ use Rattle.definition.specs.Refusals.{max_element}
 use Rattle.definition.specs.Replay.{AreBytes}
 use Rattle.definition.specs.Stacks.{Rules, Outcome, done, step, push_item, push_literal, plain_step}
 use Rattle.definition.specs.Stacks as S
-use Rattle.definition.specs.Walk.{Item, exact, dead, Frame, moves, effect, marking, total_of, log_row}
-use Rattle.decode.specs.View.{code_at, Decoded, decoded_at, data_start, item_of, low_bytes, Held}
+use Rattle.definition.specs.Walk.{Item, unknown, dead, Frame, moves, effect, marking, total_of, log_row}
+use Rattle.decode.specs.View.{code_at, Decoded, decoded_at, data_start, item_of}
 use Rattle.decode.proofs.Codes.{InstructionAt, code-instruction, code-ends, code-malformed}
 use Rattle.decode.specs.declared.Instruction.{Instruction}
 use Rattle.decode.specs.declared.Malformed.{Malformed}
+use Rattle.decode.specs.declared.Value.{Value}
 use Rattle.decode.specs.declared.Value.TheVariants.{Unknown, Exact}
 use Rattle.opcodes.specs.Class.{number_of}
 use Rattle.opcodes.specs.declared.Class as Opcodes
 use Rattle.opcodes.specs.declared.Class.TheVariants as C
 use Rattle.refusals.specs.declared.Refusal.{Refusal}
 use Rattle.refusals.specs.declared.Refusal.TheVariants as F
-use Rattle.slots.specs.View.{slot_item, sufficient, code_of}
-use Rattle.slots.proofs.Codes.{code-item}
-use Rattle.stack.specs.View.{view, Says, Steps}
+use Rattle.stack.specs.View.{view, Yields, YieldsStep}
 use Rattle.stack.specs.declared.Stacks.{Stacks}
-use Rattle.stack.specs.declared.Stepped.{Stepped}
 use Rattle.walk.specs.Runs.{running, finished, met_conditional, met_else, met_endif, going, stopping, Stand, stand, arm, Goes, Any, Room, Runs}
+use Rattle.walk.specs.declared.Place.{Place}
 use Rattle.walk.specs.declared.Stop.{Stop}
 use Rattle.walk.specs.declared.Walk.{Walk}
 use Rattle.walk.proofs.Rows.{row-live, total-live}
@@ -60,14 +59,14 @@ pub record Met (R : Rules) (s : Bytes) (before : List ℕ) (v : Stand) (old : Li
   pub kind : R.class_for i.opcode ≡ class_at (number_of class)
 
 -- a walk whose arm has these stacks
-abbrev pub live_walk : Stacks → Walk → Stand
-live_walk x w = record { stacks = Some x; at = w.at; last = w.last; rows = w.rows; peak = w.peak; halt = running }
+abbrev pub living : Stacks → Place → ℕ → Stand
+living x p peak = record { stacks = Some x; at = p.at; last = p.last; rows = p.rows; peak = peak; halt = running }
 
-pub live-met : {R : Rules} {s : Bytes} {before : List ℕ} {v : Stand} {old new : List ℕ} {x : Stacks} {i : Instruction} {peak : ℕ} {class : Opcodes.Class} → (w : Walk) → Walking R s before v old (live_walk x w)
-    → InstructionAt s w.at i → length new ≡ length old → new ≡ set (set (set old (3 * w.rows) w.at) (3 * w.rows + 1) x.mains) (3 * w.rows + 2) x.alts → peak ≡ max w.peak (x.mains + x.alts)
-    → R.class_for i.opcode ≡ class_at (number_of class) → Met R s before v old (live_walk x w) new i peak class
-live-met {old = old} {new} {x} w k at len row high kind =
-    record { walking = k; run = refl; stands = at; len = len; row = row-live w.rows w.at x old new row; high = rw total-live high; kind = kind }
+pub live-met : {R : Rules} {s : Bytes} {before : List ℕ} {v : Stand} {old new : List ℕ} {x : Stacks} {i : Instruction} {peak : ℕ} {class : Opcodes.Class} (p : Place) (least : ℕ)
+    → Walking R s before v old (living x p least) → InstructionAt s p.at i → length new ≡ length old → new ≡ set (set (set old (3 * p.rows) p.at) (3 * p.rows + 1) x.mains) (3 * p.rows + 2) x.alts
+    → peak ≡ max least (x.mains + x.alts) → R.class_for i.opcode ≡ class_at (number_of class) → Met R s before v old (living x p least) new i peak class
+live-met {old = old} {new} {x} p least k at len row high kind =
+    record { walking = k; run = refl; stands = at; len = len; row = row-live p.rows p.at x old new row; high = rw total-live high; kind = kind }
 
 -- what an instruction of this class makes of live stacks
 abbrev pub operated : Rules → Decoding.Instruction → Class → S.Stacks Item → Outcome Item
@@ -125,17 +124,17 @@ module _ {R : Rules} {s : Bytes} {before : List ℕ} {v : Stand} {old : List ℕ
   there = record { opcode = i.opcode; offset = w.at; literal = m.stands.literal }
 
   -- one that is no conditional and no RETURN, in a live arm
-  module _ (x : Stacks) (l : w.stacks ≡ Some x) (r : Stepped) (t : Option Stacks) (kept : r.answer ≡ Ok tt → t ≡ Some r.stacks) where
-    met-ordinary : (o : Ordinary) → class_at (number_of class) ≡ ordinary o → Says r (step marking R there o (view x)) → Walking R s before v new (past w i peak t (going r.answer))
-    met-ordinary o k says = on (stepped R s m.stands w m.run refl old m.row m.high (ordinary o) _ x (m.kind ∙ k) (λ fs. refl) l r says t kept)
+  module _ (x : Stacks) (l : w.stacks ≡ Some x) (a : Result Unit Refusal) (y : Stacks) where
+    met-ordinary : (o : Ordinary) → class_at (number_of class) ≡ ordinary o → Yields a y (step marking R there o (view x)) → Walking R s before v new (past w i peak (Some y) (going a))
+    met-ordinary o k says = on (stepped R s m.stands w m.run refl old m.row m.high (ordinary o) _ x (m.kind ∙ k) (λ fs. refl) l a y says)
 
-    met-plain : (pops pushes : ℕ) → class_at (number_of class) ≡ plain pops pushes → Says r (plain_step marking R.limit pops pushes (view x)) → Walking R s before v new (past w i peak t (going r.answer))
-    met-plain pops pushes k says = on (stepped R s m.stands w m.run refl old m.row m.high (plain pops pushes) _ x (m.kind ∙ k) (λ fs. refl) l r says t kept)
+    met-plain : (pops pushes : ℕ) → class_at (number_of class) ≡ plain pops pushes → Yields a y (plain_step marking R.limit pops pushes (view x)) → Walking R s before v new (past w i peak (Some y) (going a))
+    met-plain pops pushes k says = on (stepped R s m.stands w m.run refl old m.row m.high (plain pops pushes) _ x (m.kind ∙ k) (λ fs. refl) l a y says)
 
-    pub met-operated : Operates (class_at (number_of class)) × Says r (operated R there (class_at (number_of class)) (view x)) → Walking R s before v new (past w i peak t (going r.answer))
+    pub met-operated : Operates (class_at (number_of class)) × Yields a y (operated R there (class_at (number_of class)) (view x)) → Walking R s before v new (past w i peak (Some y) (going a))
     met-operated did = by (class_at (number_of class)) refl did.0 did.1
       where
-        by : (k : Class) → class_at (number_of class) ≡ k → Operates k → Says r (operated R there k (view x)) → Walking R s before v new (past w i peak t (going r.answer))
+        by : (k : Class) → class_at (number_of class) ≡ k → Operates k → Yields a y (operated R there k (view x)) → Walking R s before v new (past w i peak (Some y) (going a))
         by (ordinary o) e f says = met-ordinary o e says
         by (plain pops pushes) e f says = met-plain pops pushes e says
         by IF e f says = absurd f
@@ -148,22 +147,22 @@ module _ {R : Rules} {s : Bytes} {before : List ℕ} {v : Stand} {old : List ℕ
   pub nearer : length s - i.next < length s - w.at
   nearer = omega (arith, m.stands.onward, m.stands.within)
 
-  -- what a method did, by the class k that the match has told
-  abbrev pub Did : Opcodes.Class → Stepped → Stacks → Type 0
-  Did k r x = Operates (class_at (number_of k)) × Says r (operated R there (class_at (number_of k)) (view x))
+  -- what an operation did, by the class k that the match has told
+  abbrev pub Did : Opcodes.Class → Result Unit Refusal → Stacks → Stacks → Type 0
+  Did k a y x = Operates (class_at (number_of k)) × Yields a y (operated R there (class_at (number_of k)) (view x))
 
-  pub did-by : (k : Opcodes.Class) → class ≡ k → (x : Stacks) (r : Stepped) {p : Stepped} → r ≡ p → Did k p x → Did class r x
-  did-by k e x r f did = rw (e, f) did
+  pub did-by : (k : Opcodes.Class) → class ≡ k → (x : Stacks) (a : Result Unit Refusal) (y : Stacks) {b : Result Unit Refusal} {z : Stacks} → a ≡ b → y ≡ z → Did k b z x → Did class a y x
+  did-by k e x a y f g did = rw (e, f, g) did
 
-  -- a method that is a step by its own contract
-  pub steps-by : (o : Ordinary) (x : Stacks) {p : Stepped} → Steps p R.limit o (view x) → Says p (step marking R there o (view x))
+  -- one that is a step by its own contract
+  pub steps-by : (o : Ordinary) (x : Stacks) {a : Result Unit Refusal} {y : Stacks} → YieldsStep a y R.limit o (view x) → Yields a y (step marking R there o (view x))
   steps-by o x says = record { same = says.same R there refl }
 
-  pub does-nothing : class ≡ C.Nothing → (x : Stacks) → Did class (record { stacks = x; answer = Ok tt }) x
+  pub does-nothing : (x : Stacks) → Did C.Nothing (Ok tt) x x
   unfolding step
-  does-nothing e x = rw e (tt, record { same = refl })
+  does-nothing x = (tt, record { same = refl })
 
-  pub unmodelled-refused : class ≡ C.Unmodelled → (x : Stacks) → Did class (record { stacks = x; answer = Err (F.Unmodelled i.opcode) }) x
+  pub unmodelled-refused : class ≡ C.Unmodelled → (x : Stacks) → Did class (Err (F.Unmodelled i.opcode)) x x
   unfolding step
   unmodelled-refused e x = rw e (tt, record { same = refl })
 
@@ -181,33 +180,31 @@ module _ {R : Rules} {s : Bytes} {before : List ℕ} {v : Stand} {old : List ℕ
 
     module _ (b : Bool) (t : b ≡ (R.examined && ltb max_element (i.next - data_start s w.at))) where
       -- one that is too long is refused
-      pub pushes-long : class ≡ C.Push → (x : Stacks) → b ≡ true → (size : ℕ) → size ≡ i.next - data_start s w.at → Did class (record { stacks = x; answer = Err (F.LongElement size) }) x
+      pub pushes-long : class ≡ C.Push → (x : Stacks) → b ≡ true → (size : ℕ) → size ≡ i.next - data_start s w.at → Did class (Err (F.LongElement size)) x x
       unfolding step
       pushes-long e x f size z = rw e (tt, record { same = rw z (sym (long-pushed R m.stands.literal (view x) _ data_is b t f)) })
 
       -- another is pushed
-      pub pushes-unknown : b ≡ false → (x : Stacks) {p : Stepped} → Says p (push_item R.limit (slot_item 9 0) (view x)) → Says p (operated R there (class_at (number_of C.Push)) (view x))
+      pub pushes-unknown : b ≡ false → (x : Stacks) {a : Result Unit Refusal} {y : Stacks} → Yields a y (push_item R.limit unknown (view x)) → Did C.Push a y x
       unfolding step
-      pushes-unknown f x {p} says =
-          subst (λ o. Says p o) (sym (short-pushed R m.stands.literal (view x) _ data_is b t f))
-          (subst (λ (y : Item). Says p (push_item R.limit y (view x))) (ap item_of (sym u) ∙ m.stands.item) says)
+      pushes-unknown f x {a} {y} says = (
+        tt,
+        subst (λ o. Yields a y o) (sym (short-pushed R m.stands.literal (view x) _ data_is b t f))
+            (subst (λ (z : Item). Yields a y (push_item R.limit z (view x))) (ap item_of (sym u) ∙ m.stands.item) says),
+      )
 
-  -- an exact literal is no long one
-  module _ {len bytes : ℕ} (q : i.literal ≡ Exact len bytes) where
-    pub literal-held : Held (Exact len bytes)
-    literal-held = subst Held q m.stands.held
-
-    pub pushes-exact : (x : Stacks) {p : Stepped} → Says p (push_item R.limit (exact (low_bytes len bytes)) (view x)) → Says p (operated R there (class_at (number_of C.Push)) (view x))
-    unfolding step
-    pushes-exact x {p} says =
-        subst (λ o. Says p o) (sym (exact-pushed R m.stands.literal (view x) len bytes (m.stands.value ∙ q)))
-        (subst (λ (y : Item). Says p (push_item R.limit y (view x))) (ap item_of (sym q) ∙ m.stands.item) says)
-
-    pub pushes-code : (code : ℕ) → code ≡ code_of len bytes → sufficient code ≡ true → (x : Stacks) {p : Stepped} → Says p (push_item R.limit (slot_item code 0) (view x))
-        → Says p (operated R there (class_at (number_of C.Push)) (view x))
-    pushes-code code g z x {p} says =
-        let y : slot_item code 0 ≡ exact (low_bytes len bytes) = ap (λ x. slot_item x 0) g ∙ code-item len bytes literal-held (rw g at z) in
-        pushes-exact x (rw y at says)
+  -- a literal that is known is no long one
+  pub pushes-known : (i.literal ≡ Unknown → ⊥) → (x : Stacks) {a : Result Unit Refusal} {y : Stacks} → Yields a y (push_item R.limit (item_of i.literal) (view x)) → Did C.Push a y x
+  unfolding step
+  pushes-known n x {a} {y} says = by i.literal refl
+    where
+      by : (l : Value) → i.literal ≡ l → Did C.Push a y x
+      by Unknown q = absurd (n q)
+      by (Exact len bytes) q = (
+        tt,
+        subst (λ o. Yields a y o) (sym (exact-pushed R m.stands.literal (view x) len bytes (m.stands.value ∙ q)))
+            (subst (λ (z : Item). Yields a y (push_item R.limit z (view x))) m.stands.item says),
+      )
 
 -- The other needs of the loops
 module _ {R : Rules} {s : Bytes} {before : List ℕ} {v : Stand} {now : List ℕ} where
@@ -231,7 +228,7 @@ module _ {R : Rules} {s : Bytes} {before : List ℕ} {v : Stand} {now : List ℕ
 
 -- the walk has stopped
 pub walk-runs : {R : Rules} {s : Bytes} {before : List ℕ} {v : Walk} {now : List ℕ} {w : Walk} {r : Result Stop Refusal} → Walking R s before (stand v running) now (stand w (stopping r))
-    → (r ≡ Ok Stop.Conditional → v.at < w.at) → Runs R s v before w r now
+    → (r ≡ Ok Stop.Conditional → v.place.at < w.place.at) → Runs R s v before w r now
 walk-runs k h = record { goes = k.goes; onward = h }
 
 -- a step was refused

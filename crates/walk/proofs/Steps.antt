@@ -10,9 +10,8 @@ use Rattle.decode.specs.View.{code_at}
 use Rattle.decode.proofs.Codes.{InstructionAt}
 use Rattle.decode.specs.declared.Instruction.{Instruction}
 use Rattle.refusals.specs.declared.Refusal.{Refusal}
-use Rattle.stack.specs.View.{view, outcome, Says}
+use Rattle.stack.specs.View.{view, outcome, Yields}
 use Rattle.stack.specs.declared.Stacks.{Stacks}
-use Rattle.stack.specs.declared.Stepped.{Stepped}
 use Rattle.walk.specs.Runs.{Halt, running, finished, met_conditional, met_else, met_endif, going, Stand, arm, state_of, from, resume, resume_by, Goes, Any}
 
 -- w past the instruction i
@@ -83,14 +82,14 @@ module _ (R : Rules) (s : Bytes) where
 
       -- in a live one it does what the stack operation did
       pub stepped : (k : Class) (o : Outcome Item) (x : Stacks) → R.class_for i.opcode ≡ k → ((fs : List Frame) → effect R met-there k (live (view x)) fs ≡ on_outcome o fs)
-          → w.stacks ≡ Some x → (r : Stepped) → Says r o → (t : Option Stacks) → (r.answer ≡ Ok tt → t ≡ Some r.stacks) → Goes R s Any w log (past w i peak t (going r.answer)) new
-      stepped k o x e m l r says t kept = one_more_lem t (going r.answer) (λ fs. by-class k e fs ∙ rw (l, m fs, ← says.same) (by r.answer refl fs))
+          → w.stacks ≡ Some x → (a : Result Unit Refusal) (y : Stacks) → Yields a y o → Goes R s Any w log (past w i peak (Some y) (going a)) new
+      stepped k o x e m l a y says = one_more_lem (Some y) (going a) (λ fs. by-class k e fs ∙ rw (l, m fs, ← says.same) (by a fs))
         where
-          by : (a : Result Unit Refusal) → r.answer ≡ a → (fs : List Frame)
-              → answered (follow (on_outcome (outcome a (view r.stacks)) fs) (state_of (past w i peak (Some x) running) peak fs new) (λ u. from R s i.next u))
-              ≡ resume_by R s (going a) (past w i peak t (going a)) fs new
-          by (Ok u) q fs = rw (kept q)
-          by (Err z) q fs = refl
+          by : (a : Result Unit Refusal) (fs : List Frame)
+              → answered (follow (on_outcome (outcome a (view y)) fs) (state_of (past w i peak (Some x) running) peak fs new) (λ u. from R s i.next u))
+              ≡ resume_by R s (going a) (past w i peak (Some y) (going a)) fs new
+          by (Ok u) fs = refl
+          by (Err z) fs = refl
 
   -- the end of the fragment
   module _ (w : Stand) (run : w.halt ≡ running) (none : instructions (code_at s w.at) ≡ []) {log : List ℕ} {peak : ℕ}

@@ -48,7 +48,7 @@ pub record Stand : Type 0 where
   pub halt : Halt
 
 abbrev pub stand : Walk → Halt → Stand
-stand w h = record { stacks = w.stacks; at = w.at; last = w.last; rows = w.rows; peak = w.peak; halt = h }
+stand w h = record { stacks = w.stacks; at = w.place.at; last = w.place.last; rows = w.place.rows; peak = w.peak; halt = h }
 
 -- how it stands after what a walker answers: where it ends an arm, where it stops, and where it is to go on
 abbrev pub ending : Result ArmEnd Refusal → Halt
@@ -131,9 +131,9 @@ pub record Room (s : Bytes) (log : List ℕ) (at rows : ℕ) : Type 0 where
 
 -- what each of the walkers asks
 abbrev pub Ready : Bytes → List ℕ → Walk → Type 0
-Ready s log w = Room s log w.at w.rows
+Ready s log w = Room s log w.place.at w.place.rows
 
 -- the instructions up to the next IF, NOTIF, ELSE or ENDIF
 pub record Runs (R : S.Rules) (s : Bytes) (v : Walk) (before : List ℕ) (w : Walk) (r : Result Stop Refusal) (now : List ℕ) : Type 0 where
   pub goes : Goes R s Any (stand v running) before (stand w (stopping r)) now
-  pub onward : r ≡ Ok Stop.Conditional → v.at < w.at
+  pub onward : r ≡ Ok Stop.Conditional → v.place.at < w.place.at

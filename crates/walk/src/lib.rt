@@ -10,7 +10,7 @@ ghost use Rattle.walk.specs.Runs.{options_of, rules_in, Ready, Runs};
 use decode::{Instruction, Value};
 use opcodes::{Class, Classes};
 use refusals::Refusal;
-use stack::{Limit, Stacks, Stepped};
+use stack::{Limit, Stacks};
 
 /// What the log has for a height in a dead arm.
 const DEAD: u16 = 65535;
@@ -73,33 +73,41 @@ pub enum Stop {
     Arm(ArmEnd),
 }
 
-/// Where a walk stands: the stacks of its arm, none where the arm is dead, the offset of the next instruction, that of the one met
-/// last, the rows written, the peak.
-#[derive(Clone, Copy)]
-pub struct Walk {
-    pub stacks: Option<Stacks>,
+/// Where a walk stands in its fragment and in the log: the offset of the next instruction, that of the one met last, and the rows
+/// written.
+#[derive(Clone, Copy, Debug, PartialEq, Eq)]
+pub struct Place {
     pub at: usize,
     pub last: usize,
     pub rows: usize,
-    pub peak: u32,
 }
 
-impl Walk {
+impl Place {
     /// An instruction is met: its row is written, with these heights, and the next one is that behind it.
     fn meet(&mut self, instruction: Instruction, log: &mut [u16], main: u16, alt: u16)
         requires room { 3 * self.old.rows + 2 < length log.old }
         requires short { self.old.at < 2 ^ 16 }
-        ensures past { self.new ≡ record self.old { at = instruction.next; last = self.old.at; rows = self.old.rows + 1 } }
+        ensures past { self.new ≡ record { at = instruction.next; last = self.old.at; rows = self.old.rows + 1 } }
         ensures row { log.new
             ≡ set (set (set log.old (3 * self.old.rows) self.old.at) (3 * self.old.rows + 1) main) (3 * self.old.rows + 2) alt }
     {
         log[3 * self.rows] = self.at as u16;
         log[3 * self.rows + 1] = main;
         log[3 * self.rows + 2] = alt;
-        self.rows += 1;
-        self.last = self.at;
-        self.at = instruction.next;
+        *self = Place {
+            at: instruction.next,
+            last: self.at,
+            rows: self.rows + 1,
+        };
     }
+}
+
+/// A walk: the stacks of its arm, none where the arm is dead, where it stands, and the peak.
+#[derive(Clone, Copy)]
+pub struct Walk {
+    pub stacks: Option<Stacks>,
+    pub place: Place,
+    pub peak: u32,
 }
 
 // In a dead arm, the instructions up to the next IF, NOTIF, ELSE or ENDIF, whose row is written too, or to the end.
@@ -108,8 +116,8 @@ fn skip(code: &[u8], log: &mut [u16], rules: Rules, w: &mut Walk) -> Stop
     requires dead { w.old.stacks ≡ None }
     ensures { Runs (rules_in rules.entry) code.now w.old log.old w.new (Ok result) log.new }
 {
-    while let Ok(Some(instruction)) = decode::decode_at(code, w.at) {
-        w.meet(instruction, log, DEAD, DEAD);
+    while let Ok(Some(instruction)) = decode::decode_at(code, w.place.at) {
+        w.place.meet(instruction, log, DEAD, DEAD);
         match rules.classes.of(instruction.opcode) {
             Class::If | Class::NotIf => return Stop::Conditional,
             Class::Else => return Stop::Arm(ArmEnd::Else),
@@ -121,87 +129,72 @@ fn skip(code: &[u8], log: &mut [u16], rules: Rules, w: &mut Walk) -> Stop
 }
 
 /// The instructions up to the next IF, NOTIF, ELSE or ENDIF, whose row is written too, or to the end. It calls no walker, so that
-/// the methods of the stacks are compiled into its loop. After a refusal `w` stands at the instruction that is refused.
+/// the operations of the stacks are compiled into its loop. After a refusal `w` stands at the instruction that is refused.
 pub fn plain(code: &[u8], log: &mut [u16], rules: Rules, w: &mut Walk) -> Result<Stop, Refusal>
     requires { Ready code.now log.old w.old }
     ensures { Runs (rules_in rules.entry) code.now w.old log.old w.new result log.new }
 {
-    let Some(mut stacks) = w.stacks else {
+    let limit = rules.limit;
+    let Some(stacks) = &mut w.stacks else {
         return Ok(skip(code, log, rules, w));
     };
-    let limit = rules.limit;
     loop {
         let mains = stacks.mains;
         let alts = stacks.alts;
         w.peak = w.peak.max(mains + alts);
-        let Ok(Some(instruction)) = decode::decode_at(code, w.at) else {
-            w.stacks = Some(stacks);
+        let Ok(Some(instruction)) = decode::decode_at(code, w.place.at) else {
             return Ok(Stop::Arm(ArmEnd::End));
         };
-        w.meet(instruction, log, mains as u16, alts as u16);
-        let opcode = instruction.opcode;
-        let stepped = match rules.classes.of(opcode) {
-            Class::Unmodelled => return Err(Refusal::Unmodelled { opcode }),
-            Class::If | Class::NotIf => {
-                w.stacks = Some(stacks);
-                return Ok(Stop::Conditional);
+        w.place.meet(instruction, log, mains as u16, alts as u16);
+        let answer = match rules.classes.of(instruction.opcode) {
+            Class::Unmodelled => {
+                return Err(Refusal::Unmodelled {
+                    opcode: instruction.opcode,
+                });
             }
-            Class::Else => {
-                w.stacks = Some(stacks);
-                return Ok(Stop::Arm(ArmEnd::Else));
-            }
-            Class::EndIf => {
-                w.stacks = Some(stacks);
-                return Ok(Stop::Arm(ArmEnd::Endif));
-            }
+            Class::If | Class::NotIf => return Ok(Stop::Conditional),
+            Class::Else => return Ok(Stop::Arm(ArmEnd::Else)),
+            Class::EndIf => return Ok(Stop::Arm(ArmEnd::Endif)),
             Class::Return => {
                 w.stacks = None;
                 return Ok(skip(code, log, rules, w));
             }
-            Class::Nothing => continue,
+            Class::Nothing => Ok(()),
             Class::Push => match instruction.literal {
                 Value::Unknown => {
-                    if decode::too_long(code, w.last, w.at, rules.examined) {
-                        let size = decode::data_size(code, w.last, w.at);
+                    if decode::too_long(code, w.place.last, w.place.at, rules.examined) {
+                        let size = decode::data_size(code, w.place.last, w.place.at);
                         return Err(Refusal::LongElement { size });
                     }
-                    stacks.push_code(slots::UNKNOWN, limit)
+                    stacks.try_push(Value::Unknown, limit)
                 }
-                Value::Exact { len, bytes } => {
-                    let code = slots::code_of(len, bytes);
-                    if slots::suffices(code) {
-                        stacks.push_code(code, limit)
-                    } else {
-                        stacks.push_exact(len, bytes, limit)
-                    }
-                }
+                literal => stacks.try_push(literal, limit),
             },
-            Class::ToAlt => stacks.move_to_alt(),
-            Class::FromAlt => stacks.move_from_alt(),
-            Class::Depth => stacks.depth(limit),
-            Class::Size => stacks.size(limit),
-            Class::Nip => stacks.nip(),
-            Class::Tuck => stacks.tuck(limit),
-            Class::Pick => stacks.pick(limit),
-            Class::Roll => stacks.roll(),
-            Class::Zk => stacks.zk(limit),
-            Class::Dup => stacks.extend_from_within(1, 1, limit),
-            Class::TwoDup => stacks.extend_from_within(2, 2, limit),
-            Class::ThreeDup => stacks.extend_from_within(3, 3, limit),
-            Class::Over => stacks.extend_from_within(2, 1, limit),
-            Class::TwoOver => stacks.extend_from_within(4, 2, limit),
-            Class::Rot => stacks.rotate_left(3, 1),
-            Class::TwoRot => stacks.rotate_left(6, 2),
-            Class::Swap => stacks.rotate_left(2, 1),
-            Class::TwoSwap => stacks.rotate_left(4, 2),
-            Class::Effect10 => stacks.apply_effect(1, 0, limit),
-            Class::Effect20 => stacks.apply_effect(2, 0, limit),
-            Class::Effect01 => stacks.apply_effect(0, 1, limit),
-            Class::Effect11 => stacks.apply_effect(1, 1, limit),
-            Class::Effect31 => stacks.apply_effect(3, 1, limit),
-            Class::Effect21 => stacks.apply_effect(2, 1, limit),
+            Class::ToAlt => stacks.try_move_to_alt(),
+            Class::FromAlt => stacks.try_move_from_alt(),
+            Class::Depth => stacks.try_depth(limit),
+            Class::Size => stacks.try_size(limit),
+            Class::Nip => stacks.try_nip(),
+            Class::Tuck => stacks.try_tuck(limit),
+            Class::Pick => stacks.try_pick(limit),
+            Class::Roll => stacks.try_roll(),
+            Class::Zk => stacks.try_zk(limit),
+            Class::Dup => stacks.try_extend_from_within(1, 1, limit),
+            Class::TwoDup => stacks.try_extend_from_within(2, 2, limit),
+            Class::ThreeDup => stacks.try_extend_from_within(3, 3, limit),
+            Class::Over => stacks.try_extend_from_within(2, 1, limit),
+            Class::TwoOver => stacks.try_extend_from_within(4, 2, limit),
+            Class::Rot => stacks.try_rotate_left(3, 1),
+            Class::TwoRot => stacks.try_rotate_left(6, 2),
+            Class::Swap => stacks.try_rotate_left(2, 1),
+            Class::TwoSwap => stacks.try_rotate_left(4, 2),
+            Class::Effect10 => stacks.try_apply_effect(1, 0, limit),
+            Class::Effect20 => stacks.try_apply_effect(2, 0, limit),
+            Class::Effect01 => stacks.try_apply_effect(0, 1, limit),
+            Class::Effect11 => stacks.try_apply_effect(1, 1, limit),
+            Class::Effect31 => stacks.try_apply_effect(3, 1, limit),
+            Class::Effect21 => stacks.try_apply_effect(2, 1, limit),
         };
-        stepped.answer?;
-        stacks = stepped.stacks;
+        answer?;
     }
 }

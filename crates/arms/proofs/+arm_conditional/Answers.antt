@@ -2,7 +2,7 @@ use Rattle.std.proofs.Common.{rules, arith, ◌≡◌, Ok, Err}
 use Rattle.definition.specs.Stacks.{built_in}
 use Rattle.walk.specs.Runs.{rules_in}
 use Rattle.walk.specs.declared.ArmEnd.TheVariants.{Else}
-use Rattle.arms.proofs.Cycle.{ready_on, ready-there, one_deeper, not_entered, first_refused, one_arm, second_refused, two-arms}
+use Rattle.arms.proofs.Cycle.{ready_on, ready-there, at-there, one_deeper, not_entered, first_refused, one_arm, second_refused, two-arms}
 use Rattle.arms.proofs.+arm_conditional.Goals as goal
 
 pub conditional-returns-in_err-enter : goal.conditional-returns-in_err-enter
@@ -13,7 +13,7 @@ conditional-returns-in_err-enter t c =
 pub conditional-arm-requires : goal.conditional-arm-requires
 conditional-arm-requires t c =
     let e = c.enter.ensures built_in c.args.code.now in
-    (omega (arith, c.decreases, e.place.at), (ready-there c.requires.ready e.place, one_deeper c.requires.ready e c.in_ok-enter.was))
+    (omega (arith, c.decreases, at-there e.stays), (ready-there c.requires.ready e.stays, one_deeper c.requires.ready e c.in_ok-enter.was))
 
 pub conditional-returns-in_err-end : goal.conditional-returns-in_err-end
 conditional-returns-in_err-end t c =
@@ -23,8 +23,8 @@ conditional-returns-in_err-end t c =
 pub conditional-arm-requires-in-Else : goal.conditional-arm-requires-in-Else
 conditional-arm-requires-in-Else t c =
     let e = c.enter.ensures built_in c.args.code.now in
-    let r = ready-there c.requires.ready e.place in
-    (omega (arith, c.decreases, e.place.at, c.arm.ensures.goes.low), (ready_on r c.arm.ensures.goes c.arm.auto.log, one_deeper c.requires.ready e c.in_ok-enter.was))
+    let r = ready-there c.requires.ready e.stays in
+    (omega (arith, c.decreases, at-there e.stays, c.arm.ensures.goes.low), (ready_on r c.arm.ensures.goes c.arm.auto.log, one_deeper c.requires.ready e c.in_ok-enter.was))
 
 pub conditional-returns-in_err-end-in-Else : goal.conditional-returns-in_err-end-in-Else
 conditional-returns-in_err-end-in-Else t c =

@@ -7,8 +7,8 @@ use Rattle.stack_analysis.proofs.accepted.Goals as goal
 
 pub returns-in-Some : goal.returns-in-Some
 returns-in-Some c = let w = c.args.w.now in
-    accepts-live w.rows w.peak c.in-Some.stacks ∙ ap (λ x. summarized (record { answer = answer 0 0 0 0; rows = w.rows; peak = w.peak; end = arm_of x })) (sym c.in-Some.is)
+    accepts-live w.place.rows w.peak c.in-Some.stacks ∙ ap (λ x. summarized (record { answer = answer 0 0 0 0; rows = w.place.rows; peak = w.peak; end = arm_of x })) (sym c.in-Some.is)
 
 pub returns-in-None : goal.returns-in-None
 returns-in-None c = let w = c.args.w.now in
-    accepts-dead w.rows w.peak ∙ ap (λ x. summarized (record { answer = answer 0 0 0 0; rows = w.rows; peak = w.peak; end = arm_of x })) (sym c.in-None.is)
+    accepts-dead w.place.rows w.peak ∙ ap (λ x. summarized (record { answer = answer 0 0 0 0; rows = w.place.rows; peak = w.peak; end = arm_of x })) (sym c.in-None.is)

@@ -33,10 +33,10 @@ returns c =
     let ends = walk-ends _ _ _ _ _ _ _ _ _ c.arm-ended.ensures c.start-w.ensures in
     let m : Analysed (rules_in a.rules) a.fragment.now a.main a.alt a.log.now c.with_end-2.result c.arm-ended.new.log =
     elim c.match-w.branch [
-      in-Some w ↦ answers-live _ a.rules.limit.low _ _ _ _ may _ _ _ ends _ c.conclude-verdict.ensures w.in-Some.stacks w.in-Some.is w.if-verdict.true _ (w.end-is ∙ w.of-end.ensures) _ c.with_end-2.ensures
-    | in_default-stacks w ↦ elim w.in_default-stacks.branch [
-        in_default-stacks-via-in-Some+else-verdict v ↦ answers-dead _ a.rules.limit.low _ _ _ _ may _ _ _ ends _ c.conclude-verdict.ensures v.if-verdict.false _ (w.end-is ∙ w.none-end.ensures) _ c.with_end-2.ensures
-      | in_default-stacks-via-in_default-stacks v ↦ answers-none _ a.rules.limit.low _ _ _ _ may _ _ _ ends _ c.conclude-verdict.ensures v.in_default-stacks.not-Some _ (w.end-is ∙ w.none-end.ensures) _ c.with_end-2.ensures
+      | in-Some w ↦ answers-live _ a.rules.limit.low _ _ _ _ may _ _ _ ends _ c.conclude-verdict.ensures w.in-Some.stacks w.in-Some.is w.if-verdict.true _ (w.end-is ∙ w.of-end.ensures) _ c.with_end-2.ensures
+      | in_default-stacks w ↦ elim w.in_default-stacks.branch [
+        | in_default-stacks-via-in-Some+else-verdict v ↦ answers-dead _ a.rules.limit.low _ _ _ _ may _ _ _ ends _ c.conclude-verdict.ensures v.if-verdict.false _ (w.end-is ∙ w.none-end.ensures) _ c.with_end-2.ensures
+        | in_default-stacks-via-in_default-stacks v ↦ answers-none _ a.rules.limit.low _ _ _ _ may _ _ _ ends _ c.conclude-verdict.ensures v.in_default-stacks.not-Some _ (w.end-is ∙ w.none-end.ensures) _ c.with_end-2.ensures
       ]
     ] in
     record { same = m.same; shows = m.shows; within = m.within; logged = m.logged; replayed = m.replayed }

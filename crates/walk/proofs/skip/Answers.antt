@@ -9,7 +9,7 @@ use Rattle.walk.proofs.skip.Goals as goal
 use Rattle.walk.proofs.skip.Goals.{In-Ok-Some, After-of}
 
 -- the instruction that is met
-at : (c : In-Ok-Some) → InstructionAt c.args.code.now c.loop-instruction.w.at c.in-Ok-Some.instruction
+at : (c : In-Ok-Some) → InstructionAt c.args.code.now c.loop-instruction.w.place.at c.in-Ok-Some.instruction
 at c = instruction-there c.loop-instruction.invariant.1.bytes c.decode_at.ensures.same c.in-Ok-Some.is c.in-Ok-Some.field-0-is
 
 -- what is known once its row is written and its class is read

@@ -8,4 +8,4 @@ invariant-loop-instruction l =
     (l.w.stacks ≡ None) × Walking (rules_in l.rules) l.code l.initial.log (stand l.initial.w running) l.log (stand l.w running)
 
 abbrev pub decreases-loop-instruction : goal.decreases-loop-instruction
-decreases-loop-instruction l = length l.code - l.w.at
+decreases-loop-instruction l = length l.code - l.w.place.at
