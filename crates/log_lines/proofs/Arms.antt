@@ -146,9 +146,12 @@ main-other classes fragment log row class main o m t q b e options =
 
 -- both arms
 
--- one text behind another, from a line on
-pub then-pushed : {before s mid t new : Bytes} → mid ≡ before ++ s → new ≡ mid ++ t → new ≡ before ++ (s ++ t)
-then-pushed {before} {s} {mid} {t} {new} w v = v ∙ ap (λ (x : Bytes). x ++ t) w ∙ append_assoc before s t
+-- four texts, one behind another
+pub four-pushed : (before s t u v : Bytes) {a b c d : Bytes} → a ≡ before ++ s → b ≡ a ++ t → c ≡ b ++ u → d ≡ c ++ v → d ≡ before ++ (s ++ t ++ u ++ v)
+four-pushed before s t u v {a} {b} {c} {d} e f g h =
+    let i : b ≡ before ++ (s ++ t) = f ∙ ap (λ (x : Bytes). x ++ t) e ∙ append_assoc before s t in
+    let j : c ≡ before ++ (s ++ t ++ u) = g ∙ ap (λ (x : Bytes). x ++ u) i ∙ append_assoc before (s ++ t) u in
+    h ∙ ap (λ (x : Bytes). x ++ v) j ∙ append_assoc before (s ++ t ++ u) v
 
 pub arms-pushed : (before : Bytes) {new : Bytes} {other main alt main' alt' : ℕ} (R : Rules) (fragment : Bytes) (log : List ℕ) (from n : ℕ)
     → other ≡ opener R fragment log from n 0 → main ≡ main_at log (from + n) → alt ≡ alt_at log (from + n)

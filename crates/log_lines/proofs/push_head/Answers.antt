@@ -1,7 +1,6 @@
 use mathlib.Core.List.{◌++◌}
 use mathlib.Core.Path.{ap, ◌∙◌}
 use lib.ListN.{length}
-use Rattle.definition.specs.Basics.{Bytes}
 use Rattle.definition.specs.Papers.{Fragment, entry_count}
 use Rattle.log_lines.specs.Log.{start_line, start}
 use Rattle.log_lines.proofs.push_head.Goals as goal

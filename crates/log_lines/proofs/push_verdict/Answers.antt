@@ -1,4 +1,3 @@
-use mathlib.Core.Path.{◌∙◌}
 use Rattle.definition_rules.specs.Maps.{rules_by}
 use Rattle.opcodes.specs.Classes.{rows_of}
 use Rattle.log_lines.proofs.Verdicts.{verdict-accepted, verdict-malformed, verdict-before, verdict-arms, verdict-walk}
