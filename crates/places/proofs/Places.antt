@@ -9,9 +9,6 @@ use lib.Dec.{leb}
 use lib.ListN.{length, take, drop, set}
 use lib.Seq.{take_at}
 use Rattle.definition.specs.Basics.{Bytes, pick}
-use Rattle.text.specs.View.{Written}
-use Rattle.lines.specs.View.{lines_in}
-use Rattle.lines.specs.declared.Lines.{Lines}
 use Rattle.places.specs.View.{written}
 
 -- all as lent where there are fewer
@@ -33,26 +30,3 @@ where-room t out new e = e ∙ by (leb (length t) (length out)) refl
     by true h = rw (h, le-ltb (length out) (length t) (leb-true (length t) (length out) h))
     by false h = rw (h, lt-ltb (length out) (length t) (leb-false (length t) (length out) h))
 
--- a text written at the start of an array: its size, and the part that holds it
-module _ (zeros t new : Bytes) (n : ℕ) (w : Written zeros 0 t new n) where
-  pub first-size : n ≡ length t
-  first-size = omega (arith, w.ends)
-
-  pub first-text : take n new ≡ t
-  first-text =
-      let e : length t ≡ n = omega (arith, w.ends) in
-      ap (λ (l : Bytes). take n l) w.holds ∙ take_at t (drop (0 + length t) zeros) n e
-
--- the text that the lines hold, its size, and the number beside it
-module _ (l : Lines) (number : ℕ) (t : Bytes) (e : l ≡ lines_in number t) where
-  pub held_number : l.number ≡ number
-  unfolding lines_in
-  held_number = ap (λ (m : Lines). m.number) e
-
-  pub held-size : l.size ≡ length t
-  unfolding lines_in
-  held-size = ap (λ (m : Lines). m.size) e
-
-  pub held-text : take l.size l.bytes ≡ t
-  unfolding lines_in
-  held-text = ap (λ (m : Lines). take m.size m.bytes) e ∙ take_at t _ (length t) refl

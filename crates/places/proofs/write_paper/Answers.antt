@@ -1,6 +1,6 @@
 use Rattle.paper.specs.View.{paper_of}
 use Rattle.places.proofs.write_paper.Goals as goal
 
-pub returns : goal.returns
+pub returns-clause-out : goal.returns-clause-out
 unfolding paper_of
-returns c = rw (← c.from.ensures, ← c.from-2.ensures) c.write_values.ensures
+returns-clause-out c = rw (← c.from.ensures, ← c.from-2.ensures) c.write_values.ensures

@@ -3,7 +3,7 @@ use lib.ListN.{length-set}
 use native.Mathlib.Omega.{arith}
 use Rattle.places.proofs.Places.{too_few}
 use Rattle.places.proofs.Sittings.{counts-none, counts-more, sums-written, kept-3}
-use Rattle.places.proofs.write_sums.Goals as goal
+use Rattle.places.proofs.write_sitting.Goals as goal
 
 pub returns-then-out : goal.returns-then-out
 returns-then-out c = too_few _ _ (omega arith)
@@ -22,4 +22,4 @@ shape_of-out c = c.loop-k.invariant.0.kept ∙ kept-3 _ _ _ _
 
 pub returns : goal.returns
 returns c = let a = c.args in
-    rw (← c.from.ensures, ← c.from-2.ensures) (sums-written _ _ _ a.r.counts a.out.now c.loop-k.out c.loop-k.k (omega arith) (omega arith) c.loop-k.invariant.0)
+    rw (← c.from.ensures, ← c.from-2.ensures) (sums-written _ _ _ a.s.counts a.out.now c.loop-k.out c.loop-k.k (omega arith) (omega arith) c.loop-k.invariant.0)
