@@ -16,7 +16,7 @@ use Rattle.maps.specs.View.{rules_or_refusal}
 use Rattle.maps.proofs.Judged.{judged-ok, judged-err}
 use Rattle.paper.specs.View.{paper_of}
 use Rattle.paper.specs.declared.PaperVerdict.{PaperVerdict}
-use Rattle.paper.proofs.Markings.{refused_as, PaperMarks}
+use Rattle.paper.proofs.Markings.{refused_as}
 
 -- what is promised
 abbrev pub PaperMarksWith : Bytes → Options → Bytes → List ℕ → PaperVerdict → List ℕ → Type 0

@@ -1,4 +1,4 @@
-use Rattle.std.proofs.Common.{arith, ◌+◌, ◌*◌, ◌<◌, length}
+use Rattle.std.proofs.Common.{arith, ◌*◌, ◌<◌, length}
 use Rattle.definition.specs.Papers.{fragments}
 use Rattle.walk.specs.Runs.{rules_in}
 use Rattle.paper.specs.View.{fragment_analysis}
