@@ -1,13 +1,11 @@
 -- Stores into lent places.
 use mathlib.Core.Bool.{Bool, true, false}
-use mathlib.Core.List.{List, [], ◌∷◌, ◌++◌}
-use mathlib.Core.Path.{◌≡◌, refl, ap, ◌∙◌}
-use Prim.Native.Nat.{ℕ, suc, ◌+◌, ◌≤◌, ◌<◌}
-use native.Mathlib.Omega.{arith}
+use mathlib.Core.List.{List, ◌++◌}
+use mathlib.Core.Path.{◌≡◌, refl, ◌∙◌}
+use Prim.Native.Nat.{◌≤◌, ◌<◌}
 use borrow.Author.Tests.{lt-ltb, le-ltb, leb-true, leb-false}
 use lib.Dec.{leb}
-use lib.ListN.{length, take, drop, set}
-use lib.Seq.{take_at}
+use lib.ListN.{length, drop}
 use Rattle.definition.specs.Basics.{Bytes, pick}
 use Rattle.places.specs.View.{written}
 
@@ -29,4 +27,3 @@ where-room t out new e = e ∙ by (leb (length t) (length out)) refl
     by : (b : Bool) → leb (length t) (length out) ≡ b → pick (leb (length t) (length out)) (t ++ drop (length t) out) out ≡ written t out
     by true h = rw (h, le-ltb (length out) (length t) (leb-true (length t) (length out) h))
     by false h = rw (h, lt-ltb (length out) (length t) (leb-false (length t) (length out) h))
-

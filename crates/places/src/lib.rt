@@ -35,23 +35,23 @@ pub fn write_values<T: Copy>(values: &[T], lent: &mut [T])
 
 /// The verdict's numbers into the lent places, where there are nine of them: number, offset, two figures, rows, peak,
 /// whether there is an end (1 or 0), and the heights of its main and alt; and its number.
-pub fn write(v: Summary, out: &mut [u64]) -> u32
-    ensures number { result ≡ v.number }
-    ensures out { out.new ≡ written (summary_numbers v) out.old }
+pub fn write(s: Summary, out: &mut [u64]) -> u32
+    ensures number { result ≡ s.number }
+    ensures out { out.new ≡ written (summary_numbers s) out.old }
 {
     let numbers = [
-        u64::from(v.number),
-        v.offset as u64,
-        v.first,
-        v.second,
-        v.rows as u64,
-        u64::from(v.peak),
-        u64::from(v.ended),
-        u64::from(v.main),
-        u64::from(v.alt),
+        u64::from(s.number),
+        s.offset as u64,
+        s.first,
+        s.second,
+        s.rows as u64,
+        u64::from(s.peak),
+        u64::from(s.ended),
+        u64::from(s.main),
+        u64::from(s.alt),
     ];
     write_values(&numbers, out);
-    v.number
+    s.number
 }
 
 // The numbers of an item: its length, 255 where it is unknown; its bytes as one number, 0 where it is unknown; its mark, which is 0.
@@ -114,21 +114,21 @@ pub fn write_answer(a: Answer, out: &mut [u64]) -> u32
 
 /// The numbers of a verdict on a paper into the lent places, where there are seven of them: number, entry, offset, two
 /// figures, rows, peak; and its number.
-pub fn write_paper(v: PaperVerdict, out: &mut [u64]) -> u32
-    ensures number { result ≡ v.number }
-    ensures out { out.new ≡ written (paper_numbers (paper_of v)) out.old }
+pub fn write_paper(p: PaperVerdict, out: &mut [u64]) -> u32
+    ensures number { result ≡ p.number }
+    ensures out { out.new ≡ written (paper_numbers (paper_of p)) out.old }
 {
     let numbers = [
-        u64::from(v.number),
-        v.entry as u64,
-        v.offset as u64,
-        v.first,
-        v.second,
-        v.rows as u64,
-        u64::from(v.peak),
+        u64::from(p.number),
+        p.entry as u64,
+        p.offset as u64,
+        p.first,
+        p.second,
+        p.rows as u64,
+        u64::from(p.peak),
     ];
     write_values(&numbers, out);
-    v.number
+    p.number
 }
 
 /// A part's start and length into the lent places, where there are two of them.

@@ -1,4 +1,3 @@
-use mathlib.Core.Path.{◌∙◌}
 use Rattle.places.proofs.Places.{too_few, all-written}
 use Rattle.places.proofs.write_values.Goals as goal
 
