@@ -14,7 +14,6 @@ ghost use Rattle.definition.specs.Walk.{analysis};
 ghost use Rattle.definition.specs.Walk as Walk;
 ghost use Rattle.definition_rules.specs.Maps.{analysis_with, mark_paper_with, printed_with};
 ghost use Rattle.maps.specs.View.{year_map, map_size};
-ghost use Rattle.log_text.specs.LogText.{log_text, log_text_with};
 ghost use Rattle.reasons.specs.Reasons.{reason};
 ghost use Rattle.tally.specs.View.{Gives};
 ghost use Rattle.places.specs.View.{lent_options, written, verdict_numbers, end_numbers, answer_numbers, paper_numbers, sums_numbers, converted_numbers, display_start, part_numbers, tally_from, tally_numbers};
@@ -28,6 +27,7 @@ use walk::Options;
 
 /// The analysis of a fragment from main and alt unknown items: the verdict's number, its other numbers in `out`, and a row
 /// for each instruction met in `log`.
+#[tactic(auto, unfolding(stack_analysis::specs::View::summarized))]
 #[unsafe(no_mangle)]
 pub extern "C" fn listochur_analyze(
     fragment: &[u8],
@@ -52,6 +52,7 @@ pub extern "C" fn listochur_analyze(
 
 /// The same, and in `items` the items of the end stacks, three numbers to an item: main from bottom to top and then alt from
 /// bottom to top.
+#[tactic(auto, using(places::proofs::Items::verdicts))]
 #[unsafe(no_mangle)]
 pub extern "C" fn listochur_analyze_items(
     fragment: &[u8],
@@ -82,6 +83,7 @@ pub extern "C" fn listochur_analyze_items(
 
 /// The analysis of a fragment by a lent map and a lent limit, in plain mode where `mode` is 0 and else in the examined one: as
 /// `listochur_analyze_items`, 28 and then 29 before all else.
+#[tactic(auto, using(places::proofs::Items::verdicts))]
 #[unsafe(no_mangle)]
 pub extern "C" fn listochur_analyze_with(
     fragment: &[u8],
@@ -119,6 +121,7 @@ pub extern "C" fn listochur_analyze_with(
 
 /// The map of a year, 0 the built-in one, 1 the classic one, into `map`: 260, its size, or 0 with nothing written for another year
 /// or a short `map`.
+#[tactic(auto, using(places::proofs::Places::rooms))]
 #[unsafe(no_mangle)]
 pub extern "C" fn listochur_map(year: u32, map: &mut [u8]) -> u32
     ensures size { result ≡ map_size year map.old }
@@ -143,6 +146,7 @@ pub extern "C" fn listochur_check_limits(bytecode: &[u8], out: &mut [u64]) -> u3
 
 /// The marking of a paper: the verdict's number, its numbers and the entry that it is about in `out`, and the rows of all
 /// fragments in `log`.
+#[tactic(auto, unfolding(paper::specs::View::paper_of))]
 #[unsafe(no_mangle)]
 pub extern "C" fn listochur_mark_paper(paper: &[u8], log: &mut [u16], out: &mut [u64]) -> u32
     ensures number { result
@@ -158,6 +162,7 @@ pub extern "C" fn listochur_mark_paper(paper: &[u8], log: &mut [u16], out: &mut 
 }
 
 /// The marking of a paper by a lent map and a lent limit, in a mode: as `listochur_mark_paper`, 28 and then 29 before all else.
+#[tactic(auto, unfolding(paper::specs::View::paper_of))]
 #[unsafe(no_mangle)]
 pub extern "C" fn listochur_mark_paper_with(
     paper: &[u8],
@@ -185,6 +190,7 @@ pub extern "C" fn listochur_mark_paper_with(
 
 /// The display: the length of the part, and its start in the fragment and its length in `out`. C has no slice to take back,
 /// so the part is told by these two numbers: what they cut out of the fragment is what is displayed.
+#[tactic(auto, using(places::proofs::Parts::parts))]
 #[unsafe(no_mangle)]
 pub extern "C" fn listochur_display<'a>(
     body: &'a [u8],
@@ -268,62 +274,6 @@ pub extern "C" fn listochur_mark_lines_with(
     };
     let l = lines::mark_lines_with(paper, map, options, log);
     write_lines(&l, text, out)
-}
-
-/// What `stacklog` prints of a paper, in `text` where it has room: the verdict's number, the size of the text in `out`, and the
-/// rows of all fragments in `log`.
-#[unsafe(no_mangle)]
-pub extern "C" fn listochur_log_lines(
-    paper: &[u8],
-    log: &mut [u16],
-    text: &mut [u8],
-    out: &mut [u64],
-) -> u32
-    ensures number { result
-        ≡ (mark_paper built_in paper.now log.old).paper.verdict.answer.number }
-    ensures logged { log.new ≡ (mark_paper built_in paper.now log.old).log }
-    ensures printed { text.new
-        ≡ written (log_text built_in paper.now log.old) text.old }
-    ensures written { out.new
-        ≡ written
-        (length (log_text built_in paper.now log.old) ∷ [])
-        out.old }
-{
-    let l = log_text::write_log(paper, log, text);
-    write_size(l.size, out);
-    l.number
-}
-
-/// The same by a lent map and a lent limit, in a mode, 28 and then 29 before all else.
-#[unsafe(no_mangle)]
-pub extern "C" fn listochur_log_lines_with(
-    paper: &[u8],
-    map: &[u8],
-    limit: u32,
-    mode: u32,
-    log: &mut [u16],
-    text: &mut [u8],
-    out: &mut [u64],
-) -> u32
-    ensures number { result
-        ≡ (mark_paper_with map.now (lent_options limit mode) paper.now log.old).paper.verdict.answer.number }
-    ensures logged { log.new ≡ (mark_paper_with map.now (lent_options limit mode) paper.now log.old).log }
-    ensures printed { text.new
-        ≡ written
-        (log_text_with map.now (lent_options limit mode) paper.now log.old)
-        text.old }
-    ensures written { out.new
-        ≡ written
-        (length (log_text_with map.now (lent_options limit mode) paper.now log.old) ∷ [])
-        out.old }
-{
-    let options = Options {
-        limit,
-        examined: mode != 0,
-    };
-    let w = log_text::write_log_with(paper, map, options, log, text);
-    write_size(w.size, out);
-    w.number
 }
 
 /// A verdict's number and figures in words, in `text` where it has room: the number, and the size of the words in `out`. A number

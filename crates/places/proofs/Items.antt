@@ -19,9 +19,7 @@ use Rattle.decode.specs.declared.Value.{Value}
 use Rattle.decode.specs.declared.Value.TheVariants.{Unknown, Exact}
 use Rattle.ends.specs.View.{items_of, packed_end, no_stacks}
 use Rattle.ends.proofs.Ends.{items-length, packed-main, packed-alt}
-use Rattle.stack_analysis.specs.View.{end_stacks, packed_verdict, end_main, end_alt, summarized}
-use Rattle.stack_analysis.specs.declared.Summary.{Summary}
-use Rattle.stack_analysis.specs.declared.Verdict.{Verdict}
+use Rattle.stack_analysis.specs.View.{end_stacks, packed_verdict, end_main, end_alt}
 use Rattle.places.specs.View.{written, verdict_numbers, items_numbers, end_numbers}
 use Rattle.places.specs.Parts.{value_numbers, summary_numbers, in_heights, struct_numbers}
 use Rattle.places.proofs.Places.{too_few, all-written}
@@ -91,28 +89,26 @@ end_is : (c : Arm) → struct_numbers (end_stacks c) ≡ end_numbers c
 end_is dead = struct_is no_stacks
 end_is (live s) = struct_is s
 
--- by the verdict in heights
-pub summary-is : (u : W.Verdict) (v : Summary) → v ≡ summarized u → (v.number ≡ u.answer.number) × (summary_numbers v ≡ verdict_numbers u)
-unfolding summarized
-summary-is u v e = (ap (λ (x : Summary). x.number) e, ap summary_numbers e)
+-- by the verdict with its end
+module _ (u : W.Verdict) where
+  main-is : (c : Arm) → (end_stacks c).main ≡ end_main c
+  main-is dead = packed-main no_stacks
+  main-is (live s) = packed-main s
 
-pub record Numbers (u : W.Verdict) (v : Verdict) : Type 0 where
-  pub number : v.number ≡ u.answer.number
-  pub heights : summary_numbers (in_heights v) ≡ verdict_numbers u
-  pub items : struct_numbers v.end ≡ end_numbers u.end
+  alt-is : (c : Arm) → (end_stacks c).alt ≡ end_alt c
+  alt-is dead = packed-alt no_stacks
+  alt-is (live s) = packed-alt s
 
-pub verdict-is : (u : W.Verdict) (v : Verdict) → v ≡ packed_verdict u → Numbers u v
-unfolding packed_verdict
-verdict-is u v e = record {
-  number = ap (λ (x : Verdict). x.number) e;
-  heights = ap (λ (x : Verdict). summary_numbers (in_heights x)) e ∙ rw (main-is u.end, alt-is u.end);
-  items = ap (λ (x : Verdict). struct_numbers x.end) e ∙ end_is u.end;
-}
-  where
-    main-is : (c : Arm) → (end_stacks c).main ≡ end_main c
-    main-is dead = packed-main no_stacks
-    main-is (live s) = packed-main s
+  pub verdict-number : (packed_verdict u).number ≡ u.answer.number
+  unfolding packed_verdict
+  verdict-number = refl
 
-    alt-is : (c : Arm) → (end_stacks c).alt ≡ end_alt c
-    alt-is dead = packed-alt no_stacks
-    alt-is (live s) = packed-alt s
+  pub verdict-heights : summary_numbers (in_heights (packed_verdict u)) ≡ verdict_numbers u
+  unfolding packed_verdict
+  verdict-heights = rw (main-is u.end, alt-is u.end)
+
+  pub verdict-items : struct_numbers (packed_verdict u).end ≡ end_numbers u.end
+  unfolding packed_verdict
+  verdict-items = end_is u.end
+
+pub ruleset verdicts = (verdict-number, verdict-heights, verdict-items)

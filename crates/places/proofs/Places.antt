@@ -19,11 +19,16 @@ pub all-written : {A : Type 0} (values out : List A) → length values ≤ lengt
 unfolding written
 all-written values out h = rw (le-ltb (length out) (length values) h)
 
+pub ruleset values = (too_few, all-written)
+
 -- a text written where there is room for it, by the other test
-pub where-room : (t out new : Bytes) → new ≡ pick (leb (length t) (length out)) (t ++ drop (length t) out) out → new ≡ written t out
-unfolding written
-where-room t out new e = e ∙ by (leb (length t) (length out)) refl
-  where
-    by : (b : Bool) → leb (length t) (length out) ≡ b → pick (leb (length t) (length out)) (t ++ drop (length t) out) out ≡ written t out
-    by true h = rw (h, le-ltb (length out) (length t) (leb-true (length t) (length out) h))
-    by false h = rw (h, lt-ltb (length out) (length t) (leb-false (length t) (length out) h))
+module _ (t out : Bytes) where
+  by-room : (b : Bool) → leb (length t) (length out) ≡ b → pick (leb (length t) (length out)) (t ++ drop (length t) out) out ≡ written t out
+  unfolding written
+  by-room true h = rw (h, le-ltb (length out) (length t) (leb-true (length t) (length out) h))
+  by-room false h = rw (h, lt-ltb (length out) (length t) (leb-false (length t) (length out) h))
+
+  pub where-room : pick (leb (length t) (length out)) (t ++ drop (length t) out) out ≡ written t out
+  where-room = by-room (leb (length t) (length out)) refl
+
+pub ruleset rooms = (where-room)

@@ -25,6 +25,7 @@ use text::Line;
 
 /// Values into the first of the lent places, where there are that many: the rest stays as lent, and all of it where there are
 /// fewer.
+#[tactic(auto, using(crate::proofs::Places::values))]
 pub fn write_values<T: Copy>(values: &[T], lent: &mut [T])
     ensures { lent.new ≡ written values.now lent.old }
 {
@@ -114,6 +115,7 @@ pub fn write_answer(a: Answer, out: &mut [u64]) -> u32
 
 /// The numbers of a verdict on a paper into the lent places, where there are seven of them: number, entry, offset, two
 /// figures, rows, peak; and its number.
+#[tactic(auto, unfolding(paper::specs::View::paper_of))]
 pub fn write_paper(p: PaperVerdict, out: &mut [u64]) -> u32
     ensures number { result ≡ p.number }
     ensures out { out.new ≡ written (paper_numbers (paper_of p)) out.old }
@@ -226,6 +228,7 @@ pub fn tally_from(counters: &[u32; 4]) -> Tally
 }
 
 /// Where the part that is displayed starts in its fragment.
+#[tactic(auto, using(crate::proofs::Parts::starts))]
 pub fn display_start(body: &[u8], init: &[u8], offset: usize, mark: u32) -> usize
     ensures { result ≡ display_start body.now init.now offset mark }
 {
