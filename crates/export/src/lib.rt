@@ -14,6 +14,7 @@ ghost use Rattle.definition.specs.Walk.{analysis};
 ghost use Rattle.definition.specs.Walk as Walk;
 ghost use Rattle.definition_rules.specs.Maps.{analysis_with, mark_paper_with, printed_with};
 ghost use Rattle.maps.specs.View.{year_map, map_size};
+ghost use Rattle.log_text.specs.LogText.{log_text, log_text_with};
 ghost use Rattle.reasons.specs.Reasons.{reason};
 ghost use Rattle.tally.specs.View.{Gives};
 ghost use Rattle.places.specs.View.{lent_options, written, verdict_numbers, end_numbers, answer_numbers, paper_numbers, sums_numbers, converted_numbers, display_start, part_numbers, tally_from, tally_numbers};
@@ -274,6 +275,64 @@ pub extern "C" fn listochur_mark_lines_with(
     };
     let l = lines::mark_lines_with(paper, map, options, log);
     write_lines(&l, text, out)
+}
+
+/// What `stacklog` prints of a paper, in `text` where it has room: the verdict's number, the size of the text in `out`, and the
+/// rows of all fragments in `log`.
+#[tactic(auto, using(places::proofs::Places::rooms))]
+#[unsafe(no_mangle)]
+pub extern "C" fn listochur_log_lines(
+    paper: &[u8],
+    log: &mut [u16],
+    text: &mut [u8],
+    out: &mut [u64],
+) -> u32
+    ensures number { result
+        ≡ (mark_paper built_in paper.now log.old).paper.verdict.answer.number }
+    ensures logged { log.new ≡ (mark_paper built_in paper.now log.old).log }
+    ensures printed { text.new
+        ≡ written (log_text built_in paper.now log.old) text.old }
+    ensures written { out.new
+        ≡ written
+        (length (log_text built_in paper.now log.old) ∷ [])
+        out.old }
+{
+    let l = log_text::write_log(paper, log, text);
+    write_size(l.size, out);
+    l.number
+}
+
+/// The same by a lent map and a lent limit, in a mode, 28 and then 29 before all else.
+#[tactic(auto, using(places::proofs::Places::rooms))]
+#[unsafe(no_mangle)]
+pub extern "C" fn listochur_log_lines_with(
+    paper: &[u8],
+    map: &[u8],
+    limit: u32,
+    mode: u32,
+    log: &mut [u16],
+    text: &mut [u8],
+    out: &mut [u64],
+) -> u32
+    ensures number { result
+        ≡ (mark_paper_with map.now (lent_options limit mode) paper.now log.old).paper.verdict.answer.number }
+    ensures logged { log.new ≡ (mark_paper_with map.now (lent_options limit mode) paper.now log.old).log }
+    ensures printed { text.new
+        ≡ written
+        (log_text_with map.now (lent_options limit mode) paper.now log.old)
+        text.old }
+    ensures written { out.new
+        ≡ written
+        (length (log_text_with map.now (lent_options limit mode) paper.now log.old) ∷ [])
+        out.old }
+{
+    let options = Options {
+        limit,
+        examined: mode != 0,
+    };
+    let w = log_text::write_log_with(paper, map, options, log, text);
+    write_size(w.size, out);
+    w.number
 }
 
 /// A verdict's number and figures in words, in `text` where it has room: the number, and the size of the words in `out`. A number

@@ -72,6 +72,8 @@ module _ (values : List Value) (lent : List ℕ) where
       sym (take-append-drop (3 * n) items) ∙ rw (m.stands, m.rest)
       (rw (← taken-length n h) (all-written (flat_map value_numbers (take n values)) lent (omega (arith, taken-length n h))))
 
+pub ruleset listings = (listing_none, listing-more, too-few-items, all_listed)
+
 -- The numbers are those of the definition's verdict
 
 value-is : (l : List Item) → flat_map value_numbers (map value_of l) ≡ items_numbers l

@@ -66,6 +66,7 @@ fn item_numbers(item: Value) -> [u64; 3]
 }
 
 /// The numbers of the items of end stacks into the lent places, where there are three of them to an item.
+#[tactic(auto, using(crate::proofs::Items::listings))]
 pub fn write_items(e: &EndStacks, items: &mut [u64])
     requires { e.now.main + e.now.alt ≤ 244 }
     ensures { items.new ≡ written (struct_numbers e.now) items.old }
@@ -167,6 +168,7 @@ pub fn write_lines(l: &Lines, text: &mut [u8], out: &mut [u64]) -> u32
 }
 
 // A number and the sums over a sitting into the lent places, where there are that many of them.
+#[tactic(auto, using(crate::proofs::Sittings::sittings))]
 fn write_sitting(number: u32, s: SittingSums, out: &mut [u64])
     ensures { out.new ≡ written (number ∷ s.sum ∷ s.count ∷ s.counts) out.old }
 {
