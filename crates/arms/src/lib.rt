@@ -75,7 +75,9 @@ pub fn arm(
     }
 }
 
-// Walks the conditional at whose IF or NOTIF w stands, of one or two arms, up to and with its ENDIF.
+// Walks the conditional at whose IF or NOTIF w stands, of one or two arms, up to and with its ENDIF. It has the stacks of an arm
+// among its locals, which an arm without conditionals is not to pay for, so it is not compiled into `arm`.
+#[inline(never)]
 #[cycle(arm_conditional)]
 fn conditional(
     code: &[u8],
@@ -89,14 +91,15 @@ fn conditional(
     ensures { Closes (rules_in rules.entry) code.now depth w.old log.old w.new result log.new }
 {
     enter(w, depth)?;
-    let start = w.stacks;
+    // what ENDIF joins with the last arm: the empty one, as it starts, or the first
+    let mut other = w.stacks;
     match arm(code, log, rules, w, depth + 1)? {
         ArmEnd::Else => {
             // the second arm starts from the same stacks
-            let first = mem::replace(&mut w.stacks, start);
+            mem::swap(&mut w.stacks, &mut other);
             let end = arm(code, log, rules, w, depth + 1)?;
-            finish(w, end, &first)
+            finish(w, end, &other)
         }
-        end => finish(w, end, &start),
+        end => finish(w, end, &other),
     }
 }

@@ -135,13 +135,13 @@ module _ (s : Bytes) (p : ℕ) (i : Instruction) (t : InstructionAt s p i) (d : 
   start = ap (λ n. p + 1 + length_bytes n) fronted.opcode
 
   -- the data begin before the next instruction
-  data-least : i.opcode ≤ 0x4e → data_start s p ≤ i.next
+  pub data-least : i.opcode ≤ 0x4e → data_start s p ≤ i.next
   data-least h =
       let f = fronted in
       omega (arith, start, (of-front i.opcode f.after f.rest t.literal h f.is).least, f.next)
 
   -- and are the literal
-  data-literal : i.opcode ≤ 0x4e → t.literal ≡ take (i.next - data_start s p) (drop (data_start s p) s)
+  pub data-literal : i.opcode ≤ 0x4e → t.literal ≡ take (i.next - data_start s p) (drop (data_start s p) s)
   data-literal h =
       let f = fronted in
       let n = length_bytes i.opcode in

@@ -7,13 +7,15 @@
 
 ghost use Rattle.std.specs.Prelude.{◌+◌, ◌*◌, ◌≤◌, ◌<◌, length};
 ghost use Rattle.definition_rules.specs.Maps.{Options, rules_by};
-ghost use Rattle.opcodes.specs.View.{ClassRows};
+ghost use Rattle.opcodes.specs.Classes.{rows_of as class_rows};
 ghost use Rattle.log_rows.specs.Rows.{main_at, alt_at, total_of, greatest, heading, row, rows_from, rows};
 ghost use Rattle.log_lines.specs.Log.{start, verdict_line};
 ghost use Rattle.log_blocks.specs.Blocks.{block};
 ghost use Rattle.log_blocks.specs.View.{Put};
 
 use log_lines::Told;
+use opcodes::Classes;
+use text::Line;
 
 // A line.
 pub fn put(text: &mut [u8], at: usize, go: bool, line: &[u8]) -> usize
@@ -22,10 +24,8 @@ pub fn put(text: &mut [u8], at: usize, go: bool, line: &[u8]) -> usize
     ensures near { result ≤ at + 256 }
 {
     let next = at + line.len();
-    if go {
-        if next <= text.len() {
-            return text::write_word(text, at, line);
-        }
+    if go && next <= text.len() {
+        return text::write_word(text, at, line);
     }
     next
 }
@@ -36,9 +36,9 @@ fn put_start(text: &mut [u8], at: usize, go: bool, paper: &[u8], k: usize) -> us
     ensures same { Put go text.old at (start paper.now k) text.new result }
     ensures near { result ≤ at + 256 }
 {
-    let mut line = [0u8; 256];
-    let n = log_lines::write_head(&mut line, paper, k);
-    put(text, at, go, &line[..n])
+    let mut line: Line<256> = Line::new();
+    log_lines::push_head(&mut line, paper, k);
+    put(text, at, go, line.as_slice())
 }
 
 // What stands over the columns.
@@ -47,9 +47,9 @@ fn put_heading(text: &mut [u8], at: usize, go: bool, scale: u32) -> usize
     ensures same { Put go text.old at (heading scale) text.new result }
     ensures near { result ≤ at + 256 }
 {
-    let mut line = [0u8; 256];
-    let n = log_rows::write_heading(&mut line, scale);
-    put(text, at, go, &line[..n])
+    let mut line: Line<256> = Line::new();
+    log_rows::push_heading(&mut line, scale);
+    put(text, at, go, line.as_slice())
 }
 
 // Row j of the log.
@@ -59,27 +59,26 @@ fn put_row(
     go: bool,
     fragment: &[u8],
     log: &[u16],
-    classes: &[u8],
+    classes: Classes,
     scale: u32,
     depth: usize,
     j: usize,
 ) -> usize
     requires at_bound { (at ≤ 1099511627776) × (3 * j + 3 ≤ length log.now) }
     requires le_scale { (1 ≤ scale) × (total_of (main_at log.now j) (alt_at log.now j) ≤ scale) }
-    requires class_rows { ClassRows classes.now }
     ensures same { (options : Options)
         → Put
         go
         text.old
         at
-        (row (rules_by classes.now options) fragment.now log.now scale depth j)
+        (row (rules_by (class_rows classes.entry) options) fragment.now log.now scale depth j)
         text.new
         result }
     ensures near { result ≤ at + 256 }
 {
-    let mut line = [0u8; 256];
-    let n = log_rows::write_row(&mut line, fragment, log, classes, scale, depth, j);
-    put(text, at, go, &line[..n])
+    let mut line: Line<256> = Line::new();
+    log_rows::push_row(&mut line, fragment, log, classes, scale, depth, j);
+    put(text, at, go, line.as_slice())
 }
 
 // `count` rows, the first of them row `from`.
@@ -89,32 +88,29 @@ fn put_rows(
     go: bool,
     fragment: &[u8],
     log: &[u16],
-    classes: &[u8],
+    classes: Classes,
     scale: u32,
     from: usize,
     count: usize,
 ) -> usize
     requires count_bound { (at + 256 * count ≤ 1099511627776) × (3 * (from + count) ≤ length log.now) }
     requires le_scale { (1 ≤ scale) × (greatest log.now from count ≤ scale) }
-    requires class_rows { ClassRows classes.now }
     ensures same { (options : Options)
         → Put
         go
         text.old
         at
-        (rows_from (rules_by classes.now options) fragment.now log.now scale 0 from count)
+        (rows_from (rules_by (class_rows classes.entry) options) fragment.now log.now scale 0 from count)
         text.new
         result }
     ensures near { result ≤ at + 256 * count }
 {
     let mut next = at;
-    let mut depth: usize = 0;
-    let mut j: usize = 0;
-    while j < count {
+    let mut depth = 0;
+    for j in 0..count {
         let row = from + j;
         next = put_row(text, next, go, fragment, log, classes, scale, depth, row);
         depth = log_rows::depth_after(log_rows::class_of_row(fragment, log, classes, row), depth);
-        j += 1;
     }
     next
 }
@@ -126,19 +122,18 @@ fn put_table(
     go: bool,
     fragment: &[u8],
     log: &[u16],
-    classes: &[u8],
+    classes: Classes,
     peak: u32,
     from: usize,
     count: usize,
 ) -> usize
     requires count_bound { (at + 256 * count + 256 ≤ 1099511627776) × (3 * (from + count) ≤ length log.now) }
-    requires class_rows { ClassRows classes.now }
     ensures same { (options : Options)
         → Put
         go
         text.old
         at
-        (rows (rules_by classes.now options) fragment.now log.now peak from count)
+        (rows (rules_by (class_rows classes.entry) options) fragment.now log.now peak from count)
         text.new
         result }
     ensures near { result ≤ at + 256 * count + 256 }
@@ -158,25 +153,24 @@ fn put_verdict(
     go: bool,
     fragment: &[u8],
     log: &[u16],
-    classes: &[u8],
+    classes: Classes,
     from: usize,
     t: Told,
 ) -> usize
     requires at_bound { (at ≤ 1099511627776) × (3 * (from + t.rows) ≤ length log.now) }
-    requires class_rows { ClassRows classes.now }
     ensures same { (options : Options)
         → Put
         go
         text.old
         at
-        (verdict_line (rules_by classes.now options) fragment.now log.now from t)
+        (verdict_line (rules_by (class_rows classes.entry) options) fragment.now log.now from t)
         text.new
         result }
     ensures near { result ≤ at + 256 }
 {
-    let mut line = [0u8; 256];
-    let n = log_lines::write_verdict(&mut line, fragment, log, classes, from, t);
-    put(text, at, go, &line[..n])
+    let mut line: Line<256> = Line::new();
+    log_lines::push_verdict(&mut line, fragment, log, classes, from, t);
+    put(text, at, go, line.as_slice())
 }
 
 // Fragment k of a paper, its first row row `from` of the log.
@@ -186,24 +180,23 @@ pub fn put_block(
     go: bool,
     paper: &[u8],
     log: &[u16],
-    classes: &[u8],
+    classes: Classes,
     k: usize,
     from: usize,
     t: Told,
 ) -> usize
     requires rows_bound { (at + 256 * t.rows + 1000 ≤ 1099511627776) × (3 * (from + t.rows) ≤ length log.now) }
-    requires class_rows { ClassRows classes.now }
     ensures same { (options : Options)
         → Put
         go
         text.old
         at
-        (block (rules_by classes.now options) paper.now log.now k from t)
+        (block (rules_by (class_rows classes.entry) options) paper.now log.now k from t)
         text.new
         result }
     ensures near { result ≤ at + 256 * t.rows + 1000 }
 {
-    let fragment = fragments::fragment_bytes(paper, k);
+    let fragment = log_lines::fragment_at(paper, k).bytes;
     let a = put_start(text, at, go, paper, k);
     let b = put_table(text, a, go, fragment, log, classes, t.peak, from, t.rows);
     put_verdict(text, b, go, fragment, log, classes, from, t)

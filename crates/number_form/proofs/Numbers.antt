@@ -164,9 +164,6 @@ sign-only b lt h = by (eqb b 0x00) refl
     by true e = refl
     by false e = eq-eqb b 0x80 (omega (arith, eqb-false b 0x00 e))
 
-minimal-one : (n : ℕ) → last (low_bytes 1 n) % 128 ≡ 0 → minimal (low_bytes 1 n) ≡ false
-minimal-one n h = rw (sign-only (n % 256) (omega arith) h)
-
 minimal-more : (k n : ℕ) → last (low_bytes (suc (suc k)) n) % 128 ≡ 0 → minimal (low_bytes (suc (suc k)) n) ≡ leb 0x80 (last (low_bytes (suc k) n))
 minimal-more zero n h = rw (sign-only (n / 256 % 256) (omega arith) h, or-false (leb 0x80 (n % 256)))
 minimal-more (suc k) n h = minimal-more k (n / 256) h

@@ -16,7 +16,6 @@ use Rattle.refusals.specs.View.{refusal_of}
 use Rattle.refusals.specs.declared.Refusal.{Refusal}
 use Rattle.decode.specs.View.{low_bytes, item_of, value_of, Held}
 use Rattle.decode.specs.declared.Value.{Value}
-use Rattle.decode.specs.declared.Value.TheVariants.{Unknown}
 use Rattle.decode.proofs.Bytes.{length-low}
 use Rattle.number_form.proofs.Numbers.{held_number, item-of-number}
 use Rattle.slots.specs.View.{Slots, slot_item, cells, Canon}
@@ -56,9 +55,6 @@ module _ (code n : ℕ) where
   pub size-value : (len : ℕ) (v : Value) → (code ≡ 9 → ⊥) → len ≡ code_length code → v ≡ value_of (known (serialize (plus len))) → v ≡ value_of (size_item marking (bytes_known (slot_item code n)))
   size-value len v g e h = h ∙ ap value_of (sym (sized code n len g e))
 
-  pub size-none : code ≡ 9 → Unknown ≡ value_of (size_item marking (bytes_known (slot_item code n)))
-  size-none e = sym (ap value_of (size-unknown e))
-
   size_is : (Held (value_of (size_item marking (bytes_known (slot_item code n))))) × (item_of (value_of (size_item marking (bytes_known (slot_item code n)))) ≡ size_item marking (bytes_known (slot_item code n)))
   size_is = either code 9 _
       (λ e. rw (size-unknown e) (tt, refl))
@@ -89,9 +85,6 @@ module _ (limit n : ℕ) (t u : S.Stacks Item) where
   pub zk-drop-done : drop_items n t ≡ S.done u → zk_drop marking limit n t ≡ push_item limit (slot_item 11 0) u
   unfolding serialize
   zk-drop-done e = rw e
-
-  pub zk-drop-refused : (f : Refusal) → drop_items n t ≡ S.refused (refusal_of f) → zk_drop marking limit n t ≡ S.refused (refusal_of f)
-  zk-drop-refused f e = rw e
 
 -- the tag in a slot
 tag-other : (code n : ℕ) → Canon code n → (code ≡ 0x2b → ⊥) → (code ≡ 0x2a → ⊥) → tag_of (bytes_known (slot_item code n)) ≡ no_tag

@@ -125,12 +125,9 @@ module _ (p : Slots) (m a : ℕ) (c : Result ℕ Refusal) (k : PopsIn p m a c) w
     at_small : (n < 2 ^ 63) × (1 ≤ m)
     at_small = rw e at k.small
 
-    -- the next number fits, and there was an item
+    -- the next number fits
     pub next_fits : Fits w64 (n + 1)
     next_fits = let h = at_small.0 in record { fits = omega arith }
-
-    pub had-one : 1 ≤ m
-    had-one = at_small.1
 
     pub on-at : (next : ℕ → S.Stacks Item → S.Outcome Item) → pop_index marking (stacks_in p m a) next ≡ next n (stacks_in p (m - 1) a)
     on-at next = k.same next ∙ rw e

@@ -8,7 +8,7 @@ ghost use Rattle.slots.specs.View.{slots, Sound};
 use decode::Value;
 use number_form::{number_value, read_index};
 use refusals::Refusal;
-use slots::{UNKNOWN, code_length, code_of, join_bytes, join_codes, slot_value, suffices};
+use slots::{UNKNOWN, code_length, code_of, join_bytes, join_codes, slot_value};
 
 /// How many items the two stacks may hold together, as a caller lends it.
 #[derive(Clone, Copy, Debug, PartialEq, Eq)]
@@ -36,8 +36,9 @@ impl Limit {
 }
 
 /// Both stacks lie in the same 244 slots: main from the bottom, alt from the top end. A slot has a code and bytes, as the
-/// crate slots has them: a code is one byte, so that codes and bytes in two arrays take little more than half the memory
-/// of one array of pairs.
+/// crate slots has them.
+// Codes and bytes stand in two arrays: in one array of values the stacks take nearly twice the memory, and a join ten times
+// the instructions.
 #[derive(Clone, Copy)]
 pub struct Stacks {
     pub bytes: [u64; 244],

@@ -11,13 +11,14 @@
 ghost use Rattle.std.specs.Prelude.{◌≡◌};
 ghost use Rattle.definition.specs.Walk as Walk;
 ghost use Rattle.definition.specs.Walk.{Verdict};
-ghost use Rattle.tally.specs.View.{tally_of, tallied_of, Gives};
+ghost use Rattle.tally.specs.View.{tally_of, answer_of, Gives};
 
 use arrayvec::ArrayVec;
 use cases::{bytes, height, next_part, numbers};
-use refusals::Answer;
+use refusals::{Answer, Refusal};
 use std::fmt;
 use std::io::Read;
+use tally::Tally;
 
 // The longest line that is understood.
 const LONGEST: usize = 20100;
@@ -114,32 +115,30 @@ fn display(rt: &impl Print, line: &[u8], room: &mut Room) -> Option<()> {
 
 // The tally with one verdict more, of this number, rows and peak, or 22 with the tally as it was: `gain`, on a tally that
 // is lent to it.
-fn gain_once(t: tally::Tally, number: u32, rows: usize, peak: u32) -> tally::Tallied
-    ensures { (v : Verdict) → Gives v number rows peak → result ≡ tallied_of (Walk.gain (tally_of t) v) }
+fn gain_once(tally: Tally, number: u32, rows: usize, peak: u32) -> (Tally, Result<(), Refusal>)
+    ensures { (v : Verdict)
+        → Gives v number rows peak
+        → answer_of (tally_of result.0) result.1 ≡ Walk.gain (tally_of tally) v }
 {
-    let mut lent = t;
-    let answer = tally::gain(&mut lent, number, rows, peak);
-    tally::Tallied {
-        tally: lent,
-        answer,
-    }
+    let mut lent = tally;
+    let answer = lent.gain(number, rows, peak);
+    (lent, answer)
 }
 
 // `tally FRAGMENTS ACCEPTED ROWS PEAK NUMBER VROWS VPEAK`, from FRAGMENTS on.
 fn tally(rt: &impl Print, line: &[u8]) -> Option<()> {
     let [fragments, accepts, rows, peak, number, more_rows, its_peak] = numbers::<7>(line)?;
-    let tally = tally::Tally {
+    let tally = Tally {
         fragments,
         accepts,
         rows,
         peak,
     };
-    let tally::Tallied { tally: t, answer } = gain_once(
-        tally,
-        number,
-        more_rows as usize,
-        its_peak,
-    );
+    let (t, answer) = gain_once(tally, number, more_rows as usize, its_peak);
+    let answer = match answer {
+        Ok(()) => 0,
+        Err(refusal) => refusal.number(),
+    };
     let _ = println!(rt;
         "tally {answer} {} {} {} {}",
         t.fragments, t.accepts, t.rows, t.peak

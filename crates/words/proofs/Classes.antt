@@ -1,40 +1,49 @@
--- The class whose number is 0.
-use mathlib.Core.Path.{◌≡◌, refl}
-use native.Mathlib.Omega.{arith}
+-- A class by its number.
+use mathlib.Core.List.{List, [], ◌∷◌}
+use mathlib.Core.Path.{◌≡◌, refl, sym, ap, ◌∙◌}
+use lib.ListN.{get_or}
 use Rattle.opcodes.specs.Class.{number_of}
 use Rattle.opcodes.specs.declared.Class.{Class}
 use Rattle.opcodes.specs.declared.Class.TheVariants.{Unmodelled, Push, Nothing, If, NotIf, Else, EndIf, Return, ToAlt, FromAlt, Depth, Size, Nip, Tuck, Pick, Roll, Zk, Dup, TwoDup, ThreeDup, Over, TwoOver, Rot, TwoRot, Swap, TwoSwap, Effect10, Effect20, Effect01, Effect11, Effect31, Effect21}
 
-pub zero-class : (class : Class) → number_of class ≡ 0 → class ≡ Unmodelled
-zero-class Unmodelled e = refl
-zero-class Push e = absurd (omega arith)
-zero-class Nothing e = absurd (omega arith)
-zero-class If e = absurd (omega arith)
-zero-class NotIf e = absurd (omega arith)
-zero-class Else e = absurd (omega arith)
-zero-class EndIf e = absurd (omega arith)
-zero-class Return e = absurd (omega arith)
-zero-class ToAlt e = absurd (omega arith)
-zero-class FromAlt e = absurd (omega arith)
-zero-class Depth e = absurd (omega arith)
-zero-class Size e = absurd (omega arith)
-zero-class Nip e = absurd (omega arith)
-zero-class Tuck e = absurd (omega arith)
-zero-class Pick e = absurd (omega arith)
-zero-class Roll e = absurd (omega arith)
-zero-class Zk e = absurd (omega arith)
-zero-class Dup e = absurd (omega arith)
-zero-class TwoDup e = absurd (omega arith)
-zero-class ThreeDup e = absurd (omega arith)
-zero-class Over e = absurd (omega arith)
-zero-class TwoOver e = absurd (omega arith)
-zero-class Rot e = absurd (omega arith)
-zero-class TwoRot e = absurd (omega arith)
-zero-class Swap e = absurd (omega arith)
-zero-class TwoSwap e = absurd (omega arith)
-zero-class Effect10 e = absurd (omega arith)
-zero-class Effect20 e = absurd (omega arith)
-zero-class Effect01 e = absurd (omega arith)
-zero-class Effect11 e = absurd (omega arith)
-zero-class Effect31 e = absurd (omega arith)
-zero-class Effect21 e = absurd (omega arith)
+-- the classes in the order of their numbers
+abbrev pub by_number : List Class
+by_number = Unmodelled ∷ Push ∷ Nothing ∷ If ∷ NotIf ∷ Else ∷ EndIf ∷ Return ∷ ToAlt ∷ FromAlt ∷ Depth ∷ Size ∷ Nip ∷ Tuck ∷ Pick ∷ Roll ∷ Zk ∷ Dup ∷ TwoDup ∷ ThreeDup ∷ Over ∷ TwoOver ∷ Rot ∷ TwoRot ∷ Swap ∷ TwoSwap ∷ Effect10 ∷ Effect20 ∷ Effect01 ∷ Effect11 ∷ Effect31 ∷ Effect21 ∷ []
+
+numbered : (class : Class) → get_or by_number (number_of class) Unmodelled ≡ class
+numbered Unmodelled = refl
+numbered Push = refl
+numbered Nothing = refl
+numbered If = refl
+numbered NotIf = refl
+numbered Else = refl
+numbered EndIf = refl
+numbered Return = refl
+numbered ToAlt = refl
+numbered FromAlt = refl
+numbered Depth = refl
+numbered Size = refl
+numbered Nip = refl
+numbered Tuck = refl
+numbered Pick = refl
+numbered Roll = refl
+numbered Zk = refl
+numbered Dup = refl
+numbered TwoDup = refl
+numbered ThreeDup = refl
+numbered Over = refl
+numbered TwoOver = refl
+numbered Rot = refl
+numbered TwoRot = refl
+numbered Swap = refl
+numbered TwoSwap = refl
+numbered Effect10 = refl
+numbered Effect20 = refl
+numbered Effect01 = refl
+numbered Effect11 = refl
+numbered Effect31 = refl
+numbered Effect21 = refl
+
+-- two classes of one number are the same
+pub class-by_number : (c d : Class) → number_of c ≡ number_of d → c ≡ d
+class-by_number c d e = sym (numbered c) ∙ ap (λ n. get_or by_number n Unmodelled) e ∙ numbered d

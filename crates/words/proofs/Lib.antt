@@ -1,4 +1,4 @@
 -- The laws behind the functions.
 pub mod Words
 pub mod Sizes
-mod Classes
+pub mod Classes

@@ -30,14 +30,14 @@ pub conditional-returns-in_err-end-in-Else : goal.conditional-returns-in_err-end
 conditional-returns-in_err-end-in-Else t c =
     let e : c.from_residual-in_err-end-in-Else.result ≡ Err c.in_err-end-in-Else.field-0.0 = search rules in
     let else : c.arm.result ≡ Ok Else = rw c.in-Else.is at c.in_ok-end.was in
-    let other = rw c.replace-first.ensures.after at c.arm-in-Else.ensures in
+    let other = rw c.swap.ensures.x_after at c.arm-in-Else.ensures in
     rw e (second_refused c.requires.ready (c.enter.ensures _ _) c.in_ok-enter.was c.arm.ensures else other _ c.in_err-end-in-Else.was)
 
 pub conditional-returns-in_ok-end-in-Else : goal.conditional-returns-in_ok-end-in-Else
 conditional-returns-in_ok-end-in-Else t c =
     let else : c.arm.result ≡ Ok Else = rw c.in-Else.is at c.in_ok-end.was in
-    let other = rw c.replace-first.ensures.after at c.arm-in-Else.ensures in
-    let last = rw c.replace-first.ensures.value at (c.finish.ensures (rules_in c.args.rules) c.args.code.now) in
+    let other = rw c.swap.ensures.x_after at c.arm-in-Else.ensures in
+    let last = rw c.swap.ensures.y_after at (c.finish.ensures (rules_in c.args.rules) c.args.code.now) in
     two-arms c.requires.ready (c.enter.ensures _ _) c.in_ok-enter.was c.arm.ensures else other _ c.in_ok-end-in-Else.was last
 
 pub conditional-returns-in_default : goal.conditional-returns-in_default

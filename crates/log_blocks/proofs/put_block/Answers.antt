@@ -15,8 +15,8 @@ returns c = let x = c.args in
     record {
       same = λ options.
           put_as
-          (ap (λ (l : Bytes). start x.paper.now x.k ++ rows (rules_by x.classes.now options) l x.log.now x.t.peak x.from x.t.rows
-          ++ verdict_line (rules_by x.classes.now options) l x.log.now x.from x.t) c.fragment_bytes-fragment.ensures)
+          (ap (λ (l : Bytes). start x.paper.now x.k ++ rows (rules_by x.classes.rows.now options) l x.log.now x.t.peak x.from x.t.rows
+          ++ verdict_line (rules_by x.classes.rows.now options) l x.log.now x.from x.t) c.fragment_at.ensures)
           (then-put (then-put c.put_start-a.ensures.same (c.put_table-b.ensures.same options)) (c.put_verdict.ensures.same options));
       near = omega (arith, c.put_start-a.ensures.near, c.put_table-b.ensures.near, c.put_verdict.ensures.near);
     }

@@ -5,7 +5,8 @@ use lib.ListN.{get_or}
 use mathlib.Core.Path.{◌∙◌, sym}
 use Rattle.words.proofs.Words.{digit-none, digit-some, code-length, code-high, code-low, code-modelled, code-unmodelled}
 use Rattle.opcodes.specs.contracts.Class.{the_type}
-use Rattle.words.proofs.Classes.{zero-class}
+use Rattle.words.proofs.Classes.{class-by_number}
+use Rattle.opcodes.specs.declared.Class.TheVariants.{Unmodelled}
 use Rattle.words.proofs.unmodelled_read.Goals as goal
 
 pub returns-in_default : goal.returns-in_default
@@ -24,4 +25,4 @@ pub returns-then-eq : goal.returns-then-eq
 returns-then-eq c = code-unmodelled c.args.word.now c.requires.opens c.requires.begins (omega arith) _ (digit-some (get_or c.args.word.now 2 0) _ c.digit.ensures.same _ c.in_ok-digit.was) _ (digit-some (get_or c.args.word.now 3 0) _ c.digit-2.ensures.same _ c.in_ok-code.was) _ c.class_of.ensures (search rules)
 
 pub returns-else-eq : goal.returns-else-eq
-returns-else-eq c = code-modelled c.args.word.now c.requires.opens c.requires.begins (omega arith) _ (digit-some (get_or c.args.word.now 2 0) _ c.digit.ensures.same _ c.in_ok-digit.was) _ (digit-some (get_or c.args.word.now 3 0) _ c.digit-2.ensures.same _ c.in_ok-code.was) _ c.class_of.ensures (λ e. same_false the_type _ _ (sym c.eq.ensures ∙ c.if-eq.false) (zero-class c.class_of.result e))
+returns-else-eq c = code-modelled c.args.word.now c.requires.opens c.requires.begins (omega arith) _ (digit-some (get_or c.args.word.now 2 0) _ c.digit.ensures.same _ c.in_ok-digit.was) _ (digit-some (get_or c.args.word.now 3 0) _ c.digit-2.ensures.same _ c.in_ok-code.was) _ c.class_of.ensures (λ e. same_false the_type _ _ (sym c.eq.ensures ∙ c.if-eq.false) (class-by_number c.class_of.result Unmodelled e))
