@@ -9,7 +9,6 @@ put_blocks-p-requires-clause-count_bound c = (c.requires.count_bound.0, omega (a
 pub put_blocks-p-requires-clause-told_in_bounds : goal.put_blocks-p-requires-clause-told_in_bounds
 put_blocks-p-requires-clause-told_in_bounds c = omega (arith, c.requires.rows_in_bounds)
 
-
 pub returns-then-t-eq0 : goal.returns-then-t-eq0
 returns-then-t-eq0 c = λ options. log-accepted (rules_by c.args.classes.rows.now options) c.args.paper.now c.args.log.now c.args.m c.if-t-eq0.true (c.put_blocks-p.ensures.same options) c.put.ensures.same
 
