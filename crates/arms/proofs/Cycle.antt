@@ -1,17 +1,15 @@
 -- The arm walker and the conditional walker call each other.
-use Rattle.std.proofs.Common.{List, ◌∷◌, ◌≡◌, refl, ◌∙◌, ℕ, ◌+◌, ◌*◌, ◌-◌, ◌≤◌, ◌<◌, arith, length, Option, Result, Ok, Err, ap, subst, sym}
+use Rattle.std.proofs.Common.{List, ◌∷◌, ◌≡◌, ◌∙◌, ℕ, ◌+◌, ◌≤◌, ◌<◌, arith, length, Option, Result, Ok, Err, ap, subst, sym}
 use Rattle.definition.specs.Basics.{Bytes}
 use Rattle.definition.specs.Stacks.{Rules}
 use Rattle.definition.specs.Walk.{not_ended, ended, Frame}
 use Rattle.refusals.specs.declared.Refusal.{Refusal}
 use Rattle.stack.specs.declared.Stacks.{Stacks}
-use Rattle.walk.specs.Runs.{arm_of, running, met_conditional, ending, going, stopping, Stand, stand, resume, rows_at, Goes, Room, Ready, Runs}
+use Rattle.walk.specs.Runs.{arm_of, running, met_conditional, ending, Stand, stand, resume, rows_at, Goes, Room, Ready}
 use Rattle.walk.specs.declared.ArmEnd.{ArmEnd}
 use Rattle.walk.specs.declared.ArmEnd.TheVariants.{Else}
 use Rattle.walk.specs.declared.Place.{Place}
-use Rattle.walk.specs.declared.Stop.{Stop}
 use Rattle.walk.specs.declared.Walk.{Walk}
-use Rattle.walk.proofs.Goings.{stays, goes_on_lem, among}
 use Rattle.arms.specs.Walkers.{Open, frame, SamePlace, Enters, Finishes, Walks, Closes}
 
 -- the second arm starts from where the first did, and stands behind what the first has walked
@@ -107,43 +105,3 @@ pub record Arming (R : Rules) (s : Bytes) (depth : ℕ) (v : Walk) (before : Lis
   pub ready : Ready s before v
   pub len : length now ≡ length before
   pub goes : Goes R s (Open depth) (stand v running) before (stand w running) now
-
-pub arming-none : {R : Rules} {s : Bytes} {depth : ℕ} {v : Walk} {log : List ℕ} → Ready s log v → Arming R s depth v log v log
-arming-none r = record { ready = r; len = refl; goes = stays r.high }
-
-module _ {R : Rules} {s : Bytes} {depth : ℕ} {v : Walk} {before : List ℕ} {w : Walk} {log : List ℕ} (a : Arming R s depth v before w log) where
-  pub ready-in : Ready s log w
-  ready-in = ready_on a.ready a.goes a.len
-
-  -- the plain part of a turn
-  module _ {p : Result Stop Refusal} {u : Walk} {mid : List ℕ} (q : Runs R s w log u p mid) where
-    so_far : Goes R s (Open depth) (stand v running) before (stand u (stopping p)) mid
-    so_far = goes_on_lem a.goes (among q.goes)
-
-    -- ends the arm
-    pub arm_refused : (x : Refusal) → p ≡ Err x → Walks R s depth v before u (Err x) mid
-    arm_refused x e = record { goes = rw e at so_far }
-
-    pub arm-ended : (end : ArmEnd) → p ≡ Ok (Stop.Arm end) → Walks R s depth v before u (Ok end) mid
-    arm-ended end e = record { goes = rw e at so_far }
-
-    -- or leads to a conditional
-    module _ (e : p ≡ Ok Stop.Conditional) (f : length mid ≡ length log) where
-      pub ready-conditional : Ready s mid u
-      ready-conditional = ready_on ready-in q.goes f
-
-      pub falls-in : 2 * (length s - u.place.at) + 1 < 2 * (length s - v.place.at)
-      falls-in = omega (arith, a.goes.low, q.onward e, q.goes.high)
-
-      module _ {o : Result Unit Refusal} {x : Walk} {new : List ℕ} (c : Closes R s depth u mid x o new) where
-        past : Goes R s (Open depth) (stand v running) before (stand x (going o)) new
-        past = goes_on_lem (rw e at so_far) c.goes
-
-        pub conditional_refused : (y : Refusal) → o ≡ Err y → Walks R s depth v before x (Err y) new
-        conditional_refused y h = record { goes = rw h at past }
-
-        pub arm-again : o ≡ Ok tt → length new ≡ length mid → Arming R s depth v before x new
-        arm-again h g = record { ready = a.ready; len = g ∙ f ∙ a.len; goes = rw h at past }
-
-        pub arm-nearer : length s - x.place.at < length s - w.place.at
-        arm-nearer = omega (arith, q.onward e, c.goes.low, c.goes.high)

@@ -166,3 +166,6 @@ arms-pushed before {new} {other} {main} {alt} {main'} {alt'} R fragment log from
     ∙ ap (λ x. s (main_at log (from + n)) (alt_at log (from + n)) x alt') m'
     ∙ ap (λ x. s (main_at log (from + n)) (alt_at log (from + n)) (other_main R fragment log other) x) a'
     ∙ ap (λ x. s (main_at log (from + n)) (alt_at log (from + n)) (other_main R fragment log x) (alt_at log x)) o)
+
+-- where the conditional opens, whichever test decides
+pub ruleset opening = (opening-none, opening-end, opening-endif, found-if, found-notif, found-else, opening-if, opening-notif, opening-else, opening-plain)

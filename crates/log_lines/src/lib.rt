@@ -183,6 +183,7 @@ fn push_malformed<const N: usize>(line: &mut Line<N>, offset: usize, bytes: &[u8
 }
 
 // The row of the ELSE, or where there is none the IF, of the conditional that is open behind `count` rows from row `from` on.
+#[tactic(auto, using(crate::proofs::Arms::opening))]
 fn opener(fragment: &[u8], log: &[u16], classes: Classes, from: usize, count: usize) -> usize
     requires { 3 * (from + count) ≤ length log.now }
     ensures same { (options : Options)

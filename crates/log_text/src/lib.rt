@@ -160,7 +160,14 @@ fn put_refused(
 }
 
 // All of a marked paper.
-fn put_log(text: &mut [u8], go: bool, paper: &[u8], log: &[u16], classes: Classes, m: Marked) -> usize
+fn put_log(
+    text: &mut [u8],
+    go: bool,
+    paper: &[u8],
+    log: &[u16],
+    classes: Classes,
+    m: Marked,
+) -> usize
     requires count_bound { (m.count ≤ 33) × (rows_of (take m.count m.told) + m.last.rows ≤ 330000) }
     requires rows_in_bounds { 3 * (rows_of (take m.count m.told) + m.last.rows) ≤ length log.now }
     ensures { (options : Maps.Options)

@@ -30,3 +30,12 @@ module _ {X : Type 0} (stop : D.Refusal → X) (next : S.Rules → X) where
 
     pub judged-err : {x : Refusal} → r ≡ Err x → judged map options stop next ≡ stop (refusal_of x)
     judged-err {x} h = judged-either map options ∙ ap either (sym e ∙ ap rules_or_refusal h)
+
+-- the rules that are read are those of the map
+pub rules-are : (map : Bytes) (options : Options) {r : Result Rules Refusal} → rules_or_refusal r ≡ judged map options Err Ok → {x : Rules} → r ≡ Ok x → rules_in x ≡ rules_of map options
+rules-are map options e h = sym (judged-ok (λ y. rules_of map options) (λ R. R) map options e h) ∙ by (good_map map) (good_limit options.limit)
+  where
+    by : (a b : Bool) → pick a (pick b (rules_of map options) (rules_of map options)) (rules_of map options) ≡ rules_of map options
+    by true true = refl
+    by true false = refl
+    by false b = refl

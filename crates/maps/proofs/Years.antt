@@ -1,7 +1,7 @@
 -- Laws of a year's map in lent bytes.
 use mathlib.Core.List.{List, [], ◌∷◌}
 use mathlib.Core.Path.{◌≡◌, refl, sym, ap, ap₂, ◌∙◌}
-use Prim.Native.Nat.{ℕ, zero, suc, ◌+◌, ◌<◌}
+use Prim.Native.Nat.{ℕ, suc, ◌+◌, ◌<◌}
 use native.Mathlib.Omega.{arith}
 use borrow.Author.Tests.{ne_eqb, le-leb}
 use lib.ListN.{length, get_or}
@@ -9,8 +9,6 @@ use Rattle.definition.specs.Basics.{Bytes}
 use Rattle.definition.specs.Classes.{class_number}
 use Rattle.definition_rules.specs.Maps.{table_from, built_in_map}
 use Rattle.definition_rules.specs.Years.{classic_number, classic_map}
-use Rattle.definition_rules.proofs.BuiltInMap.{built_in_map_size}
-use Rattle.definition_rules.proofs.ClassicYear.{classic_map_size}
 use Rattle.maps.specs.View.{Numbers, year_map, YearRows, map_size, map_put}
 
 -- what is promised of the size and of the lent bytes
@@ -48,10 +46,3 @@ current-rows year rows y b = record { size = b.size; same = rw y (ap headed (all
 pub classic-rows : (year : ℕ) (rows : List ℕ) → year ≡ 1 → Numbers classic_number rows → YearRows year rows
 unfolding year_map classic_map
 classic-rows year rows y b = record { size = b.size; same = rw y (ap headed (all-tabled classic_number rows b)) }
-
--- the map of either year has 260 bytes
-year-size : (year : ℕ) → year < 2 → length (year_map year) ≡ 260
-unfolding year_map
-year-size zero h = built_in_map_size
-year-size (suc zero) h = classic_map_size
-year-size (suc (suc n)) h = absurd (omega (arith, h))

@@ -1,12 +1,11 @@
 -- The entry point that takes a map and a limit: its answer is that of the definition, `analysis_with`, and demand 3 holds of it.
-use mathlib.Core.Bool.{Bool, true, false}
 use mathlib.Core.List.{List}
-use mathlib.Core.Path.{◌≡◌, refl, sym, subst, ◌∙◌}
+use mathlib.Core.Path.{◌≡◌, sym, subst}
 use Prim.Native.Nat.{ℕ}
 use Rattle.std.specs.Prelude.{Result, Ok, Err}
-use Rattle.definition.specs.Basics.{Bytes, pick}
+use Rattle.definition.specs.Basics.{Bytes}
 use Rattle.definition.specs.Decoding.{decode, instructions}
-use Rattle.definition_rules.specs.Maps.{Options, good_map, good_limit, rules_of, judged, analysis_with}
+use Rattle.definition_rules.specs.Maps.{Options, rules_of, judged, analysis_with}
 use Rattle.definition.specs.Refusals as D
 use Rattle.definition.specs.Replay.{Demand3}
 use Rattle.definition.specs.Stacks as S
@@ -17,7 +16,7 @@ use Rattle.refusals.specs.declared.Refusal.{Refusal}
 use Rattle.walk.specs.Runs.{rules_in}
 use Rattle.walk.specs.declared.Rules.{Rules}
 use Rattle.maps.specs.View.{rules_or_refusal}
-use Rattle.maps.proofs.Judged.{judged-ok, judged-err}
+use Rattle.maps.proofs.Judged.{judged-ok, judged-err, rules-are}
 use Rattle.ends.specs.View.{packed_end, no_stacks}
 use Rattle.ends.specs.declared.EndStacks.{EndStacks}
 use Rattle.stack_analysis.specs.Entry.{with_end}
@@ -41,21 +40,13 @@ module _ (map : Bytes) (options : Options) (s : Bytes) (main alt : ℕ) (log : L
 
   -- by the rules that are read
   module _ {r : Result Rules Refusal} (told : rules_or_refusal r ≡ judged map options Err Ok) where
-    rules-are : {x : Rules} → r ≡ Ok x → rules_in x ≡ rules_of map options
-    rules-are {x} h = sym (judged-ok (λ y. rules_of map options) (λ R. R) map options told h) ∙ by (good_map map) (good_limit options.limit)
-      where
-        by : (a b : Bool) → pick a (pick b (rules_of map options) (rules_of map options)) (rules_of map options) ≡ rules_of map options
-        by true true = refl
-        by true false = refl
-        by false b = refl
-
     pub with_rules : {x : Rules} → r ≡ Ok x → (v : Verdict) (new : List ℕ) → Analysed (rules_in x) s main alt log v new → AnalysedWith v new
     unfolding analysis_with
     with_rules {x} h v new a =
         let e : analysis_with map options s main alt log ≡ analysis (rules_in x) s main alt log =
         judged-ok (λ y. refused_early 0 y log) (λ R. analysis R s main alt log) map options told h in
         subst (λ (m : Marked). Shows (Demand3 (rules_of map options) (instructions (decode s)) (unknowns main alt)) m v new) (sym e)
-        (subst (λ (R : S.Rules). Shows (Demand3 R (instructions (decode s)) (unknowns main alt)) (analysis (rules_in x) s main alt log) v new) (rules-are h) a)
+        (subst (λ (R : S.Rules). Shows (Demand3 R (instructions (decode s)) (unknowns main alt)) (analysis (rules_in x) s main alt log) v new) (rules-are map options told h) a)
 
     pub without_rules : {x : Refusal} → r ≡ Err x → analysis_with map options s main alt log ≡ refused_early 0 (refusal_of x) log
     unfolding analysis_with

@@ -232,9 +232,6 @@ pub walk-runs : {R : Rules} {s : Bytes} {before : List ℕ} {v : Walk} {now : Li
 walk-runs k h = record { goes = k.goes; onward = h }
 
 -- a step was refused
-pub never-done : {a : Result Unit Refusal} {z : Refusal} → a ≡ Err z → {X : Type 0} → a ≡ Ok tt → X
-never-done e f = cc
-
 pub refused-runs : {R : Rules} {s : Bytes} {before : List ℕ} {v : Walk} {now : List ℕ} (w : Walk) {a : Result Unit Refusal} {r : Result Stop Refusal} {z : Refusal} → a ≡ Err z → r ≡ Err z
     → Walking R s before (stand v running) now (stand w (going a)) → Runs R s v before w r now
 refused-runs w e f k = rw f (walk-runs (rw e at k) (λ g. cc))

@@ -1,6 +1,0 @@
-use Rattle.paper.specs.View.{paper_of}
-use Rattle.places.proofs.write_paper.Goals as goal
-
-pub returns : goal.returns
-unfolding paper_of
-returns c = rw (← c.from.ensures, ← c.from-2.ensures) c.write_values.ensures
