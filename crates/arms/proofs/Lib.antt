@@ -1,3 +1,3 @@
 -- What the walkers' proofs go by.
-pub mod Conditionals
+pub mod Joins
 pub mod Cycle

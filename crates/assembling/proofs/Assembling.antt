@@ -7,21 +7,26 @@ use Prim.Native.Nat.{ℕ, ◌+◌, ◌-◌, ◌≤◌, ◌<◌}
 use native.Mathlib.Omega.{arith}
 use borrow.Author.Tests.{eqb-true, eqb-false, lt-leb, le-leb}
 use lib.Dec.{eqb}
+use lib.Seq.{paste-zero}
 use lib.ListN.{length, take, drop, length-append}
 use Rattle.definition.specs.Basics.{Bytes}
 use Rattle.definition_listings.specs.Assembling.{word_read, words_from, Assembly, gives, strange, assembly, on_assembly, assembled}
-use Rattle.definition_listings.specs.Listing.{Converted, unwritten, put}
+use Rattle.definition_listings.specs.Listing.{unwritten, put}
 use Rattle.definition_listings.specs.Shortest.{in_form}
-use Rattle.definition.specs.Refusals.{refused_at, strange_word, output_short}
+use Rattle.definition.specs.Refusals.{refused_at, output_short}
 use Rattle.text.specs.View.{Written}
 use Rattle.text.proofs.Texts.{written_as, then-written}
-use Rattle.assembling.specs.declared.Judged.{Judged}
-use Rattle.assembling.specs.declared.Judged.TheVariants.{Gives, Strays}
+use Rattle.std.specs.Prelude.{Result, Ok, Err}
+use Rattle.refusals.specs.declared.Refused.{Refused}
+use Rattle.refusals.specs.declared.Refusal.TheVariants.{StrangeWord}
 use Rattle.words.specs.View.{bytes_of}
-use Rattle.assembling.specs.View.{letters_before, judged_of, given_by, assembly_of, Good}
-use Rattle.names.proofs.Names.{never}
+use Rattle.assembling.specs.View.{converted_of, letters_before, judged_of, given_by, assembly_of, Good}
+use Rattle.names.proofs.Tables.{never}
 use Rattle.assembling.proofs.Judging.{onto, Done, done_none, done-strange, done-last, done_more}
-use Rattle.word_bytes.proofs.Writing.{none_written}
+
+-- no bytes
+none_written : (lent : Bytes) (at : ℕ) → Written lent at [] lent at
+none_written lent at = record { ends = omega arith; holds = paste-zero lent at [] }
 
 -- what is done is a front of the whole
 front_of : (l : Bytes) (at : ℕ) (d : Bytes) → Good l → Done l at d → length d ≤ length (given_by (assembly_of l))
@@ -101,49 +106,48 @@ from_start {lent} {g} w =
     let n : 0 + length g ≡ length g = omega arith in
     w.holds ∙ ap (λ m. g ++ drop m lent) n
 
-module _ (l out : Bytes) (j : Judged) (is : j ≡ judged_of (assembly_of l)) where
-  strays : (offset : ℕ) → j ≡ Strays offset → assembly_of l ≡ strange offset
-  strays offset e = by (assembly_of l) (sym is ∙ e)
-    where
-      by : (a : Assembly) → judged_of a ≡ Strays offset → a ≡ strange offset
-      by (gives b) e = never (cc)
-      by (strange o) e = let i : o ≡ offset = cc in ap strange i
-
-  pub gives-good : (size : ℕ) → j ≡ Gives size → Good l
-  gives-good size e = by (assembly_of l) (sym is ∙ e)
-    where
-      by : (a : Assembly) → judged_of a ≡ Gives size → a ≡ gives (given_by a)
-      by (gives b) e = refl
-      by (strange o) e = never (cc)
-
-  pub gives_size : (size : ℕ) → j ≡ Gives size → length (given_by (assembly_of l)) ≡ size
-  gives_size size e = by (assembly_of l) (sym is ∙ e)
-    where
-      by : (a : Assembly) → judged_of a ≡ Gives size → length (given_by a) ≡ size
-      by (gives b) e = cc
-      by (strange o) e = never (cc)
-
-  pub assembled-strange : (offset : ℕ) (a : Converted) → j ≡ Strays offset → a ≡ unwritten (refused_at offset strange_word) out → a ≡ assembled l out
+module _ (l out : Bytes) (j : Result ℕ Refused) (is : j ≡ judged_of (assembly_of l)) where
+  -- a strange word
+  pub assembled-strange : (refused : Refused) → j ≡ Err refused → converted_of (Err refused) out ≡ assembled l out
   unfolding assembled
-  assembled-strange offset a e u = u ∙ sym (ap (λ (a : Assembly). on_assembly a out) (strays offset e))
+  assembled-strange refused e = by (assembly_of l) (sym is ∙ e)
+    where
+      by : (a : Assembly) → judged_of a ≡ Err refused → converted_of (Err refused) out ≡ on_assembly a out
+      by (gives b) f = never (cc)
+      by (strange o) f =
+          let i : record { offset = o; refusal = StrangeWord } ≡ refused = cc in
+          ap (λ (r : Refused). converted_of (Err r) out) (sym i)
 
-  module _ (size : ℕ) (e : j ≡ Gives size) where
+  module _ (size : ℕ) (e : j ≡ Ok size) where
+    pub gives-good : Good l
+    gives-good = by (assembly_of l) (sym is ∙ e)
+      where
+        by : (a : Assembly) → judged_of a ≡ Ok size → a ≡ gives (given_by a)
+        by (gives b) e = refl
+        by (strange o) e = never (cc)
+
+    gives_size : length (given_by (assembly_of l)) ≡ size
+    gives_size = by (assembly_of l) (sym is ∙ e)
+      where
+        by : (a : Assembly) → judged_of a ≡ Ok size → length (given_by a) ≡ size
+        by (gives b) e = cc
+        by (strange o) e = never (cc)
+
     by_size : assembled l out ≡ put (given_by (assembly_of l)) out
     unfolding assembled
-    by_size = ap (λ (a : Assembly). on_assembly a out) (gives-good size e)
+    by_size = ap (λ (a : Assembly). on_assembly a out) gives-good
 
-    pub assembled-short : (a : Converted) → length out < size → a ≡ unwritten (refused_at 0 output_short) out → a ≡ assembled l out
-    assembled-short a h u =
-        u ∙ sym (by_size ∙ rw (lt-leb (length (given_by (assembly_of l))) (length out) (omega (arith, gives_size size e))))
+    pub assembled-short : length out < size → unwritten (refused_at 0 output_short) out ≡ assembled l out
+    assembled-short h = sym (by_size ∙ rw (lt-leb (length (given_by (assembly_of l))) (length out) (omega (arith, gives_size))))
 
     pub assembled-room : size ≤ length out → length (given_by (assembly_of l)) ≤ length out
-    assembled-room h = omega (arith, gives_size size e)
+    assembled-room h = omega (arith, gives_size)
 
     pub assembled-done : (new : Bytes) (next : ℕ) → size ≤ length out → Written out 0 (given_by (assembly_of l)) new next
-        → record { number = 0; offset = 0; size = size; out = new } ≡ assembled l out
+        → converted_of (Ok size) new ≡ assembled l out
     assembled-done new next h w =
         let g = given_by (assembly_of l) in
         sym (by_size
         ∙ rw (le-leb (length g) (length out) (assembled-room h))
-        (ap (λ n. record { number = 0; offset = 0; size = n; out = g ++ drop (length g) out }) (gives_size size e)
-        ∙ ap (λ (x : Bytes). record { number = 0; offset = 0; size = size; out = x }) (sym (from_start w))))
+        (ap (λ n. converted_of (Ok n) (g ++ drop (length g) out)) gives_size
+        ∙ ap (λ (x : Bytes). converted_of (Ok size) x) (sym (from_start w))))

@@ -5,48 +5,21 @@ use mathlib.Core.Option.{Option, none, some}
 use mathlib.Core.Path.{◌≡◌, refl, sym, ap, ◌∙◌}
 use Prim.Native.Nat.{ℕ, suc, ◌+◌, ◌-◌, ◌≤◌, ◌<◌}
 use native.Mathlib.Omega.{arith}
-use borrow.Author.Tests.{eq-eqb, ne_eqb, eqb-true, eqb-false}
+use borrow.Author.Tests.{eqb-true, eqb-false}
 use lib.Dec.{eqb}
-use lib.ListN.{length, take, drop, get_or, length-append, length-take, length-drop, drop_of_length-le}
-use lib.Seq.{drop-cons, drop-drop, take_all}
+use lib.ListN.{length, take, drop, length-append, length-take, length-drop}
+use lib.Seq.{drop-drop, take_all}
 use Rattle.definition.specs.Basics.{Bytes, pick}
 use Rattle.definition_listings.specs.Assembling.{word_read, in_front, words_from, words, Assembly, gives, strange, on_word, assembly}
-use Rattle.assembling.specs.declared.Judged.TheVariants.{Gives, Strays}
-use Rattle.words.specs.View.{bytes_of, Sized}
+use Rattle.std.specs.Prelude as R
+use Rattle.std.specs.Prelude.{Ok, Err, unwrap_or, cond}
+use Rattle.std.specs.List.{position_or_len}
+use Rattle.std.proofs.lemmas.List.Recursion.{is_position_or_len}
+use lib.Dec.{ltb}
+use borrow.Author.Tests.{ltb-false}
+use Rattle.refusals.specs.declared.Refusal.TheVariants.{StrangeWord}
+use Rattle.words.specs.View.{bytes_of, Counted}
 use Rattle.assembling.specs.View.{letters_before, judged_of}
-
--- The end of a word
-
-pub record EndsFrom (l : Bytes) (start j : ℕ) : Type 0 where
-  pub after : start ≤ j
-  pub within : j ≤ length l
-  pub is : start + letters_before (drop start l) ≡ j + letters_before (drop j l)
-
-module _ (l : Bytes) (start : ℕ) where
-  pub ends-start : start ≤ length l → EndsFrom l start start
-  ends-start h = record { after = omega arith; within = h; is = refl }
-
-  module _ (j : ℕ) (e : EndsFrom l start j) where
-    letters-at : j < length l → letters_before (drop j l) ≡ pick (eqb (get_or l j 0) 32) 0 (suc (letters_before (drop (suc j) l)))
-    letters-at h = ap letters_before (drop-cons l j 0 h)
-
-    pub ends-space : j < length l → get_or l j 0 ≡ 32 → j ≡ start + letters_before (drop start l)
-    ends-space h s =
-        let z : letters_before (drop j l) ≡ 0
-        = letters-at h ∙ ap (λ b. pick b 0 (suc (letters_before (drop (suc j) l)))) (eq-eqb (get_or l j 0) 32 s) in
-        omega (arith, e.is)
-
-    pub ends_more : j < length l → (get_or l j 0 ≡ 32 → ⊥) → EndsFrom l start (j + 1)
-    ends_more h n =
-        let m : suc j ≡ j + 1 = omega arith in
-        let z : letters_before (drop j l) ≡ suc (letters_before (drop (j + 1) l))
-        = letters-at h ∙ ap (λ b. pick b 0 (suc (letters_before (drop (suc j) l)))) (ne_eqb (get_or l j 0) 32 n) ∙ ap (λ k. suc (letters_before (drop k l))) m in
-        record { after = omega (arith, e.after); within = omega arith; is = omega (arith, e.is) }
-
-    pub ends-all : length l ≤ j → j ≡ start + letters_before (drop start l)
-    ends-all h =
-        let z : letters_before (drop j l) ≡ 0 = ap letters_before (drop_of_length-le l h) in
-        omega (arith, e.is)
 
 -- The first word, and the words behind it
 
@@ -57,6 +30,22 @@ before-most (c ∷ l) = by (eqb c 32) (before-most l)
     by : (b : Bool) → letters_before l ≤ length l → pick b 0 (suc (letters_before l)) ≤ suc (length l)
     by true h = omega arith
     by false h = omega arith
+
+-- the end of a word, by the place of the first space
+before-is : (l : Bytes) → letters_before l ≡ position_or_len (λ c. eqb c 32) l
+before-is = is_position_or_len letters_before (λ c. eqb c 32) refl (λ c l. let n : suc (letters_before l) ≡ 1 + letters_before l = omega arith in ap (λ n. pick (eqb c 32) 0 n) n)
+
+pub end-found : (l : Bytes) (r : R.Option ℕ) (n : ℕ)
+    → r ≡ cond (ltb (position_or_len (λ c. eqb c 32) l) (length l)) (R.Some (position_or_len (λ c. eqb c 32) l)) R.None
+    → n ≡ unwrap_or r (length l) → n ≡ letters_before l
+end-found l r n e u = u ∙ ap (λ (o : R.Option ℕ). unwrap_or o (length l)) e ∙ by (ltb p (length l)) refl ∙ sym (before-is l)
+  where
+    p : ℕ
+    p = position_or_len (λ c. eqb c 32) l
+
+    by : (b : Bool) → ltb p (length l) ≡ b → unwrap_or (cond b (R.Some p) R.None) (length l) ≡ p
+    by true q = refl
+    by false q = omega (arith, ltb-false p (length l) q, before-is l, before-most l)
 
 words_last : (l : Bytes) → letters_before l ≡ length l → words_from l ≡ l ∷ []
 words_last [] e = refl
@@ -174,35 +163,35 @@ pub record Judging (l : Bytes) (at size : ℕ) : Type 0 where
   pub count : length bytes ≡ size
   pub least : size ≤ at
 
-pub judged-empty : (l : Bytes) → length l ≡ 0 → Gives 0 ≡ judged_of (assembly 0 (words l))
+pub judged-empty : (l : Bytes) → length l ≡ 0 → Ok 0 ≡ judged_of (assembly 0 (words l))
 judged-empty [] e = refl
 judged-empty (c ∷ l) e = absurd (omega arith)
 
 pub judging-none : (l : Bytes) → (length l ≡ 0 → ⊥) → Judging l 0 0
 judging-none l n = record { bytes = []; done = done_none l n; count = refl; least = omega arith }
 
-module _ (l : Bytes) (at size : ℕ) (j : Judging l at size) (end : ℕ) (ends : end ≡ at + letters_before (drop at l)) (most : end ≤ length l)
-    (n : ℕ) (sized : Sized (take (end - at) (drop at l)) n) where
+module _ (l : Bytes) (at size : ℕ) (j : Judging l at size) (end : ℕ) (ends : end ≡ at + letters_before (drop at l)) (most : end ≤ length l) where
   abbrev word-here : Bytes
   word-here = take (end - at) (drop at l)
 
-  pub judging-strange : n ≡ 0 → Strays at ≡ judged_of (assembly 0 (words l))
-  judging-strange z = ap judged_of (sym (done-strange l at j.bytes j.done end ends most (sized.strange z)))
+  pub judging-strange : word_read word-here ≡ none → Err (record { offset = at; refusal = StrangeWord }) ≡ judged_of (assembly 0 (words l))
+  judging-strange z = ap judged_of (sym (done-strange l at j.bytes j.done end ends most z))
 
-  pub size_fits : size + n ≤ end
-  size_fits = omega (arith, j.least, sized.most, length-take (end - at) (drop at l))
+  module _ (n : ℕ) (sized : Counted word-here n) where
+    pub size_fits : size + n ≤ end
+    size_fits = omega (arith, j.least, sized.most, length-take (end - at) (drop at l))
 
-  counted : length (j.bytes ++ bytes_of word-here) ≡ size + n
-  counted = length-append j.bytes (bytes_of word-here) ∙ omega (arith, j.count, sized.size)
+    counted : length (j.bytes ++ bytes_of word-here) ≡ size + n
+    counted = length-append j.bytes (bytes_of word-here) ∙ omega (arith, j.count, sized.size)
 
-  pub judging-last : (n ≡ 0 → ⊥) → end ≡ length l → Gives (size + n) ≡ judged_of (assembly 0 (words l))
-  judging-last z h =
-      sym (ap judged_of (done-last l at j.bytes j.done end ends most (bytes_of word-here) (sized.good (omega arith)) h) ∙ ap Gives counted)
+    pub judging-last : end ≡ length l → Ok (size + n) ≡ judged_of (assembly 0 (words l))
+    judging-last h =
+        sym (ap judged_of (done-last l at j.bytes j.done end ends most (bytes_of word-here) sized.good h) ∙ ap (λ k. Ok k) counted)
 
-  pub judging-more : (n ≡ 0 → ⊥) → (end ≡ length l → ⊥) → Judging l (end + 1) (size + n)
-  judging-more z h = record {
-    bytes = j.bytes ++ bytes_of word-here;
-    done = done_more l at j.bytes j.done end ends most (bytes_of word-here) (sized.good (omega arith)) h;
-    count = counted;
-    least = omega (arith, size_fits);
-  }
+    pub judging-more : (end ≡ length l → ⊥) → Judging l (end + 1) (size + n)
+    judging-more h = record {
+      bytes = j.bytes ++ bytes_of word-here;
+      done = done_more l at j.bytes j.done end ends most (bytes_of word-here) sized.good h;
+      count = counted;
+      least = omega (arith, size_fits);
+    }

@@ -1,15 +1,16 @@
 -- What the answers of the assembler stand for in the definitions of listings.
-use Rattle.std.specs.Prelude.{[], ◌∷◌, ◌≡◌, ℕ, suc, eqb, length}
+use Rattle.std.specs.Prelude.{[], ◌∷◌, ◌≡◌, ℕ, suc, eqb, length, Result, Ok, Err}
 use Rattle.definition.specs.Basics.{Bytes, pick}
 use Rattle.definition_listings.specs.Assembling.{Assembly, gives, strange, words, assembly}
 use Rattle.definition_listings.specs.Listing as L
-use Rattle.assembling.specs.declared.Converted.{Converted}
-use Rattle.assembling.specs.declared.Judged.{Judged}
-use Rattle.assembling.specs.declared.Judged.TheVariants.{Gives, Strays}
+use Rattle.refusals.specs.View.{answer_of}
+use Rattle.refusals.specs.declared.Refusal.TheVariants.{StrangeWord}
+use Rattle.refusals.specs.declared.Refused.{Refused}
 
--- an answer, with the output afterwards
-abbrev pub converted_of : Converted → Bytes → L.Converted
-converted_of r out = record { number = r.number; offset = r.offset; size = r.size; out = out }
+-- an answer, how many bytes were written or a refusal, with the output afterwards
+abbrev pub converted_of : Result ℕ Refused → Bytes → L.Converted
+converted_of (Ok size) out = record { number = 0; offset = 0; size = size; out = out }
+converted_of (Err refused) out = L.unwritten (answer_of refused) out
 
 -- how many letters stand before the first space
 abbrev pub letters_before : Bytes → ℕ
@@ -17,9 +18,9 @@ letters_before [] = 0
 letters_before (c ∷ l) = pick (eqb c 32) 0 (suc (letters_before l))
 
 -- an answer of `judge`: how many bytes a listing gives, or where its first strange word is
-abbrev pub judged_of : Assembly → Judged
-judged_of (gives l) = Gives (length l)
-judged_of (strange offset) = Strays offset
+abbrev pub judged_of : Assembly → Result ℕ Refused
+judged_of (gives l) = Ok (length l)
+judged_of (strange offset) = Err (record { offset = offset; refusal = StrangeWord })
 
 -- the bytes that a listing gives
 abbrev pub given_by : Assembly → Bytes

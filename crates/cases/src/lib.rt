@@ -3,292 +3,125 @@
 
 #![tactic(auto)]
 
-ghost use Rattle.std.specs.Prelude.{◌≡◌, ◌+◌, ◌≤◌, length};
-ghost use Rattle.cases.specs.Digits.{decimal_digit, hex_digit, octet_at};
-ghost use Rattle.cases.specs.Ranges.{DigitBelow, EndsWithin, CountWithin, PartWithin};
+ghost use Rattle.std.specs.Prelude.{◌≡◌, ◌<◌, ◌≤◌, length, IfSome};
+ghost use Rattle.cases.specs.Digits.{hex_digit, octet_at};
+ghost use Rattle.cases.specs.Ranges.{IsBehind};
 
-// What a character is as a digit.
-#[derive(Clone, Copy)]
-pub enum Digit {
-    Value(u8),
-    Other,
+/// A number, and what stands behind the space after it.
+#[derive(Clone, Copy, Debug, PartialEq, Eq)]
+pub struct Field<'a> {
+    pub value: u32,
+    pub rest: &'a [u8],
 }
 
-// A number in decimal, and the index after it.
-#[derive(Clone, Copy)]
-pub enum Field {
-    Number { value: u32, next: usize },
-    NoNumber,
+/// So many bytes at the start of the lent code, and what stands behind them and a space.
+#[derive(Clone, Copy, Debug, PartialEq, Eq)]
+pub struct Part<'a> {
+    pub count: usize,
+    pub rest: &'a [u8],
 }
 
-// A byte in hex.
-#[derive(Clone, Copy)]
-pub enum Octet {
-    Byte(u8),
-    NoByte,
+// A decimal number: one digit or more, below 2^32, and nothing else.
+fn number(text: &[u8]) -> Option<u32> {
+    if !text.iter().all(u8::is_ascii_digit) {
+        return None;
+    }
+    str::from_utf8(text).ok()?.parse::<u32>().ok()
 }
 
-// So many bytes at the start of the lent code.
-#[derive(Clone, Copy)]
-pub enum Count {
-    Bytes(usize),
-    NoBytes,
-}
-
-// So many bytes in the lent code, and the index after them and a space.
-#[derive(Clone, Copy)]
-pub enum Part {
-    Read { count: usize, next: usize },
-    NoPart,
-}
-
-// A digit of a decimal number.
-fn decimal_digit(b: u8) -> Digit
-    ensures same { result ≡ decimal_digit b }
-    ensures below { DigitBelow 10 result }
+// What stands before the first space, and behind it.
+fn word(line: &[u8]) -> Option<(&[u8], &[u8])>
+    ensures { IfSome result (λ parts. IsBehind line.now parts.1.now) }
 {
-    if b < 48 {
-        return Digit::Other;
-    }
-    if b <= 57 {
-        return Digit::Value(b - 48);
-    }
-    Digit::Other
+    let at = line.iter().position(|&b| b == b' ')?;
+    Some((&line[..at], &line[at + 1..]))
+}
+
+/// A number and the space after it.
+pub fn height(line: &[u8]) -> Option<Field<'_>>
+    ensures { IfSome result (λ field. IsBehind line.now field.rest.now) }
+{
+    let (text, rest) = word(line)?;
+    Some(Field {
+        value: number(text)?,
+        rest,
+    })
 }
 
 // A digit of a hexadecimal number, in lower case.
-fn hex_digit(b: u8) -> Digit
+#[tactic(auto, unfolding(crate::specs::Digits::hex_digit, crate::specs::Digits::decimal_digit))]
+fn hex_digit(b: u8) -> Option<u8>
     ensures same { result ≡ hex_digit b }
-    ensures below { DigitBelow 16 result }
+    ensures below { IfSome result (λ value. value < 16) }
 {
-    if b < 97 {
-        return decimal_digit(b);
+    match b {
+        b'0'..=b'9' => Some(b - b'0'),
+        b'a'..=b'f' => Some(b - b'a' + 10),
+        _ => None,
     }
-    if b <= 102 {
-        return Digit::Value(b - 87);
-    }
-    Digit::Other
 }
 
-// The decimal number from the index `from` on: one digit or more, below 2^32.
-pub fn number(line: &[u8], from: usize) -> Field
-    ensures { EndsWithin from (length line.now) result }
+// The two hex digits of a pair.
+#[tactic(auto, unfolding(crate::specs::Digits::octet_at))]
+fn hex_pair(pair: &[u8]) -> Option<u8>
+    requires { length pair.now ≤ 2 }
+    ensures { result ≡ octet_at pair.now 0 }
 {
-    let mut value: u64 = 0;
-    let mut at = from;
-    while at < line.len() {
-        let d = decimal_digit(line[at]);
-        let Digit::Value(v) = d else {
-            return number_read(value, from, at);
-        };
-        value = 10 * value + v as u64;
-        if value > 4294967295 {
-            return Field::NoNumber;
-        }
-        at += 1;
-    }
-    number_read(value, from, at)
-}
-
-// The number whose digits stand from `from` to `next`; none are bad.
-fn number_read(value: u64, from: usize, next: usize) -> Field
-    requires { value ≤ 4294967295 }
-    ensures { EndsWithin from next result }
-{
-    if from < next {
-        return Field::Number {
-            value: value as u32,
-            next,
-        };
-    }
-    Field::NoNumber
-}
-
-// A number and the space after it.
-pub fn height(line: &[u8], from: usize) -> Field
-    ensures { EndsWithin from (length line.now) result }
-{
-    let f = number(line, from);
-    let Field::Number { value, next } = f else {
-        return Field::NoNumber;
+    let [high, low] = *pair else {
+        return None;
     };
-    if next < line.len() {
-        if line[next] == 32 {
-            return Field::Number {
-                value,
-                next: next + 1,
-            };
-        }
-    }
-    Field::NoNumber
+    Some(16 * hex_digit(high)? + hex_digit(low)?)
 }
 
-// The two hex digits at an index.
-fn hex_pair(line: &[u8], at: usize) -> Octet
-    ensures { result ≡ octet_at line.now at }
+// The bytes in hex. None where code has no room for them.
+fn hex_bytes(hex: &[u8], code: &mut [u8]) -> Option<usize>
+    ensures { IfSome result (λ count. count ≤ length code.new) }
 {
-    if at >= line.len() {
-        return Octet::NoByte;
+    let mut count = 0;
+    for pair in hex.chunks(2) {
+        *code.get_mut(count)? = hex_pair(pair)?;
+        count += 1;
     }
-    if line.len() - at < 2 {
-        return Octet::NoByte;
+    Some(count)
+}
+
+/// BYTES: `-` for none, or hex, one byte at least, with or without the repeat form, by which a number says how often the last
+/// byte stands.
+pub fn bytes(text: &[u8], code: &mut [u8]) -> Option<usize>
+    ensures { IfSome result (λ count. count ≤ length code.new) }
+{
+    if matches!(text, [b'-']) {
+        return Some(0);
     }
-    let h = hex_digit(line[at]);
-    let Digit::Value(high) = h else {
-        return Octet::NoByte;
+    let (hex, times) = match text.iter().position(|&b| b == b'*') {
+        Some(at) => (&text[..at], number(&text[at + 1..])?),
+        None => (text, 1),
     };
-    let l = hex_digit(line[at + 1]);
-    let Digit::Value(low) = l else {
-        return Octet::NoByte;
-    };
-    Octet::Byte(16 * high + low)
+    let count = hex_bytes(hex, code)?;
+    let last = *code[..count].last()?;
+    let more = times.checked_sub(1)? as usize;
+    code.get_mut(count..count + more)?.fill(last);
+    Some(count + more)
 }
 
-// Writes b from the index n on, so many times.
-fn fill(code: &mut [u8], n: usize, b: u8, times: usize)
-    requires { n + times ≤ length code.old }
+/// BYTES, and the space after them.
+pub fn next_part<'a>(line: &'a [u8], code: &mut [u8]) -> Option<Part<'a>>
+    ensures count { IfSome result (λ part. part.count ≤ length code.new) }
+    ensures rest { IfSome result (λ part. IsBehind line.now part.rest.now) }
 {
-    let mut k = n;
-    let mut left = times;
-    while left > 0 {
-        code[k] = b;
-        k += 1;
-        left -= 1;
-    }
+    let (text, rest) = word(line)?;
+    Some(Part {
+        count: bytes(text, code)?,
+        rest,
+    })
 }
 
-// The repeat form: after n bytes, the number from `from` to the end of the line says how often the last stands.
-fn repeated(line: &[u8], from: usize, code: &mut [u8], n: usize) -> Count
-    requires { n ≤ length code.old }
-    ensures { CountWithin (length code.new) result }
-{
-    let f = number(line, from);
-    let Field::Number { value, next } = f else {
-        return Count::NoBytes;
-    };
-    if next != line.len() {
-        return Count::NoBytes;
+/// The numbers to the end of the line, parted by spaces, if they are so many.
+pub fn numbers<const N: usize>(line: &[u8]) -> Option<[u32; N]> {
+    let mut texts = line.split(|&b| b == b' ');
+    let mut values = [0; N];
+    for value in &mut values {
+        *value = number(texts.next()?)?;
     }
-    if n == 0 {
-        return Count::NoBytes;
-    }
-    if value == 0 {
-        return Count::NoBytes;
-    }
-    let more = (value - 1) as usize;
-    if code.len() - n < more {
-        return Count::NoBytes;
-    }
-    let last = code[n - 1];
-    fill(code, n, last, more);
-    Count::Bytes(n + more)
-}
-
-// The hex from `from` to the end of the line, with or without the repeat form. None where code has no room for them.
-fn hex_bytes(line: &[u8], from: usize, code: &mut [u8]) -> Count
-    ensures { CountWithin (length code.new) result }
-{
-    let mut n = 0;
-    let mut at = from;
-    while at < line.len() {
-        if line[at] == 42 {
-            return repeated(line, at + 1, code, n);
-        }
-        let o = hex_pair(line, at);
-        let Octet::Byte(b) = o else {
-            return Count::NoBytes;
-        };
-        if n >= code.len() {
-            return Count::NoBytes;
-        }
-        code[n] = b;
-        n += 1;
-        at += 2;
-    }
-    if n == 0 {
-        return Count::NoBytes;
-    }
-    Count::Bytes(n)
-}
-
-// BYTES, from `from` to the end of the line: `-` for none, or hex.
-pub fn bytes(line: &[u8], from: usize, code: &mut [u8]) -> Count
-    ensures { CountWithin (length code.new) result }
-{
-    if from < line.len() {
-        if line.len() - from == 1 {
-            if line[from] == 45 {
-                return Count::Bytes(0);
-            }
-        }
-    }
-    hex_bytes(line, from, code)
-}
-
-// The index of the first space from `from` on, or the end of the line.
-pub fn space(line: &[u8], from: usize) -> usize {
-    let mut at = from;
-    while at < line.len() {
-        if line[at] == 32 {
-            return at;
-        }
-        at += 1;
-    }
-    at
-}
-
-// BYTES, from `from` to the next space, into code from the index `start` on.
-pub fn next_part(line: &[u8], from: usize, code: &mut [u8], start: usize) -> Part
-    requires { start ≤ length code.old }
-    ensures { PartWithin start (length code.new) result }
-{
-    let end = space(line, from);
-    if end >= line.len() {
-        return Part::NoPart;
-    }
-    let c = bytes(&line[..end], from, &mut code[start..]);
-    let Count::Bytes(count) = c else {
-        return Part::NoPart;
-    };
-    Part::Read {
-        count,
-        next: end + 1,
-    }
-}
-
-// The numbers from `from` to the end of the line, parted by spaces: as many as fields has, or false.
-pub fn numbers(line: &[u8], from: usize, fields: &mut [u32]) -> bool {
-    let mut at = from;
-    let mut i = 0;
-    while i < fields.len() {
-        let f = number(line, at);
-        let Field::Number { value, next } = f else {
-            return false;
-        };
-        fields[i] = value;
-        i += 1;
-        if next >= line.len() {
-            return i == fields.len();
-        }
-        if line[next] != 32 {
-            return false;
-        }
-        at = next + 1;
-    }
-    false
-}
-
-// Whether the line begins with the word.
-pub fn begins(line: &[u8], word: &[u8]) -> bool {
-    if line.len() < word.len() {
-        return false;
-    }
-    let mut i = 0;
-    while i < word.len() {
-        if line[i] != word[i] {
-            return false;
-        }
-        i += 1;
-    }
-    true
+    texts.next().is_none().then_some(values)
 }

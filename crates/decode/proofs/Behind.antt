@@ -4,12 +4,11 @@ use mathlib.Core.List.{[], ◌∷◌}
 use mathlib.Core.Path.{◌≡◌, refl}
 use Prim.Native.Nat.{ℕ, ◌+◌, ◌-◌, ◌≤◌, ◌<◌}
 use native.Mathlib.Omega.{arith}
-use borrow.Author.Tests.{leb-true, eq-eqb, ne_eqb}
-use lib.Dec.{leb, ltb, eqb}
+use borrow.Author.Tests.{leb-true, ne_eqb}
+use lib.Dec.{leb, eqb}
 use lib.ListN.{length, take, drop, length-take}
 use Rattle.definition.specs.Basics.{Bytes, pick}
 use Rattle.definition_long_data.specs.Blank.{length_bytes}
-use Rattle.definition.specs.Refusals.{max_element}
 use Rattle.definition.specs.Decoding.{number, Front, whole, short, alone, pushes, sized, front}
 use Rattle.definition.proofs.Sound.{and-true}
 
@@ -66,23 +65,3 @@ behind-front b rest = first (leb 0x01 b && leb b 0x4b) refl
         let h = leb-true b 0x4b (and-true (leb 0x01 b) (leb b 0x4b) e).1 in
         rw (ne_eqb b 0x4c (omega (arith, h)), ne_eqb b 0x4d (omega (arith, h)), ne_eqb b 0x4e (omega (arith, h))) (behind-pushes 0 b rest)
     first false e = second (eqb b 0x4c)
-
--- the tests of `length_bytes`
-module _ (opcode : ℕ) where
-  pub bytes-4c : opcode ≡ 0x4c → 1 ≡ length_bytes opcode
-  bytes-4c e = rw (eq-eqb opcode 0x4c e)
-
-  module _ (c : opcode ≡ 0x4c → ⊥) where
-    pub bytes-4d : opcode ≡ 0x4d → 2 ≡ length_bytes opcode
-    bytes-4d e = rw (ne_eqb opcode 0x4c c, eq-eqb opcode 0x4d e)
-
-    module _ (d : opcode ≡ 0x4d → ⊥) where
-      pub bytes-4e : opcode ≡ 0x4e → 4 ≡ length_bytes opcode
-      bytes-4e e = rw (ne_eqb opcode 0x4c c, ne_eqb opcode 0x4d d, eq-eqb opcode 0x4e e)
-
-      pub bytes-none : (opcode ≡ 0x4e → ⊥) → 0 ≡ length_bytes opcode
-      bytes-none e = rw (ne_eqb opcode 0x4c c, ne_eqb opcode 0x4d d, ne_eqb opcode 0x4e e)
-
--- and that of `too_long_lem`
-pub examined-test : (examined : Bool) (size n : ℕ) → examined ≡ true → size ≡ n → ltb max_element size ≡ (examined && ltb max_element n)
-examined-test examined size n e f = rw (e, f)

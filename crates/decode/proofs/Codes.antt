@@ -2,7 +2,6 @@
 use mathlib.Core.Bool.{Bool, true, false, ◌&&◌}
 use mathlib.Core.Path.{◌≡◌, refl, sym, ap, subst, ◌∙◌}
 use mathlib.Core.List.{[], ◌∷◌}
-use mathlib.Core.Option.{none}
 use Prim.Native.Nat.{ℕ, zero, suc, ◌+◌, ◌-◌, ◌≤◌, ◌<◌}
 use native.Mathlib.Omega.{arith}
 use borrow.Author.Tests.{leb-true}
@@ -14,14 +13,14 @@ use Rattle.definition_long_data.specs.Blank.{length_bytes}
 use Rattle.definition.specs.Decoding.{number, Front, whole, short, alone, pushes, sized, front, Code, ends, malformed, then, on_front, decode_from, decode, instructions, malformed_at}
 use Rattle.definition.specs.Walk.{known}
 use Rattle.definition.specs.Replay.{AreBytes}
-use Rattle.decode.specs.View.{item_of, value_of, Held, decoded_front, decoded_rest, decoded_at, code_at, data_start, instruction, yield_of, yielded, rest, counted_of, count_by, count_in}
+use Rattle.decode.specs.View.{item_of, value_of, Held, decoded_front, decoded_rest, decoded_at, code_at, data_start, instruction, yield_of, yielded, rest, count_by, count_in}
 use Rattle.decode.specs.declared.Instruction.{Instruction}
-use Rattle.decode.specs.declared.Decoded.{Decoded}
-use Rattle.decode.specs.declared.Decoded.TheVariants.{At, End, Malformed}
-use Rattle.decode.specs.declared.Counted.TheVariants as C
-use Rattle.decode.proofs.Bytes.{bytes_take, bytes_drop}
+use Rattle.decode.specs.declared.Malformed.{Malformed}
+use Rattle.std.specs.Prelude.{Some, None, Ok, Err}
+use mir.Syntax.{w8}
+use mir.Val.{Fits}
+use Rattle.decode.proofs.Bytes.{slice-bytes, bytes_take, bytes_drop}
 use Rattle.decode.proofs.Values.{held-known, item-of-known}
-use Rattle.decode.proofs.Fronts.{at-end, at-alone}
 use Rattle.decode.proofs.Behind.{Behind, behind-front}
 
 -- bytes that belong to the instruction before are passed over
@@ -111,7 +110,7 @@ module _ (s : Bytes) (p : ℕ) where
       ap (λ n. get_or s n 0) (sym z) ∙ sym (get_or-drop p s 0 0) ∙ ap (λ l. get_or l 0 0) e
 
   instruction-front : (b : ℕ) (rest : Bytes) (f : Front) → drop p s ≡ b ∷ rest → b < 256 → front b rest ≡ f → Within rest f
-      → (i : Instruction) → decoded_front f b p ≡ At i → InstructionAt s p i
+      → (i : Instruction) → decoded_front f b p ≡ Ok (Some i) → InstructionAt s p i
   instruction-front b rest f e lt q (is_whole {after = after} {literal = l} w k) i h =
       subst (InstructionAt s p) j (record {
         literal = l;
@@ -132,7 +131,7 @@ module _ (s : Bytes) (p : ℕ) where
   instruction-front b rest f e lt q is-short i h = absurd (let z : ◌≡◌ {A = ℕ} 0 1 = cc in omega arith)
 
   -- an instruction stands here
-  pub code-instruction : AreBytes s → (i : Instruction) → decoded_at s p ≡ At i → InstructionAt s p i
+  pub code-instruction : AreBytes s → (i : Instruction) → decoded_at s p ≡ Ok (Some i) → InstructionAt s p i
   code-instruction k i h = by (drop p s) refl
     where
       by : (l : Bytes) → drop p s ≡ l → InstructionAt s p i
@@ -142,10 +141,10 @@ module _ (s : Bytes) (p : ℕ) where
           instruction-front b rest (front b rest) e w.0 refl (within-front b rest w.0 w.1) i (sym (decoded-rest (b ∷ rest) e) ∙ h)
 
   -- the fragment ends here
-  pub code-ends : decoded_at s p ≡ End → (code_at s p ≡ ends) × (length s ≤ p)
+  pub code-ends : decoded_at s p ≡ Ok None → (code_at s p ≡ ends) × (length s ≤ p)
   code-ends h = by (drop p s) refl
     where
-      none : (b : ℕ) (f : Front) → decoded_front f b p ≡ End → ⊥
+      none : (b : ℕ) (f : Front) → decoded_front f b p ≡ Ok None → ⊥
       none b (whole after l) e = let z : ◌≡◌ {A = ℕ} 0 1 = cc in omega arith
       none b short e = let z : ◌≡◌ {A = ℕ} 0 1 = cc in omega arith
 
@@ -154,10 +153,10 @@ module _ (s : Bytes) (p : ℕ) where
       by (b ∷ rest) e = absurd (none b (front b rest) (sym (decoded-rest (b ∷ rest) e) ∙ h))
 
   -- the instruction here is not whole
-  pub code-malformed : {at : ℕ} → decoded_at s p ≡ Malformed at → (code_at s p ≡ malformed p) × (p < length s)
-  code-malformed {at} h = by (drop p s) refl
+  pub code-malformed : {m : Malformed} → decoded_at s p ≡ Err m → (code_at s p ≡ malformed p) × (p < length s)
+  code-malformed {m} h = by (drop p s) refl
     where
-      short-front : (b : ℕ) (rest : Bytes) (f : Front) → front b rest ≡ f → drop p s ≡ b ∷ rest → decoded_front f b p ≡ Malformed at → code_at s p ≡ malformed p
+      short-front : (b : ℕ) (rest : Bytes) (f : Front) → front b rest ≡ f → drop p s ≡ b ∷ rest → decoded_front f b p ≡ Err m → code_at s p ≡ malformed p
       short-front b rest (whole after l) q e g = cc
       short-front b rest short q e g = code-rest (b ∷ rest) e ∙ ap (λ (f : Front). on_front f b p (λ k. decode_from k (p + 1) rest)) q
 
@@ -167,7 +166,7 @@ module _ (s : Bytes) (p : ℕ) where
           (short-front b rest (front b rest) refl e (sym (decoded-rest (b ∷ rest) e) ∙ h), omega (arith, length-drop p s, ap length e))
 
   -- what stands here is what the code from here on yields first
-  pub code-yields : AreBytes s → yield_of (decoded_at s p) ≡ yielded (code_at s p)
+  code-yields : AreBytes s → yield_of (decoded_at s p) ≡ yielded (code_at s p)
   code-yields k = by (drop p s) refl
     where
       by_front : {l : Bytes} {f : Front} → Within l f → (b : ℕ) (onward : ℕ → Code) → yield_of (decoded_front f b p) ≡ yielded (on_front f b p onward)
@@ -180,14 +179,14 @@ module _ (s : Bytes) (p : ℕ) where
           let w : AreBytes (b ∷ l) = subst AreBytes e (bytes_drop p s k) in
           rw (decoded-rest (b ∷ l) e, code-rest (b ∷ l) e) (by_front (within-front b l w.0 w.1) b (λ after. decode_from after (p + 1) l))
 
-  pub answer-yields : AreBytes s → (r : Decoded) → r ≡ decoded_at s p → (yield_of r ≡ yielded (code_at s p)) × (r ≡ decoded_at s p)
-  answer-yields k r e = (ap yield_of e ∙ code-yields k, e)
+  pub slice-yields : ((i : ℕ) → Fits w8 (get_or s i 0)) → yielded (code_at s p) ≡ yield_of (decoded_at s p)
+  slice-yields h = sym (code-yields (slice-bytes s h))
 
   -- an instruction stands here: behind it the rest of the code is left
-  pub code-behind : (i : Instruction) → decoded_at s p ≡ At i → code_at s i.next ≡ rest (code_at s p)
+  pub code-behind : (i : Instruction) → decoded_at s p ≡ Ok (Some i) → code_at s i.next ≡ rest (code_at s p)
   code-behind i h = by (drop p s) refl
     where
-      by_front : (b : ℕ) (l : Bytes) (f : Front) → drop p s ≡ b ∷ l → decoded_front f b p ≡ At i → code_at s i.next ≡ rest (on_front f b p (λ after. decode_from after (p + 1) l))
+      by_front : (b : ℕ) (l : Bytes) (f : Front) → drop p s ≡ b ∷ l → decoded_front f b p ≡ Ok (Some i) → code_at s i.next ≡ rest (on_front f b p (λ after. decode_from after (p + 1) l))
       by_front b l (whole after literal) e g =
           let n : i.next ≡ p + 1 + after = cc in
           rw n (sym (code-next b l after e))
@@ -225,25 +224,21 @@ counting-none s = record {
   is = rw code-start (ap (count_by (malformed_at (code_at s 0))) (omega arith));
 }
 
-module _ (s : Bytes) (offset count : ℕ) (c : Counting s offset count) where
-  pub counting_more : (i : Instruction) → InstructionAt s offset i → Counting s i.next (count + 1)
-  counting_more i t = record {
-    within = t.within;
-    most = omega (arith, t.onward, c.most);
-    is = c.is ∙ rw t.code (ap (count_by (malformed_at (code_at s i.next))) (omega arith));
-  }
+-- behind an instruction it is counted too
+pub counting-more : (s : Bytes) (offset count : ℕ) (i : Instruction) → ((k : ℕ) → Fits w8 (get_or s k 0)) → decoded_at s offset ≡ Ok (Some i) → Counting s offset count
+    → Counting s i.next (count + 1)
+counting-more s offset count i h e c =
+    let t = code-instruction s offset (slice-bytes s h) i e in
+    record {
+      within = t.within;
+      most = omega (arith, t.onward, c.most);
+      is = c.is ∙ rw t.code (ap (count_by (malformed_at (code_at s i.next))) (omega arith));
+    }
 
-  pub counting-ends : decoded_at s offset ≡ End → counted_of (C.Whole count) ≡ count_in (decode s)
-  counting-ends h = sym (c.is ∙ rw (code-ends s offset h).0 (ap (count_by none) (omega arith)))
+-- and less is left
+pub less-left : (s : Bytes) (offset : ℕ) (i : Instruction) → ((k : ℕ) → Fits w8 (get_or s k 0)) → decoded_at s offset ≡ Ok (Some i) → length s - i.next < length s - offset
+less-left s offset i h e =
+    let t = code-instruction s offset (slice-bytes s h) i e in
+    omega (arith, t.onward, t.within)
 
-  pub counting-malformed : {at : ℕ} → decoded_at s offset ≡ Malformed at → counted_of (C.Malformed offset) ≡ count_in (decode s)
-  counting-malformed h = sym (c.is ∙ rw (code-malformed s offset h).0)
-
-  -- an opcode that stands alone, and the end, by the tests of the code
-  pub counting-alone : AreBytes s → offset < length s → 0x4e < get_or s offset 0 → Counting s (offset + 1) (count + 1)
-  counting-alone k h g =
-      let i : Instruction = record { opcode = get_or s offset 0; offset = offset; literal = value_of (known (alone (get_or s offset 0))); next = offset + 1 } in
-      counting_more i (code-instruction s offset k i (sym (at-alone s (get_or s offset 0) offset h refl i.literal g refl)))
-
-  pub counting-end : length s ≤ offset → counted_of (C.Whole count) ≡ count_in (decode s)
-  counting-end h = counting-ends (sym (at-end s offset h))
+pub ruleset decoding = (slice-yields)

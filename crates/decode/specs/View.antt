@@ -1,6 +1,6 @@
 -- What the structs and enums of this crate stand for in the definitions of document 01.
-use Rattle.std.specs.Prelude.{[], ◌∷◌, ℕ, zero, suc, ◌+◌, ◌/◌, ◌%◌, ◌^◌, ◌≤◌, ◌<◌, length, drop, get_or}
-use Rattle.std.proofs.Math.Option.{Option, none, some}
+use Rattle.std.specs.Prelude.{[], ◌∷◌, ℕ, zero, suc, ◌+◌, ◌/◌, ◌%◌, ◌^◌, ◌≤◌, ◌<◌, length, drop, get_or, Option, Some, None, Result, Ok, Err}
+use Rattle.std.proofs.Math.Option as Math
 use Rattle.definition.specs.Basics.{Bytes}
 use Rattle.definition_long_data.specs.Blank.{length_bytes}
 use Rattle.definition.specs.Decoding.{number, Front, whole, short, front, Code, ends, malformed, then, decode_from, instructions, malformed_at}
@@ -9,10 +9,8 @@ use Rattle.definition.specs.Refusals.{malformed_fragment, Answer, accepted, refu
 use Rattle.definition.specs.Walk.{Item, unknown, exact, known}
 use Rattle.decode.specs.declared.Value.{Value}
 use Rattle.decode.specs.declared.Value.TheVariants.{Unknown, Exact}
-use Rattle.decode.specs.declared.Decoded.{Decoded}
-use Rattle.decode.specs.declared.Decoded.TheVariants.{At, End, Malformed}
-use Rattle.decode.specs.declared.Counted.{Counted}
-use Rattle.decode.specs.declared.Counted.TheVariants as C
+use Rattle.decode.specs.declared.Instruction.{Instruction}
+use Rattle.decode.specs.declared.Malformed.{Malformed}
 
 -- the len lowest bytes of n, the lowest first
 abbrev pub low_bytes : ℕ → ℕ → Bytes
@@ -34,14 +32,18 @@ abbrev pub Held : Value → Type 0
 Held Unknown = Unit {0}
 Held (Exact len n) = (len ≤ 8) × (n < 256 ^ len)
 
+-- what `decode_at` answers: an instruction, the end, or where the fragment is malformed
+abbrev pub Decoded : Type 0
+Decoded = Result (Option Instruction) Malformed
+
 -- what stands at an offset, by the definition's `front`
 abbrev pub decoded_front : Front → ℕ → ℕ → Decoded
 decoded_front (whole after literal) opcode offset =
-    At (record { opcode = opcode; offset = offset; literal = value_of (known literal); next = offset + 1 + after })
-decoded_front short opcode offset = Malformed offset
+    Ok (Some (record { opcode = opcode; offset = offset; literal = value_of (known literal); next = offset + 1 + after }))
+decoded_front short opcode offset = Err (record { offset = offset })
 
 abbrev pub decoded_rest : Bytes → ℕ → Decoded
-decoded_rest [] offset = End
+decoded_rest [] offset = Ok None
 decoded_rest (b ∷ rest) offset = decoded_front (front b rest) b offset
 
 unfoldable pub decoded_at : Bytes → ℕ → Decoded
@@ -63,9 +65,9 @@ pub data Yield : Type 0 where
 
 -- an answer of `decode_at`: the instruction, the end, or 3 at its offset
 abbrev pub yield_of : Decoded → Yield
-yield_of (At i) = instruction i.opcode i.offset (item_of i.literal)
-yield_of End = the_end
-yield_of (Malformed offset) = refused (refused_at offset malformed_fragment)
+yield_of (Ok (Some i)) = instruction i.opcode i.offset (item_of i.literal)
+yield_of (Ok None) = the_end
+yield_of (Err m) = refused (refused_at m.offset malformed_fragment)
 
 -- "To the marker an instruction is its opcode, its offset and a literal, unknown or exact"
 abbrev pub to_marker : D.Instruction → Yield
@@ -89,14 +91,14 @@ pub record Count : Type 0 where
   pub count : ℕ
 
 -- an answer of `count_instructions`
-abbrev pub counted_of : Counted → Count
-counted_of (C.Whole count) = record { answer = accepted; count = count }
-counted_of (C.Malformed offset) = record { answer = refused_at offset malformed_fragment; count = 0 }
+abbrev pub counted_of : Result ℕ Malformed → Count
+counted_of (Ok count) = record { answer = accepted; count = count }
+counted_of (Err m) = record { answer = refused_at m.offset malformed_fragment; count = 0 }
 
 -- what is counted in code, by where it is malformed, if it is, and the number of its instructions
-abbrev pub count_by : Option ℕ → ℕ → Count
-count_by none count = record { answer = accepted; count = count }
-count_by (some offset) count = record { answer = refused_at offset malformed_fragment; count = 0 }
+abbrev pub count_by : Math.Option ℕ → ℕ → Count
+count_by Math.none count = record { answer = accepted; count = count }
+count_by (Math.some offset) count = record { answer = refused_at offset malformed_fragment; count = 0 }
 
 abbrev pub count_in : Code → Count
 count_in code = count_by (malformed_at code) (length (instructions code))

@@ -1,26 +1,29 @@
-// Decoding: document 01, section 1.
+// Decoding: what stands at an offset of a fragment.
 
 #![tactic(auto)]
 
-ghost use Rattle.std.specs.Prelude.{◌&&◌, ◌≡◌, ◌+◌, ◌-◌, ◌≤◌, ◌<◌, ltb, length, take, drop, get_or};
-// `Decoding.f` is the f of document 01, section 1, in crates/definition/specs/Decoding.antt.
+ghost use Rattle.std.specs.Prelude.{◌&&◌, ◌≡◌, ◌+◌, ◌-◌, ◌≤◌, ◌<◌, ltb, length, drop, get_or};
+// `Decoding.f` is the f of crates/definition/specs/Decoding.antt.
 ghost use Rattle.definition.specs.Decoding as Decoding;
 ghost use Rattle.definition.specs.Decoding.{decode};
 ghost use Rattle.definition_long_data.specs.Blank.{length_bytes};
 ghost use Rattle.definition.specs.Refusals.{max_element};
 ghost use Rattle.definition.specs.Walk.{known};
+ghost use Rattle.refusals.specs.declared.Refusal.TheVariants as Refusal;
 ghost use Rattle.decode.specs.View.{value_of, decoded_front, decoded_at, code_at, data_start, yield_of, yielded, counted_of, count_in};
 
-// What is known of an item: nothing, or its length and its bytes as one number, the first byte the lowest.
-#[derive(Clone, Copy)]
+use refusals::{Refusal, Refused};
+use thiserror::Error;
+
+/// What is known of an item: nothing, or its length and its bytes as one number, the first byte the lowest.
+#[derive(Clone, Copy, Debug, PartialEq, Eq)]
 pub enum Value {
     Unknown,
     Exact { len: u8, bytes: u64 },
 }
 
-// One instruction: its opcode, its offset, its literal as the marker knows it, and where the next one starts. In this order of
-// the fields the compiled decoder is as short as it is where `Malformed` carries no offset.
-#[derive(Clone, Copy)]
+/// One instruction: its opcode, its offset, its literal as the marker knows it, and where the next one starts.
+#[derive(Clone, Copy, Debug, PartialEq, Eq)]
 pub struct Instruction {
     pub offset: usize,
     pub literal: Value,
@@ -28,43 +31,58 @@ pub struct Instruction {
     pub opcode: u8,
 }
 
-// What stands at an offset: an instruction, the end, or, with its offset, one whose length or data bytes are missing.
-#[derive(Clone, Copy)]
-pub enum Decoded {
-    At(Instruction),
-    End,
-    Malformed(usize),
+/// The instruction at this offset is not whole: bytes of its length or of its data are missing.
+#[derive(Clone, Copy, Debug, PartialEq, Eq, Error)]
+#[error("the instruction at offset {offset} is not whole")]
+pub struct Malformed {
+    pub offset: usize,
 }
 
-// How many instructions a fragment has, or the offset at which it is malformed.
-#[derive(Clone, Copy)]
-pub enum Counted {
-    Whole(usize),
-    Malformed(usize),
-}
+impl From<Malformed> for Refused {
+    ghost from_gives = { λ malformed refused. refused ≡ record { offset = malformed.offset; refusal = Refusal.Malformed } };
 
-fn wide(x: u8) -> u64
-    ensures { result ≡ x }
-{
-    x as u64
-}
-
-// The n bytes from start on as one number, the first the lowest.
-fn number(fragment: &[u8], start: usize, n: usize) -> u64
-    requires { (n ≤ 8) × (start + n ≤ length fragment.now) }
-    ensures { result ≡ Decoding.number (take n (drop start fragment.now)) }
-{
-    let mut v: u64 = 0;
-    let mut k = n;
-    while k > 0 {
-        k -= 1;
-        v = wide(fragment[start + k]) + v * 256;
+    fn from(malformed: Malformed) -> Refused {
+        Refused {
+            offset: malformed.offset,
+            refusal: Refusal::Malformed,
+        }
     }
-    v
+}
+
+// At most 8 bytes as one number, the first the lowest.
+fn number(bytes: &[u8]) -> u64
+    requires { length bytes.now ≤ 8 }
+    ensures { result ≡ Decoding.number bytes.now }
+{
+    let mut number = 0;
+    for &byte in bytes.iter().rev() {
+        number = u64::from(byte) + number * 256;
+    }
+    number
+}
+
+// What the marker knows of these bytes: all of them, if they are at most 8.
+fn known(bytes: &[u8]) -> Value
+    ensures { result ≡ value_of (known bytes.now) }
+{
+    if bytes.len() > 8 {
+        Value::Unknown
+    } else {
+        Value::Exact {
+            len: bytes.len() as u8,
+            bytes: number(bytes),
+        }
+    }
 }
 
 // The instruction with this opcode and `size` bytes of data from start on.
-fn pushes(fragment: &[u8], opcode: u8, offset: usize, start: usize, size: usize) -> Decoded
+fn pushes(
+    fragment: &[u8],
+    opcode: u8,
+    offset: usize,
+    start: usize,
+    size: usize,
+) -> Result<Option<Instruction>, Malformed>
     requires { (offset < start) × (start ≤ length fragment.now) }
     ensures { result
         ≡ decoded_front
@@ -72,170 +90,128 @@ fn pushes(fragment: &[u8], opcode: u8, offset: usize, start: usize, size: usize)
         opcode
         offset }
 {
-    if fragment.len() - start < size {
-        return Decoded::Malformed(offset);
-    }
-    let next = start + size;
-    if size > 8 {
-        return Decoded::At(Instruction {
-            opcode,
-            offset,
-            literal: Value::Unknown,
-            next,
-        });
-    }
-    let bytes = number(fragment, start, size);
-    let literal = Value::Exact {
-        len: size as u8,
-        bytes,
+    let Some(data) = fragment[start..].get(..size) else {
+        return Err(Malformed { offset });
     };
-    Decoded::At(Instruction {
+    Ok(Some(Instruction {
         opcode,
         offset,
-        literal,
-        next,
-    })
+        literal: known(data),
+        next: start + size,
+    }))
 }
 
 // The instruction with this opcode, a length of n bytes behind it, and data of that length.
-fn sized(fragment: &[u8], opcode: u8, offset: usize, n: usize) -> Decoded
+fn sized(
+    fragment: &[u8],
+    opcode: u8,
+    offset: usize,
+    n: usize,
+) -> Result<Option<Instruction>, Malformed>
     requires { (n ≤ 4) × (offset < length fragment.now) }
     ensures { result ≡ decoded_front (Decoding.sized n (drop (offset + 1) fragment.now)) opcode offset }
 {
     let start = offset + 1;
-    if fragment.len() - start < n {
-        return Decoded::Malformed(offset);
-    }
-    let size = number(fragment, start, n) as usize;
-    pushes(fragment, opcode, offset, start + n, size)
+    let Some(size) = fragment[start..].get(..n) else {
+        return Err(Malformed { offset });
+    };
+    pushes(fragment, opcode, offset, start + n, number(size) as usize)
 }
 
 // What an opcode that stands alone pushes.
 fn alone(opcode: u8) -> Value
     ensures { result ≡ value_of (known (Decoding.alone opcode)) }
 {
-    if opcode == 0x4f {
-        return Value::Exact {
+    match opcode {
+        0x4f => Value::Exact {
             len: 1,
             bytes: 0x81,
-        };
-    }
-    if opcode < 0x51 {
-        return Value::Exact { len: 0, bytes: 0 };
-    }
-    if opcode > 0x60 {
-        return Value::Exact { len: 0, bytes: 0 };
-    }
-    Value::Exact {
-        len: 1,
-        bytes: wide(opcode - 0x50),
+        },
+        0x51..=0x60 => Value::Exact {
+            len: 1,
+            bytes: u64::from(opcode - 0x50),
+        },
+        _ => Value::Exact { len: 0, bytes: 0 },
     }
 }
 
-// What stands at an offset whose opcode is followed by data or by a length, or is 00.
-fn pushing(fragment: &[u8], opcode: u8, offset: usize) -> Decoded
+// What stands at an offset whose opcode is followed by data or by a length, or is 00. It stays a function, so that `decode_at` is
+// short.
+#[inline(never)]
+#[tactic(auto, using(crate::proofs::Fronts::fronts))]
+fn pushing(fragment: &[u8], opcode: u8, offset: usize) -> Result<Option<Instruction>, Malformed>
     requires offset_in_bounds { offset < length fragment.now }
     requires opcode_value { (opcode ≡ get_or fragment.now offset 0) × (opcode ≤ 0x4e) }
     ensures { result ≡ decoded_at fragment.now offset }
 {
-    if opcode < 0x4c {
-        return pushes(fragment, opcode, offset, offset + 1, opcode as usize);
+    match opcode {
+        0x4c => sized(fragment, opcode, offset, 1),
+        0x4d => sized(fragment, opcode, offset, 2),
+        0x4e => sized(fragment, opcode, offset, 4),
+        _ => pushes(fragment, opcode, offset, offset + 1, usize::from(opcode)),
     }
-    if opcode == 0x4c {
-        return sized(fragment, opcode, offset, 1);
-    }
-    if opcode == 0x4d {
-        return sized(fragment, opcode, offset, 2);
-    }
-    sized(fragment, opcode, offset, 4)
 }
 
-// What stands at an offset. An opcode that stands alone is answered here, so that the function is short where it is called.
-pub fn decode_at(fragment: &[u8], offset: usize) -> Decoded
+/// What stands at an offset: an instruction, or none at the fragment's end. An opcode that stands alone is answered where the
+/// function is called: as a call it takes half as many instructions again.
+#[inline(always)]
+#[tactic(auto, using(crate::proofs::Fronts::fronts, crate::proofs::Codes::decoding))]
+pub fn decode_at(fragment: &[u8], offset: usize) -> Result<Option<Instruction>, Malformed>
     ensures yields { yield_of result ≡ yielded (code_at fragment.now offset) }
     ensures same { result ≡ decoded_at fragment.now offset }
 {
-    if fragment.len() <= offset {
-        return Decoded::End;
+    let Some(&opcode) = fragment.get(offset) else {
+        return Ok(None);
+    };
+    if opcode <= 0x4e {
+        return pushing(fragment, opcode, offset);
     }
-    let opcode = fragment[offset];
-    if opcode > 0x4e {
-        let literal = alone(opcode);
-        return Decoded::At(Instruction {
-            opcode,
-            offset,
-            literal,
-            next: offset + 1,
-        });
-    }
-    pushing(fragment, opcode, offset)
+    Ok(Some(Instruction {
+        opcode,
+        offset,
+        literal: alone(opcode),
+        next: offset + 1,
+    }))
 }
 
 // How many bytes of length follow an opcode.
 fn length_bytes(opcode: u8) -> usize
     ensures { result ≡ length_bytes opcode }
 {
-    if opcode == 0x4c {
-        return 1;
+    match opcode {
+        0x4c => 1,
+        0x4d => 2,
+        0x4e => 4,
+        _ => 0,
     }
-    if opcode == 0x4d {
-        return 2;
-    }
-    if opcode == 0x4e {
-        return 4;
-    }
-    0
 }
 
-// How many bytes of data an instruction has, by where it stands and where the next one does. Request L7: "an instruction keeps its
-// length for this".
+/// How many bytes of data an instruction has, by where it stands and where the next one does: an instruction does not keep its
+/// length.
 pub fn data_size(fragment: &[u8], offset: usize, next: usize) -> usize
     requires { (offset < length fragment.now) × (data_start fragment.now offset ≤ next) }
     ensures { result ≡ next - data_start fragment.now offset }
 {
-    let n = length_bytes(fragment[offset]);
-    next - (offset + 1 + n)
+    next - (offset + 1 + length_bytes(fragment[offset]))
 }
 
-// Whether that is more than the examined mode takes of a literal.
+/// Whether that is more than the examined mode takes of a literal.
 pub fn too_long(fragment: &[u8], offset: usize, next: usize, examined: bool) -> bool
     requires { (offset < length fragment.now) × (data_start fragment.now offset ≤ next) }
     ensures { result ≡ (examined && ltb max_element (next - data_start fragment.now offset)) }
 {
-    if examined {
-        return data_size(fragment, offset, next) > 520;
-    }
-    false
+    examined && data_size(fragment, offset, next) > 520
 }
 
-// How many instructions there are, or where the fragment is malformed.
-pub fn count_instructions(fragment: &[u8]) -> Counted
+/// How many instructions there are.
+pub fn count_instructions(fragment: &[u8]) -> Result<usize, Malformed>
     ensures { counted_of result ≡ count_in (decode fragment.now) }
 {
-    let mut offset: usize = 0;
-    let mut count: usize = 0;
-    loop {
-        if fragment.len() <= offset {
-            return Counted::Whole(count);
-        }
-        let opcode = fragment[offset];
-        if opcode > 0x4e {
-            offset += 1;
-            count += 1;
-            continue;
-        }
-        match pushing(fragment, opcode, offset) {
-            Decoded::At(i) => {
-                offset = i.next;
-                count += 1;
-                continue;
-            }
-            Decoded::End => {
-                return Counted::Whole(count);
-            }
-            Decoded::Malformed(_) => {
-                return Counted::Malformed(offset);
-            }
-        }
+    let mut offset = 0;
+    let mut count = 0;
+    while let Some(instruction) = decode_at(fragment, offset)? {
+        offset = instruction.next;
+        count += 1;
     }
+    Ok(count)
 }

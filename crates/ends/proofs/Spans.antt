@@ -44,16 +44,16 @@ module _ {A B : Type 0} (φ : A → B) where
   map-span f g a (suc n) h = rw (← h a (omega arith) (omega arith), map-span f g (suc a) n (λ k l m. h k (omega arith) (omega arith)))
 
 -- the same at each place
-pub same_span : (f : ℕ → ℕ) (d a n : ℕ) → ((k : ℕ) → a ≤ k → k < a + n → f k ≡ d) → replicate n d ≡ span f a n
+pub same_span : {B : Type 0} (f : ℕ → B) (d : B) (a n : ℕ) → ((k : ℕ) → a ≤ k → k < a + n → f k ≡ d) → replicate n d ≡ span f a n
 same_span f d a zero h = refl
 same_span f d a (suc n) h = rw (h a (omega arith) (omega arith), same_span f d (suc a) n (λ k l m. h k (omega arith) (omega arith)))
 
--- a list of 244 numbers by what it has at each place: n of these things, and then d
-module _ {A : Type 0} (φ : A → ℕ) (c : ℕ → A) (l : List ℕ) where
-  pub list-is : (n d : ℕ) → n ≤ 244 → length l ≡ 244 → ((k : ℕ) → k < n → get_or l k 0 ≡ φ (c k)) → ((k : ℕ) → n ≤ k → k < 244 → get_or l k 0 ≡ d)
+-- a list of 244 by what it has at each place: n of these things, and then d
+module _ {A B : Type 0} (φ : A → B) (c : ℕ → A) (l : List B) where
+  pub list-is : (n : ℕ) (d : B) → n ≤ 244 → length l ≡ 244 → ((k : ℕ) → k < n → get_or l k d ≡ φ (c k)) → ((k : ℕ) → n ≤ k → k < 244 → get_or l k d ≡ d)
       → map φ (span c 0 n) ++ replicate (244 - n) d ≡ l
   list-is n d h w lo hi =
-      let g : ℕ → ℕ = λ k. get_or l k 0 in
+      let g : ℕ → B = λ k. get_or l k d in
       let e : n + (244 - n) ≡ length l = omega arith in
       rw (map-span φ c g 0 n (λ k p q. lo k (omega arith)), same_span g d n (244 - n) (λ k p q. hi k p (omega arith)))
-      (sym (span-add g 0 n (244 - n) ∙ rw zero-add) ∙ ap (span g 0) e ∙ span-list l 0)
+      (sym (span-add g 0 n (244 - n) ∙ rw zero-add) ∙ ap (span g 0) e ∙ span-list l d)

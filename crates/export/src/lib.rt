@@ -1,5 +1,5 @@
 // The functions for C and Rust callers. Numbers pass as themselves, a slice as a pointer and then a length, an array as a
-// pointer. Nothing is asked of the caller beyond that: bad input is refused with a number of document 01 or 02.
+// pointer. Nothing is asked of the caller beyond that: bad input is refused with a verdict number.
 
 #![tactic(auto)]
 
@@ -23,10 +23,12 @@ use places::{
     display_start, tally_from, write, write_answer, write_converted, write_lines, write_paper,
     write_part, write_size, write_sums, write_text, write_verdict,
 };
+use text::Line;
 use walk::Options;
 
-// The analysis of a fragment from main and alt unknown items: the verdict's number, its other numbers in `out`, and a row
-// for each instruction met in `log`.
+/// The analysis of a fragment from main and alt unknown items: the verdict's number, its other numbers in `out`, and a row
+/// for each instruction met in `log`.
+#[tactic(auto, unfolding(stack_analysis::specs::View::summarized))]
 #[unsafe(no_mangle)]
 pub extern "C" fn listochur_analyze(
     fragment: &[u8],
@@ -46,13 +48,12 @@ pub extern "C" fn listochur_analyze(
         out.old }
 {
     let v = stack_analysis::analyze_heights(fragment, main, alt, log);
-    let number = v.number;
-    write(v, out);
-    number
+    write(v, out)
 }
 
-// The same, and in `items` the items of the end stacks, three numbers to an item: main from bottom to top and then alt from
-// bottom to top.
+/// The same, and in `items` the items of the end stacks, three numbers to an item: main from bottom to top and then alt from
+/// bottom to top.
+#[tactic(auto, using(places::proofs::Items::verdicts))]
 #[unsafe(no_mangle)]
 pub extern "C" fn listochur_analyze_items(
     fragment: &[u8],
@@ -78,11 +79,12 @@ pub extern "C" fn listochur_analyze_items(
         out.old }
 {
     let v = stack_analysis::analyze(fragment, main, alt, log);
-    write_verdict(v, items, out)
+    write_verdict(&v, items, out)
 }
 
-// The analysis of a fragment by a lent map and a lent limit, in plain mode where `mode` is 0 and else in the examined one: as
-// `listochur_analyze_items`, 28 and then 29 before all else.
+/// The analysis of a fragment by a lent map and a lent limit, in plain mode where `mode` is 0 and else in the examined one: as
+/// `listochur_analyze_items`, 28 and then 29 before all else.
+#[tactic(auto, using(places::proofs::Items::verdicts))]
 #[unsafe(no_mangle)]
 pub extern "C" fn listochur_analyze_with(
     fragment: &[u8],
@@ -110,37 +112,42 @@ pub extern "C" fn listochur_analyze_with(
         (analysis_with map.now (lent_options limit mode) fragment.now main alt log.old).verdict)
         out.old }
 {
-    let examined = mode != 0;
-    let options = Options { limit, examined };
+    let options = Options {
+        limit,
+        examined: mode != 0,
+    };
     let v = stack_analysis::analyze_with(fragment, main, alt, map, options, log);
-    write_verdict(v, items, out)
+    write_verdict(&v, items, out)
 }
 
-// The map of a year, 0 the built-in one, 1 the classic one, into `map`: 260, its size, or 0 with nothing written for another year
-// or a short `map`.
+/// The map of a year, 0 the built-in one, 1 the classic one, into `map`: 260, its size, or 0 with nothing written for another year
+/// or a short `map`.
+#[tactic(auto, using(places::proofs::Places::rooms))]
 #[unsafe(no_mangle)]
 pub extern "C" fn listochur_map(year: u32, map: &mut [u8]) -> u32
     ensures size { result ≡ map_size year map.old }
     ensures written { map.new ≡ written (year_map year) map.old }
 {
-    maps::write_map(year, map)
+    match maps::write_map(year, map) {
+        Some(size) => size as u32,
+        None => 0,
+    }
 }
 
-// The limit check: its number, and number, offset and two figures in `out`.
+/// The limit check: its number, and number, offset and two figures in `out`.
 #[unsafe(no_mangle)]
 pub extern "C" fn listochur_check_limits(bytecode: &[u8], out: &mut [u64]) -> u32
     ensures number { result ≡ (limit_check bytecode.now).number }
     ensures written { out.new
         ≡ written (answer_numbers (limit_check bytecode.now)) out.old }
 {
-    let a = limits::validate_txscript_bytecode_limits(bytecode);
-    let number = a.number;
-    write_answer(a, out);
-    number
+    let checked = limits::validate_txscript_bytecode_limits(bytecode);
+    write_answer(checked.into(), out)
 }
 
-// The marking of a paper: the verdict's number, its numbers and the entry that it is about in `out`, and the rows of all
-// fragments in `log`.
+/// The marking of a paper: the verdict's number, its numbers and the entry that it is about in `out`, and the rows of all
+/// fragments in `log`.
+#[tactic(auto, unfolding(paper::specs::View::paper_of))]
 #[unsafe(no_mangle)]
 pub extern "C" fn listochur_mark_paper(paper: &[u8], log: &mut [u16], out: &mut [u64]) -> u32
     ensures number { result
@@ -152,12 +159,11 @@ pub extern "C" fn listochur_mark_paper(paper: &[u8], log: &mut [u16], out: &mut 
         out.old }
 {
     let v = paper::mark_paper(paper, log);
-    let number = v.number;
-    write_paper(v, out);
-    number
+    write_paper(v, out)
 }
 
-// The marking of a paper by a lent map and a lent limit, in a mode: as `listochur_mark_paper`, 28 and then 29 before all else.
+/// The marking of a paper by a lent map and a lent limit, in a mode: as `listochur_mark_paper`, 28 and then 29 before all else.
+#[tactic(auto, unfolding(paper::specs::View::paper_of))]
 #[unsafe(no_mangle)]
 pub extern "C" fn listochur_mark_paper_with(
     paper: &[u8],
@@ -175,16 +181,17 @@ pub extern "C" fn listochur_mark_paper_with(
         (paper_numbers (mark_paper_with map.now (lent_options limit mode) paper.now log.old).paper)
         out.old }
 {
-    let examined = mode != 0;
-    let options = Options { limit, examined };
+    let options = Options {
+        limit,
+        examined: mode != 0,
+    };
     let v = paper::mark_paper_with(paper, map, options, log);
-    let number = v.number;
-    write_paper(v, out);
-    number
+    write_paper(v, out)
 }
 
-// The display: the length of the part, and its start in the fragment and its length in `out`. C has no slice to take back,
-// so the part is told by these two numbers: what they cut out of the fragment is what document 01 displays.
+/// The display: the length of the part, and its start in the fragment and its length in `out`. C has no slice to take back,
+/// so the part is told by these two numbers: what they cut out of the fragment is what is displayed.
+#[tactic(auto, using(places::proofs::Parts::parts))]
 #[unsafe(no_mangle)]
 pub extern "C" fn listochur_display<'a>(
     body: &'a [u8],
@@ -212,8 +219,8 @@ pub extern "C" fn listochur_display<'a>(
     size
 }
 
-// What `stackmark` prints of a paper, in `text` where it has room: the verdict's number, the size of the text in `out`, and
-// the rows of all fragments in `log`.
+/// What `stackmark` prints of a paper, in `text` where it has room: the verdict's number, the size of the text in `out`, and
+/// the rows of all fragments in `log`.
 #[unsafe(no_mangle)]
 pub extern "C" fn listochur_mark_lines(
     paper: &[u8],
@@ -235,10 +242,10 @@ pub extern "C" fn listochur_mark_lines(
     ensures short { length (printed built_in paper.now log.old) ≤ 4096 }
 {
     let l = lines::mark_lines(paper, log);
-    write_lines(l, text, out)
+    write_lines(&l, text, out)
 }
 
-// The same by a lent map and a lent limit, in a mode, 28 and then 29 before all else.
+/// The same by a lent map and a lent limit, in a mode, 28 and then 29 before all else.
 #[unsafe(no_mangle)]
 pub extern "C" fn listochur_mark_lines_with(
     paper: &[u8],
@@ -262,14 +269,17 @@ pub extern "C" fn listochur_mark_lines_with(
         out.old }
     ensures short { length (printed_with map.now (lent_options limit mode) paper.now log.old) ≤ 4096 }
 {
-    let examined = mode != 0;
-    let options = Options { limit, examined };
+    let options = Options {
+        limit,
+        examined: mode != 0,
+    };
     let l = lines::mark_lines_with(paper, map, options, log);
-    write_lines(l, text, out)
+    write_lines(&l, text, out)
 }
 
-// What `stacklog` prints of a paper, in `text` where it has room: the verdict's number, the size of the text in `out`, and the
-// rows of all fragments in `log`.
+/// What `stacklog` prints of a paper, in `text` where it has room: the verdict's number, the size of the text in `out`, and the
+/// rows of all fragments in `log`.
+#[tactic(auto, using(places::proofs::Places::rooms))]
 #[unsafe(no_mangle)]
 pub extern "C" fn listochur_log_lines(
     paper: &[u8],
@@ -292,7 +302,8 @@ pub extern "C" fn listochur_log_lines(
     l.number
 }
 
-// The same by a lent map and a lent limit, in a mode, 28 and then 29 before all else.
+/// The same by a lent map and a lent limit, in a mode, 28 and then 29 before all else.
+#[tactic(auto, using(places::proofs::Places::rooms))]
 #[unsafe(no_mangle)]
 pub extern "C" fn listochur_log_lines_with(
     paper: &[u8],
@@ -315,15 +326,17 @@ pub extern "C" fn listochur_log_lines_with(
         (length (log_text_with map.now (lent_options limit mode) paper.now log.old) ∷ [])
         out.old }
 {
-    let examined = mode != 0;
-    let options = Options { limit, examined };
+    let options = Options {
+        limit,
+        examined: mode != 0,
+    };
     let w = log_text::write_log_with(paper, map, options, log, text);
     write_size(w.size, out);
     w.number
 }
 
-// A verdict's number and figures in words, in `text` where it has room: the number, and the size of the words in `out`. A number
-// past the greatest in use has no words.
+/// A verdict's number and figures in words, in `text` where it has room: the number, and the size of the words in `out`. A number
+/// past the greatest in use has no words.
 #[unsafe(no_mangle)]
 pub extern "C" fn listochur_reason(
     number: u32,
@@ -337,15 +350,14 @@ pub extern "C" fn listochur_reason(
     ensures written { out.new ≡ written (length (reason number first second) ∷ []) out.old }
     ensures short { length (reason number first second) ≤ 80 }
 {
-    let mut words = [0u8; 80];
-    let n = reasons::write_reason(&mut words, 0, number, first, second);
-    write_text(&words[..n], text);
-    write_size(n, out);
+    let mut words = Line::<80>::new();
+    reasons::push_reason(&mut words, number, first, second);
+    write_text(&words, text, out);
     number
 }
 
-// The tally of these counters, fragments, accepted, rows and greatest peak, gains one verdict, of this number, rows and
-// peak: 0 or 22, which leaves the counters unchanged.
+/// The tally of these counters, fragments, accepted, rows and greatest peak, gains one verdict, of this number, rows and
+/// peak: 0 or 22, which leaves the counters unchanged.
 #[unsafe(no_mangle)]
 pub extern "C" fn listochur_gain(counters: &mut [u32; 4], number: u32, rows: u64, peak: u32) -> u32
     ensures answer { (v : Walk.Verdict)
@@ -355,31 +367,27 @@ pub extern "C" fn listochur_gain(counters: &mut [u32; 4], number: u32, rows: u64
         → Gives v number rows peak
         → counters.new ≡ tally_numbers (Walk.gain (tally_from counters.old) v).tally }
 {
-    let r = tally::gained(tally_from(counters), number, rows as usize, peak);
-    *counters = [
-        r.tally.fragments,
-        r.tally.accepts,
-        r.tally.rows,
-        r.tally.peak,
-    ];
-    r.answer
+    let mut tally = tally_from(counters);
+    let gained = tally.gain(number, rows as usize, peak);
+    *counters = [tally.fragments, tally.accepts, tally.rows, tally.peak];
+    match gained {
+        Ok(()) => 0,
+        Err(refusal) => refusal.number(),
+    }
 }
 
-// The sums over a sitting, verdict number and peak by turns: 0 or 23, and in `out` number, sum and count of the peaks of the
-// accepted, and how often each verdict number occurred, from 0 to the greatest in use.
+/// The sums over a sitting, verdict number and peak by turns: 0 or 23, and in `out` number, sum and count of the peaks of the
+/// accepted, and how often each verdict number occurred, from 0 to the greatest in use.
 #[unsafe(no_mangle)]
 pub extern "C" fn listochur_sums(sitting: &[u32], out: &mut [u64]) -> u32
     ensures number { result ≡ (Sums.sums sitting.now).number }
     ensures written { out.new ≡ written (sums_numbers (Sums.sums sitting.now)) out.old }
 {
-    let r = sums::sums(sitting);
-    let number = r.number;
-    write_sums(r, out);
-    number
+    write_sums(sums::sums(sitting), out)
 }
 
-// A listing assembled into a lent fragment: 0, 26 or 27, and number, offset and bytes written in `out`. A refusal leaves the
-// fragment as it was, and success its rest.
+/// A listing assembled into a lent fragment: 0, 26 or 27, and number, offset and bytes written in `out`. A refusal leaves the
+/// fragment as it was, and success its rest.
 #[unsafe(no_mangle)]
 pub extern "C" fn listochur_assemble(text: &[u8], fragment: &mut [u8], out: &mut [u64]) -> u32
     ensures number { result ≡ (assembled text.now fragment.old).number }
@@ -389,14 +397,11 @@ pub extern "C" fn listochur_assemble(text: &[u8], fragment: &mut [u8], out: &mut
         (converted_numbers (assembled text.now fragment.old))
         out.old }
 {
-    let c = assembling::assemble(text, fragment);
-    let number = c.number;
-    write_converted(c, out);
-    number
+    write_converted(assembling::assemble(text, fragment), out)
 }
 
-// A fragment listed into a lent text: 0, 3 or 27, and number, offset and bytes written in `out`. A refusal leaves the text as it
-// was, and success its rest.
+/// A fragment listed into a lent text: 0, 3 or 27, and number, offset and bytes written in `out`. A refusal leaves the text as it
+/// was, and success its rest.
 #[unsafe(no_mangle)]
 pub extern "C" fn listochur_list(fragment: &[u8], text: &mut [u8], out: &mut [u64]) -> u32
     ensures number { result ≡ (listed fragment.now text.old).number }
@@ -404,8 +409,5 @@ pub extern "C" fn listochur_list(fragment: &[u8], text: &mut [u8], out: &mut [u6
     ensures written { out.new
         ≡ written (converted_numbers (listed fragment.now text.old)) out.old }
 {
-    let l = listing::list(fragment, text);
-    let number = l.number;
-    write_converted(l, out);
-    number
+    write_converted(listing::list(fragment, text), out)
 }

@@ -2,197 +2,145 @@
 
 #![tactic(auto)]
 
-ghost use Rattle.std.proofs.Math.Option.{none, some};
-ghost use Rattle.std.specs.Prelude.{◌≡◌, ℕ, ◌+◌, ◌*◌, ◌≤◌, ◌<◌, ltb, length};
-ghost use Rattle.definition.specs.Basics.{pick};
-ghost use Rattle.definition.specs.Papers.{part_at};
-ghost use Rattle.good_header.specs.View.{parts_at};
-ghost use Rattle.text.specs.View.{Written};
+ghost use Rattle.std.proofs.Math.Option.{some};
+ghost use Rattle.std.specs.Prelude.{◌≡◌, ◌++◌, ℕ, ◌+◌, ◌-◌, ◌^◌, ◌≤◌, length};
+ghost use Rattle.good_header.specs.View.{parts_from};
+ghost use Rattle.header.specs.View.{part_of};
+ghost use Rattle.arrayvec.specs.ArrayVec.{array_vec_len};
 ghost use Rattle.faults.specs.Faults.{short_paper, bad_count, cut_header, in_header, past_paper, sharing, shared_with};
 ghost use Rattle.faults.specs.Faults.{part_fault, fault, part_name, fault_words};
-ghost use Rattle.faults.specs.View.{fault_of};
+ghost use Rattle.faults.specs.View.{fault_of, found_of, shared_of};
 
-// A fault; parts are counted from 0, the initialiser and then the bodies.
-#[derive(Clone, Copy)]
+use header::{Part, nth_part};
+use text::{Line, push_labelled, push_word};
+
+/// A fault; parts are counted from 0, the initialiser and then the bodies.
+#[derive(Clone, Copy, Debug, PartialEq, Eq)]
 pub enum Fault {
-    Nothing,
     Short { bytes: usize },
-    Count { entries: u32 },
-    Cut { entries: u32, bytes: usize },
+    Count { entries: u16 },
+    Cut { entries: u16, bytes: usize },
     Inside { part: usize },
     Past { part: usize },
     Shared { part: usize, other: usize },
 }
 
-// The first of `count` parts that shares a byte with the part at `at`: how many come before it, and `count` where there is
-// none. Offset and length of the first of them stand at `from`.
-fn first_shared(paper: &[u8], at: usize, from: usize, count: usize) -> usize
-    requires { (at ≤ 1000) × (from + 6 * count ≤ 1000) }
-    ensures same { (k j : ℕ)
-        → shared_with (part_at paper.now at) k j (parts_at paper.now from count)
-        ≡ pick (ltb result count) (some (sharing k (j + result))) none }
-    ensures near { result ≤ count }
+// The first of the paper's parts, from part `from` up to part `count`, that shares a byte with this one.
+#[tactic(auto, using(crate::proofs::Parts::part_rules))]
+fn first_shared(paper: &[u8], part: Part, from: usize, count: usize) -> Option<usize>
+    requires { count ≤ 2 ^ 16 }
+    ensures { (k : ℕ) → shared_of k result ≡ shared_with (part_of part) k from (parts_from paper.now from (count - from)) }
 {
-    let mut n: usize = 0;
-    while n < count {
-        if good_header::share(paper, at, from + 6 * n) {
-            return n;
+    for k in from..count {
+        if good_header::share(part, nth_part(paper, k)) {
+            return Some(k);
         }
-        n += 1;
     }
-    count
+    None
 }
 
-// What is wrong with the parts, of which there are `count`: with each by itself, and then with those after it.
-fn fault_in(paper: &[u8], header: usize, count: usize) -> Fault
-    requires { count ≤ 33 }
-    ensures { fault_of result ≡ part_fault header (length paper.now) 0 (parts_at paper.now 4 count) }
+// What is wrong with the first `count` parts: with each by itself, and then with those after it.
+#[tactic(auto, using(crate::proofs::Parts::part_rules))]
+fn fault_in(paper: &[u8], header: usize, count: usize) -> Option<Fault>
+    requires { count ≤ 2 ^ 16 }
+    ensures { found_of result ≡ part_fault header (length paper.now) 0 (parts_from paper.now 0 count) }
 {
-    let mut k: usize = 0;
-    while k < count {
-        let at = 4 + 6 * k;
-        let offset = header::field(paper, at) as usize;
-        let size = header::field(paper, at + 2) as usize;
-        if offset < header {
-            return Fault::Inside { part: k };
+    for k in 0..count {
+        let part = nth_part(paper, k);
+        if part.start() < header {
+            return Some(Fault::Inside { part: k });
         }
-        if paper.len() < offset + size {
-            return Fault::Past { part: k };
+        if paper.len() < part.end() {
+            return Some(Fault::Past { part: k });
         }
-        let left = count - k - 1;
-        let n = first_shared(paper, at, at + 6, left);
-        if n < left {
-            return Fault::Shared {
-                part: k,
-                other: k + 1 + n,
-            };
+        if let Some(other) = first_shared(paper, part, k + 1, count) {
+            return Some(Fault::Shared { part: k, other });
         }
-        k += 1;
     }
-    Fault::Nothing
+    None
 }
 
-// What is wrong with a header, if anything is.
-pub fn find(paper: &[u8]) -> Fault
-    ensures { fault_of result ≡ fault paper.now }
+/// What is wrong with a header, if anything is.
+#[tactic(auto, using(crate::proofs::Parts::header_rules))]
+pub fn find(paper: &[u8]) -> Option<Fault>
+    ensures { found_of result ≡ fault paper.now }
 {
-    let size = paper.len();
-    if size < 8 {
-        return Fault::Short { bytes: size };
-    }
+    let bytes = paper.len();
     let entries = header::field(paper, 0);
-    if entries == 0 {
-        return Fault::Count { entries };
-    }
-    if entries > 32 {
-        return Fault::Count { entries };
-    }
-    let count = entries as usize;
+    let count = usize::from(entries);
     let header = 8 + 6 * count;
-    if size < header {
-        return Fault::Cut {
-            entries,
-            bytes: size,
-        };
+    if bytes < 8 {
+        Some(Fault::Short { bytes })
+    } else if !(1..=32).contains(&count) {
+        Some(Fault::Count { entries })
+    } else if bytes < header {
+        Some(Fault::Cut { entries, bytes })
+    } else {
+        fault_in(paper, header, count + 1)
     }
-    fault_in(paper, header, count + 1)
 }
 
-// The words of each fault, behind `: `.
-fn write_short(out: &mut [u8], at: usize, bytes: usize) -> usize
-    requires { at + 110 ≤ length out.old }
-    ensures same { Written out.old at (fault_words (some (short_paper bytes))) out.new result }
-    ensures short { result ≤ at + 110 }
-{
-    let a = text::write_labelled(out, at, b": ", bytes as u64);
-    text::write_word(out, a, b" bytes, fewer than 8")
-}
-
-fn write_count(out: &mut [u8], at: usize, entries: u32) -> usize
-    requires { at + 110 ≤ length out.old }
-    ensures same { Written out.old at (fault_words (some (bad_count entries))) out.new result }
-    ensures short { result ≤ at + 110 }
-{
-    let a = text::write_labelled(out, at, b": entries ", entries as u64);
-    text::write_word(out, a, b", 1 to 32 allowed")
-}
-
-fn write_cut(out: &mut [u8], at: usize, entries: u32, bytes: usize) -> usize
-    requires { at + 110 ≤ length out.old }
-    ensures same { Written out.old at (fault_words (some (cut_header entries bytes))) out.new result }
-    ensures short { result ≤ at + 110 }
-{
-    let needed = 8 + 6 * entries as u64;
-    let a = text::write_labelled(out, at, b": ", entries as u64);
-    let b = text::write_labelled(out, a, b" entries need ", needed);
-    text::write_labelled(out, b, b" bytes, the paper has ", bytes as u64)
-}
-
-fn write_part(out: &mut [u8], at: usize, part: usize) -> usize
-    requires { at + 38 ≤ length out.old }
-    ensures same { Written out.old at (part_name part) out.new result }
-    ensures short { result ≤ at + 38 }
+// Appends the name of a part.
+#[tactic(auto, using(crate::proofs::Words::body_name))]
+fn push_part<const N: usize>(line: &mut Line<N>, part: usize)
+    requires { array_vec_len line.old + 38 ≤ N }
+    ensures items { line.new.items ≡ line.old.items ++ part_name part }
+    ensures short { array_vec_len line.new ≤ array_vec_len line.old + 38 }
 {
     if part == 0 {
-        return text::write_word(out, at, b"the initialiser");
+        push_word(line, b"the initialiser");
+    } else {
+        push_labelled(line, b"the body of entry ", (part - 1) as u64);
     }
-    text::write_labelled(out, at, b"the body of entry ", (part - 1) as u64)
 }
 
-fn write_inside(out: &mut [u8], at: usize, part: usize) -> usize
-    requires { at + 110 ≤ length out.old }
-    ensures same { Written out.old at (fault_words (some (in_header part))) out.new result }
-    ensures short { result ≤ at + 110 }
-{
-    let a = text::write_word(out, at, b": ");
-    let b = write_part(out, a, part);
-    text::write_word(out, b, b" starts in the header")
-}
-
-fn write_past(out: &mut [u8], at: usize, part: usize) -> usize
-    requires { at + 110 ≤ length out.old }
-    ensures same { Written out.old at (fault_words (some (past_paper part))) out.new result }
-    ensures short { result ≤ at + 110 }
-{
-    let a = text::write_word(out, at, b": ");
-    let b = write_part(out, a, part);
-    text::write_word(out, b, b" ends past the paper")
-}
-
-fn write_shared(out: &mut [u8], at: usize, part: usize, other: usize) -> usize
-    requires { at + 110 ≤ length out.old }
-    ensures same { Written out.old at (fault_words (some (sharing part other))) out.new result }
-    ensures short { result ≤ at + 110 }
-{
-    let a = text::write_word(out, at, b": ");
-    let b = write_part(out, a, part);
-    let c = text::write_word(out, b, b" shares a byte with ");
-    write_part(out, c, other)
-}
-
-// Of any fault; nothing where there is none.
-fn write_words(out: &mut [u8], at: usize, f: Fault) -> usize
-    requires { at + 110 ≤ length out.old }
-    ensures same { Written out.old at (fault_words (fault_of f)) out.new result }
-    ensures short { result ≤ at + 110 }
+// Appends the words of a fault behind `: `.
+#[tactic(auto, unfolding(crate::specs::Faults::fault_words))]
+fn push_words<const N: usize>(line: &mut Line<N>, f: Fault)
+    requires { array_vec_len line.old + 110 ≤ N }
+    ensures items { line.new.items ≡ line.old.items ++ fault_words (some (fault_of f)) }
+    ensures short { array_vec_len line.new ≤ array_vec_len line.old + 110 }
 {
     match f {
-        Fault::Nothing => at,
-        Fault::Short { bytes } => write_short(out, at, bytes),
-        Fault::Count { entries } => write_count(out, at, entries),
-        Fault::Cut { entries, bytes } => write_cut(out, at, entries, bytes),
-        Fault::Inside { part } => write_inside(out, at, part),
-        Fault::Past { part } => write_past(out, at, part),
-        Fault::Shared { part, other } => write_shared(out, at, part, other),
+        Fault::Short { bytes } => {
+            push_labelled(line, b": ", bytes as u64);
+            push_word(line, b" bytes, fewer than 8");
+        }
+        Fault::Count { entries } => {
+            push_labelled(line, b": entries ", u64::from(entries));
+            push_word(line, b", 1 to 32 allowed");
+        }
+        Fault::Cut { entries, bytes } => {
+            push_labelled(line, b": ", u64::from(entries));
+            push_labelled(line, b" entries need ", 8 + 6 * u64::from(entries));
+            push_labelled(line, b" bytes, the paper has ", bytes as u64);
+        }
+        Fault::Inside { part } => {
+            push_word(line, b": ");
+            push_part(line, part);
+            push_word(line, b" starts in the header");
+        }
+        Fault::Past { part } => {
+            push_word(line, b": ");
+            push_part(line, part);
+            push_word(line, b" ends past the paper");
+        }
+        Fault::Shared { part, other } => {
+            push_word(line, b": ");
+            push_part(line, part);
+            push_word(line, b" shares a byte with ");
+            push_part(line, other);
+        }
     }
 }
 
-// What is wrong with the header of a paper, in words behind `: `; nothing where nothing is.
-pub fn write_fault(out: &mut [u8], at: usize, paper: &[u8]) -> usize
-    requires { at + 110 ≤ length out.old }
-    ensures same { Written out.old at (fault_words (fault paper.now)) out.new result }
-    ensures short { result ≤ at + 110 }
+/// Appends what is wrong with the header of a paper, in words behind `: `; nothing where nothing is.
+pub fn push_fault<const N: usize>(line: &mut Line<N>, paper: &[u8])
+    requires { array_vec_len line.old + 110 ≤ N }
+    ensures items { line.new.items ≡ line.old.items ++ fault_words (fault paper.now) }
+    ensures short { array_vec_len line.new ≤ array_vec_len line.old + 110 }
 {
-    let f = find(paper);
-    write_words(out, at, f)
+    if let Some(fault) = find(paper) {
+        push_words(line, fault);
+    }
 }

@@ -1,51 +1,40 @@
-// For callers that show a fragment: what is marked of fragment k, the bodies in order and then the initialiser. No bytes and
-// heights 0 where there is none.
+// What is marked of a paper, fragment by fragment: the bodies in order and then the initialiser.
 
 #![tactic(auto)]
 
-ghost use Rattle.std.specs.Prelude.{◌≡◌};
+ghost use Rattle.std.specs.Prelude.{◌≡◌, ◌≤◌, ◌↔◌, length, IfSome, IsNone};
+ghost use Rattle.definition.specs.Papers.{fragments};
+ghost use Rattle.fragments.specs.View.{fragment_of};
 ghost use Rattle.header.specs.View.{fragment_at};
 
-use header::{field, fragment_count, most_parameters, part};
-
-// Its bytes.
-pub fn fragment_bytes<'a>(paper: &'a [u8], k: usize) -> &'a [u8]
-    ensures { result.now ≡ (fragment_at paper.now k).bytes }
-{
-    let count = field(paper, 0) as usize;
-    if k < count {
-        return part(paper, 8 + 6 * k + 2);
-    }
-    if k < fragment_count(paper) {
-        return part(paper, 4);
-    }
-    &paper[0..0]
+/// A fragment, and the heights that it starts from.
+#[derive(Clone, Copy, Debug, PartialEq, Eq)]
+pub struct Fragment<'a> {
+    pub bytes: &'a [u8],
+    pub main: u32,
+    pub alt: u32,
 }
 
-// The main height that it starts from.
-pub fn fragment_main(paper: &[u8], k: usize) -> u32
-    ensures { result ≡ (fragment_at paper.now k).main }
+/// Fragment `k`, from 0; `None` where the paper has no fragment `k`.
+#[tactic(auto, using(crate::proofs::Numbered::numbered))]
+pub fn nth_fragment<'a>(paper: &'a [u8], k: usize) -> Option<Fragment<'a>>
+    ensures found { IfSome result (λ f. fragment_of f ≡ fragment_at paper.now k) }
+    ensures past { IsNone result ↔ (length (fragments paper.now) ≤ k) }
 {
-    let count = field(paper, 0) as usize;
-    if k < count {
-        return field(paper, 8 + 6 * k) + field(paper, 2);
+    if k < header::entry_count(paper) {
+        let entry = header::nth_entry(paper, k);
+        Some(Fragment {
+            bytes: entry.body.bytes(paper),
+            main: u32::from(entry.parameters) + u32::from(header::state_fields(paper)),
+            alt: 0,
+        })
+    } else if k < header::fragment_count(paper) {
+        Some(Fragment {
+            bytes: header::initialiser(paper).bytes(paper),
+            main: u32::from(header::most_parameters(paper)),
+            alt: 1,
+        })
+    } else {
+        None
     }
-    if k < fragment_count(paper) {
-        return most_parameters(paper);
-    }
-    0
-}
-
-// The alt height that it starts from.
-pub fn fragment_alt(paper: &[u8], k: usize) -> u32
-    ensures { result ≡ (fragment_at paper.now k).alt }
-{
-    let count = field(paper, 0) as usize;
-    if k < count {
-        return 0;
-    }
-    if k < fragment_count(paper) {
-        return 1;
-    }
-    0
 }

@@ -1,104 +1,65 @@
-// Whether the header of a paper is right: document 01, section 6.
+// Whether the header of a paper is right.
 
 #![tactic(auto)]
 
-ghost use Rattle.std.specs.Prelude.{◌≡◌, ◌+◌, ◌*◌, ◌≤◌, min, length};
-// `Papers.f` is the f of document 01, section 6, in crates/definition/specs/Papers.antt.
+ghost use Rattle.std.specs.Prelude.{◌≡◌, ◌-◌, ◌^◌, ◌≤◌, length};
+// `Papers.f` is the f of the definitions, in crates/definition/specs/Papers.antt.
 ghost use Rattle.definition.specs.Papers as Papers;
-ghost use Rattle.definition.specs.Papers.{part_at, shares_none, good_parts, good_header};
-ghost use Rattle.good_header.specs.View.{last_part, parts_at};
+ghost use Rattle.definition.specs.Papers.{shares_none, good_parts, good_header};
+ghost use Rattle.good_header.specs.View.{parts_from};
+ghost use Rattle.header.specs.View.{part_of};
 
-use header::{field, larger};
+use header::{Part, entry_count, nth_part};
 
-fn smaller(a: u32, b: u32) -> u32
-    ensures { result ≡ min a b }
+// Whether the part lies after the header and within the paper.
+fn within(part: Part, header: usize, size: usize) -> bool
+    ensures { result ≡ Papers.within header size (part_of part) }
 {
-    if a < b {
-        return a;
-    }
-    b
+    header <= part.start() && part.end() <= size
 }
 
-// Whether the part whose offset and length stand at `at` lies after the header and within the paper.
-fn within(paper: &[u8], header: usize, at: usize) -> bool
-    requires { at ≤ last_part }
-    ensures { result ≡ Papers.within header (length paper.now) (part_at paper.now at) }
+/// Whether two parts share a byte.
+pub fn share(a: Part, b: Part) -> bool
+    ensures { result ≡ Papers.share (part_of a) (part_of b) }
 {
-    let offset = field(paper, at) as usize;
-    let size = field(paper, at + 2) as usize;
-    if offset < header {
-        return false;
-    }
-    offset + size <= paper.len()
+    a.start().max(b.start()) < a.end().min(b.end())
 }
 
-// Whether the parts whose offset and length stand at `a` and `b` share a byte.
-pub fn share(paper: &[u8], a: usize, b: usize) -> bool
-    requires { (a ≤ last_part) × (b ≤ last_part) }
-    ensures { result ≡ Papers.share (part_at paper.now a) (part_at paper.now b) }
+// Whether the part shares no byte with any of the paper's parts from part `from` up to part `count`.
+#[tactic(auto, using(crate::proofs::Headers::part_steps))]
+fn apart_from(paper: &[u8], part: Part, from: usize, count: usize) -> bool
+    requires { count ≤ 2 ^ 16 }
+    ensures { result ≡ shares_none (part_of part) (parts_from paper.now from (count - from)) }
 {
-    let first = field(paper, a);
-    let second = field(paper, b);
-    let start = larger(first, second);
-    let end = smaller(first + field(paper, a + 2), second + field(paper, b + 2));
-    start < end
-}
-
-// Whether the part at `at` shares no byte with `count` parts, the first of them at `from`.
-fn apart_from(paper: &[u8], at: usize, from: usize, count: usize) -> bool
-    requires { (at ≤ last_part) × (from + 6 * count ≤ last_part) }
-    ensures { result ≡ shares_none (part_at paper.now at) (parts_at paper.now from count) }
-{
-    let mut next = from;
-    let mut left = count;
-    while left > 0 {
-        if share(paper, at, next) {
+    for k in from..count {
+        if share(part, nth_part(paper, k)) {
             return false;
         }
-        next += 6;
-        left -= 1;
     }
     true
 }
 
-// Whether each of `count` parts, the first of them at `from`, lies where it may, and no two share a byte.
-fn parts_ok(paper: &[u8], header: usize, from: usize, count: usize) -> bool
-    requires { from + 6 * count ≤ last_part }
-    ensures { result ≡ good_parts header (length paper.now) (parts_at paper.now from count) }
+// Whether each of the first `count` parts lies where it may, and no two share a byte.
+#[tactic(auto, using(crate::proofs::Headers::part_steps))]
+fn parts_ok(paper: &[u8], header: usize, count: usize) -> bool
+    requires { count ≤ 2 ^ 16 }
+    ensures { result ≡ good_parts header (length paper.now) (parts_from paper.now 0 count) }
 {
-    let mut at = from;
-    let mut left = count;
-    while left > 0 {
-        if !within(paper, header, at) {
+    for k in 0..count {
+        let part = nth_part(paper, k);
+        if !within(part, header, paper.len()) || !apart_from(paper, part, k + 1, count) {
             return false;
         }
-        left -= 1;
-        if !apart_from(paper, at, at + 6, left) {
-            return false;
-        }
-        at += 6;
     }
     true
 }
 
-// Whether the header is right: not 19. The parts are the initialiser and the bodies; offset and length of part k stand at
-// 4 + 6 * k.
+/// Whether the header is right: not 19. The parts are the initialiser and the bodies.
+#[tactic(auto, using(crate::proofs::Headers::header_rules))]
 pub fn header_ok(paper: &[u8]) -> bool
     ensures { result ≡ good_header paper.now }
 {
-    if paper.len() < 8 {
-        return false;
-    }
-    let count = field(paper, 0) as usize;
-    if count < 1 {
-        return false;
-    }
-    if count > 32 {
-        return false;
-    }
+    let count = entry_count(paper);
     let header = 8 + 6 * count;
-    if paper.len() < header {
-        return false;
-    }
-    parts_ok(paper, header, 4, count + 1)
+    (1..=32).contains(&count) && header <= paper.len() && parts_ok(paper, header, count + 1)
 }

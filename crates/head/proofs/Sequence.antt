@@ -6,20 +6,23 @@ use native.Mathlib.Omega.{arith}
 use lib.ListN.{length, replicate}
 use Rattle.definition.specs.Basics.{Bytes}
 use Rattle.definition.specs.Decoding.{Code, ends, malformed, then, instructions, malformed_at}
-use Rattle.decode.specs.View.{decoded_at, code_at, Yield, to_marker, yielded, rest}
-use Rattle.decode.specs.declared.Decoded.{Decoded}
-use Rattle.decode.specs.declared.Decoded.TheVariants.{At, End, Malformed}
-use Rattle.decode.proofs.Codes.{code-behind, code-ends, code-malformed}
+use Rattle.decode.specs.View.{Decoded, decoded_at, code_at, Yield, to_marker, yielded, rest}
+use Rattle.std.specs.Prelude.{Some, None, Ok, Err}
+use Rattle.decode.proofs.Codes.{code-start, code-behind, code-ends, code-malformed}
 use Rattle.head.specs.View.{offset_after, yields, at_last}
 
 -- behind an instruction the rest of the code is left; at the end, and at 3, the same code
-pub left_after : (s : Bytes) (p n : ℕ) (d : Decoded) → d ≡ decoded_at s p → n ≡ offset_after d p → code_at s n ≡ rest (code_at s p)
-left_after s p n d h e = ap (code_at s) e ∙ by d (sym h)
+left-after : (s : Bytes) (p : ℕ) → code_at s (offset_after (decoded_at s p) p) ≡ rest (code_at s p)
+left-after s p = by (decoded_at s p) refl
   where
     by : (d : Decoded) → decoded_at s p ≡ d → code_at s (offset_after d p) ≡ rest (code_at s p)
-    by (At i) h = code-behind s p i h
-    by End h = let c : code_at s p ≡ ends = (code-ends s p h).0 in rw c
-    by (Malformed at) h = let c : code_at s p ≡ malformed p = (code-malformed s p h).0 in rw c
+    by (Ok (Some i)) h = code-behind s p i h
+    by (Ok None) h = rw (code-ends s p h).0
+    by (Err m) h = rw (code-malformed s p h).0
+
+-- and at each offset that is known to be the one after
+pub rest-after : (s : Bytes) (p n : ℕ) → n ≡ offset_after (decoded_at s p) p → rest (code_at s p) ≡ code_at s n
+rest-after s p n e = sym (left-after s p) ∙ ap (code_at s) (sym e)
 
 -- the end, and 3, again and again
 again : (c : Code) (k : ℕ) → rest c ≡ c → yields k c ≡ replicate k (yielded c)
@@ -35,3 +38,5 @@ head-yields (malformed offset) m = let z : 0 + m ≡ m = omega arith in rw z (ag
 head-yields (then i c) m =
     let z : suc (length (instructions c)) + m ≡ suc (length (instructions c) + m) = omega arith in
     rw z (ap (λ (l : List Yield). to_marker i ∷ l) (head-yields c m))
+
+pub ruleset sequence = (rest-after, code-start)

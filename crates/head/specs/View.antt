@@ -1,11 +1,9 @@
 -- The code left at a reading head, and what is read of code.
-use Rattle.std.specs.Prelude.{List, [], ◌∷◌, ℕ, zero, suc}
+use Rattle.std.specs.Prelude.{List, [], ◌∷◌, ℕ, zero, suc, Some, None, Ok, Err}
 use Rattle.std.proofs.Math.Option.{Option, none, some}
 use Rattle.definition.specs.Decoding.{Code}
 use Rattle.definition.specs.Refusals.{malformed_fragment, refused_at}
-use Rattle.decode.specs.View.{code_at, Yield, the_end, refused, yielded, rest}
-use Rattle.decode.specs.declared.Decoded.{Decoded}
-use Rattle.decode.specs.declared.Decoded.TheVariants.{At, End, Malformed}
+use Rattle.decode.specs.View.{Decoded, code_at, Yield, the_end, refused, yielded, rest}
 use Rattle.head.specs.declared.Head.{Head}
 
 -- "A reading head rests on a fragment": the code of the fragment from the head's offset on
@@ -14,9 +12,9 @@ left h = code_at h.fragment.now h.offset
 
 -- where a head that found this at an offset stands next
 abbrev pub offset_after : Decoded → ℕ → ℕ
-offset_after (At i) offset = i.next
-offset_after End offset = offset
-offset_after (Malformed at) offset = offset
+offset_after (Ok (Some i)) offset = i.next
+offset_after (Ok None) offset = offset
+offset_after (Err m) offset = offset
 
 -- what so many reads yield, one after another, where this code is left
 abbrev pub yields : ℕ → Code → List Yield

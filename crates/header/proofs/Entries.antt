@@ -5,24 +5,21 @@ use Prim.Native.Nat.{ℕ, suc, ◌+◌, ◌-◌, ◌*◌, ◌≤◌, ◌<◌, ma
 use native.Mathlib.Omega.{arith}
 use borrow.Author.Tests.{lt-ltb, le-ltb}
 use Rattle.definition.specs.Basics.{Bytes}
-use Rattle.definition.specs.Papers.{Entry, field, part_at, entries_at, entry_count, entries, state_fields, most_parameters, dispatch}
+use Rattle.definition.specs.Papers.{Entry, entries_at, entry_count, entries, state_fields, most_parameters, dispatch}
 use Rattle.definition.specs.Stacks.{Rules}
-use Rattle.header.specs.View.{dispatched}
-use Rattle.header.specs.declared.Dispatch.TheVariants.{Fits, Over}
-
--- entry k stands at 8 + 6 * k
-abbrev pub entry_at : Bytes → ℕ → Entry
-entry_at p k = record { parameters = field p (8 + 6 * k); body = part_at p (8 + 6 * k + 2) }
+use Rattle.std.specs.Prelude.{Ok, Err}
+use Rattle.header.specs.View.{dispatched, entry_at}
 
 -- the entries from k on, of n
 abbrev pub entries_from : Bytes → ℕ → ℕ → List Entry
 entries_from p n k = entries_at p (8 + 6 * k) (n - k)
 
-pub entries-more : (p : Bytes) (n k : ℕ) → k < n → entries_from p n k ≡ entry_at p k ∷ entries_from p n (k + 1)
-entries-more p n k h =
+pub entries-more : (p : Bytes) (n k : ℕ) (entry : Entry) → k < n → entry ≡ entry_at p k → entries_from p n k ≡ entry ∷ entries_from p n (k + 1)
+entries-more p n k entry h q =
     let e : n - k ≡ suc (n - (k + 1)) = omega arith in
     let f : 8 + 6 * k + 6 ≡ 8 + 6 * (k + 1) = omega arith in
     ap (λ m. entries_at p (8 + 6 * k) m) e ∙ ap (λ o. entry_at p k ∷ entries_at p o (n - (k + 1))) f
+    ∙ ap (λ (e : Entry). e ∷ entries_from p n (k + 1)) (sym q)
 
 pub entries_none : (p : Bytes) (n k : ℕ) → n ≤ k → entries_from p n k ≡ []
 entries_none p n k h =
@@ -40,27 +37,27 @@ entries-all p n e =
 abbrev pub Dispatching : ℕ → Bytes → ℕ → ℕ → Type 0
 Dispatching limit p n k = (R : Rules) (log : List ℕ) → R.limit ≡ limit → dispatch R p 0 (entries p) log ≡ dispatch R p k (entries_from p n k) log
 
-module _ (limit : ℕ) (p : Bytes) (n : ℕ) (e : n ≡ entry_count p) where
-  pub dispatching-all : Dispatching limit p n 0
-  dispatching-all R log m = ap (λ es. dispatch R p 0 es log) (entries-all p n e)
+module _ (limit : ℕ) (p : Bytes) (n : ℕ) where
+  pub dispatching-all : n ≡ entry_count p → Dispatching limit p n 0
+  dispatching-all e R log m = ap (λ es. dispatch R p 0 es log) (entries-all p n e)
 
   module _ (k : ℕ) (i : Dispatching limit p n k) where
-    pub dispatching-none : n ≤ k → (R : Rules) (log : List ℕ) → R.limit ≡ limit → dispatch R p 0 (entries p) log ≡ dispatched R p Fits log
+    pub dispatching-none : n ≤ k → (R : Rules) (log : List ℕ) → R.limit ≡ limit → dispatch R p 0 (entries p) log ≡ dispatched R p (Ok tt) log
     unfolding dispatch
     dispatching-none h R log m = i R log m ∙ ap (λ es. dispatch R p k es log) (entries_none p n k h)
 
-    module _ (more : k < n) (parameters fields : ℕ) (f : parameters ≡ field p (8 + 6 * k)) (g : fields ≡ state_fields p) where
-      pub dispatching-over : limit < parameters + fields + 3 → (R : Rules) (log : List ℕ) → R.limit ≡ limit
-          → dispatch R p 0 (entries p) log ≡ dispatched R p (Over k (parameters + fields + 3)) log
+    module _ (more : k < n) (entry : Entry) (f : entry ≡ entry_at p k) (sum : ℕ) (g : sum ≡ entry.parameters + state_fields p + 3) where
+      pub dispatching-over : limit < sum → (R : Rules) (log : List ℕ) → R.limit ≡ limit
+          → dispatch R p 0 (entries p) log ≡ dispatched R p (Err (record { entry = k; sum = sum })) log
       unfolding dispatch
       dispatching-over h R log m =
-          i R log m ∙ ap (λ es. dispatch R p k es log) (entries-more p n k more) ∙ rw (← f, ← g, m, lt-ltb limit (parameters + fields + 3) h)
+          i R log m ∙ ap (λ es. dispatch R p k es log) (entries-more p n k entry more f) ∙ rw (← g, m, lt-ltb limit sum h)
 
-      pub dispatching-more : parameters + fields + 3 ≤ limit → Dispatching limit p n (k + 1)
+      pub dispatching-more : sum ≤ limit → Dispatching limit p n (k + 1)
       unfolding dispatch
       dispatching-more h R log m =
-          let fits : parameters + fields + 3 ≤ R.limit = omega arith in
-          i R log m ∙ ap (λ es. dispatch R p k es log) (entries-more p n k more) ∙ rw (← f, ← g, le-ltb R.limit (parameters + fields + 3) fits)
+          let fits : sum ≤ R.limit = omega arith in
+          i R log m ∙ ap (λ es. dispatch R p k es log) (entries-more p n k entry more f) ∙ rw (← g, le-ltb R.limit sum fits)
 
 -- The most parameters
 
@@ -68,13 +65,12 @@ module _ (limit : ℕ) (p : Bytes) (n : ℕ) (e : n ≡ entry_count p) where
 abbrev pub Greatest : Bytes → ℕ → ℕ → ℕ → Type 0
 Greatest p n k most = most_parameters (entries p) ≡ max most (most_parameters (entries_from p n k))
 
-module _ (p : Bytes) (n : ℕ) (e : n ≡ entry_count p) where
-  pub greatest-all : Greatest p n 0 0
-  greatest-all = ap most_parameters (entries-all p n e) ∙ omega arith
+pub greatest-all : (p : Bytes) (n : ℕ) → n ≡ entry_count p → Greatest p n 0 0
+greatest-all p n e = ap most_parameters (entries-all p n e) ∙ omega arith
 
-  module _ (k most : ℕ) (i : Greatest p n k most) where
-    pub greatest-more : k < n → (parameters most' : ℕ) → parameters ≡ field p (8 + 6 * k) → most' ≡ max most parameters → Greatest p n (k + 1) most'
-    greatest-more more parameters most' f g = i ∙ rw (entries-more p n k more, ← f, g) (omega arith)
+pub greatest-more : (p : Bytes) (n k most most' : ℕ) (e : Entry) → Greatest p n k most → k < n → e ≡ entry_at p k
+    → most' ≡ max e.parameters most → Greatest p n (k + 1) most'
+greatest-more p n k most most' e i more f g = i ∙ rw (entries-more p n k e more f, g) (omega arith)
 
-    pub greatest-none : n ≤ k → most ≡ most_parameters (entries p)
-    greatest-none h = sym (i ∙ rw (entries_none p n k h) (omega arith))
+pub greatest-none : (p : Bytes) (n k most : ℕ) → Greatest p n k most → n ≤ k → most ≡ most_parameters (entries p)
+greatest-none p n k most i h = sym (i ∙ rw (entries_none p n k h) (omega arith))

@@ -1,40 +1,17 @@
--- Laws of the fragments: the bytes of a part, the fragment of a number.
-use mathlib.Core.Bool.{Bool, true, false}
-use mathlib.Core.List.{[], ◌∷◌, ◌++◌}
-use mathlib.Core.Path.{◌≡◌, refl, sym, ap, ◌∙◌}
-use Prim.Native.Nat.{ℕ, zero, suc, ◌+◌, ◌-◌, ◌*◌, ◌≤◌, ◌<◌}
+-- Laws of the fragments: how many there are, the fragment of a number.
+use mathlib.Core.Bool.{Bool, true, false, not}
+use mathlib.Core.List.{[], ◌∷◌}
+use mathlib.Core.Path.{◌≡◌, refl, ap, ◌∙◌}
+use Prim.Native.Nat.{ℕ, zero, suc, ◌+◌, ◌*◌, ◌≤◌, ◌<◌}
 use native.Mathlib.Omega.{arith}
-use borrow.Author.Tests.{eqb-true, eq-eqb, ne_eqb}
+use borrow.Author.Tests.{eqb-true, eqb-false, eq-eqb, ne_eqb}
 use lib.Dec.{eqb}
-use lib.ListN.{length, take, drop, get_or, length-append, length-drop, drop_of_length-le, get_or-append}
-use lib.Seq.{take_all, take-nil, drop-length, get_or-append-add}
+use lib.ListN.{length, get_or, length-append, get_or-append}
+use lib.Seq.{get_or-append-add}
+use Rattle.std.specs.Int.{from_bool}
 use Rattle.definition.specs.Basics.{Bytes}
 use Rattle.definition.specs.Papers.{Fragment, field, part_at, bytes_of, entries_at, entry_count, entries, state_fields, initialiser, most_parameters, body_fragments, state_fragments, fragments}
 use Rattle.header.specs.View.{fragment_at}
-use Rattle.header.proofs.Fields.{field_past}
-
--- The bytes of a part
-
--- its offset and length stand at the paper's end or past it
-pub part_none : (p : Bytes) (at : ℕ) → length p ≤ at → take (0 - 0) (drop 0 p) ≡ bytes_of p (part_at p at)
-part_none p at h =
-    let e : 0 ≡ field p (at + 2) = field_past p (at + 2) (omega arith) in
-    rw (← e)
-
-module _ (p : Bytes) (at offset size : ℕ) (e : offset ≡ field p at) (f : size ≡ field p (at + 2)) where
-  pub part-past : length p ≤ offset → take (length p - length p) (drop (length p) p) ≡ bytes_of p (part_at p at)
-  part-past h = rw (← e, ← f, drop-length p, drop_of_length-le p h, take-nil {A = ℕ} size, take-nil {A = ℕ} (length p - length p))
-
-  module _ (within : offset < length p) where
-    pub part_cut : length p < offset + size → take (length p - offset) (drop offset p) ≡ bytes_of p (part_at p at)
-    part_cut h =
-        let n : length (drop offset p) ≡ length p - offset = length-drop offset p in
-        rw (← e, ← f, take_all (length p - offset) (drop offset p) (omega (arith, n)), take_all size (drop offset p) (omega (arith, n)))
-
-    pub part-whole : offset + size ≤ length p → take (offset + size - offset) (drop offset p) ≡ bytes_of p (part_at p at)
-    part-whole h =
-        let n : offset + size - offset ≡ size = omega arith in
-        rw (← e, ← f, n)
 
 -- The fragment of a number
 
@@ -75,25 +52,38 @@ module _ (p : Bytes) where
   with-state : ((initialiser p).size ≡ 0 → ⊥) → state_fragments p ≡ state ∷ []
   with-state h = rw (ne_eqb (initialiser p).size 0 h)
 
-  pub count-without : (n size : ℕ) → n ≡ field p 0 → size ≡ field p 6 → size ≡ 0 → n ≡ length (fragments p)
-  count-without n size e f h = e ∙ sym (without (sym f ∙ h))
-
-  pub count-with : (n size : ℕ) → n ≡ field p 0 → size ≡ field p 6 → (size ≡ 0 → ⊥) → n + 1 ≡ length (fragments p)
+  with-one : ((initialiser p).size ≡ 0 → ⊥) → length (fragments p) ≡ entry_count p + 1
   unfolding fragments
-  count-with n size e f h =
-      let s : length (state_fragments p) ≡ 1 = ap length (with-state (λ z. h (f ∙ z))) in
-      let a : length (body_fragments p (entries p) ++ state_fragments p) ≡ length (body_fragments p (entries p)) + length (state_fragments p) = length-append (body_fragments p (entries p)) (state_fragments p) in
-      omega (arith, a, s, length-bodies 8 (entry_count p), e)
+  with-one h = length-append (body_fragments p (entries p)) (state_fragments p) ∙ omega (arith, ap length (with-state h), length-bodies 8 (entry_count p))
+
+  length-by : (b : Bool) → eqb (initialiser p).size 0 ≡ b → length (fragments p) ≡ entry_count p + from_bool (not b)
+  length-by true e = without (eqb-true (initialiser p).size 0 e) ∙ omega arith
+  length-by false e = with-one (eqb-false (initialiser p).size 0 e)
+
+  -- how many there are
+  pub length-fragments : length (fragments p) ≡ entry_count p + from_bool (not (eqb (initialiser p).size 0))
+  length-fragments = length-by (eqb (initialiser p).size 0) refl
+
+  pub entry_count-le : entry_count p ≤ length (fragments p)
+  entry_count-le = omega (arith, length-fragments)
+
+  pub length-fragments-le : length (fragments p) ≤ entry_count p + 1
+  length-fragments-le = by (eqb (initialiser p).size 0) refl
+    where
+      by : (b : Bool) → eqb (initialiser p).size 0 ≡ b → length (fragments p) ≤ entry_count p + 1
+      by true e = omega (arith, length-by true e)
+      by false e = omega (arith, length-by false e)
 
   state-by : (b : Bool) → eqb (initialiser p).size 0 ≡ b → (k : ℕ) → entry_count p ≤ k → k < length (fragments p) → fragment_at p k ≡ state
   unfolding fragments
   state-by true q k h l = absurd (omega (arith, without (eqb-true (initialiser p).size 0 q), h, l))
   state-by false q k h l =
       let s : state_fragments p ≡ state ∷ [] = rw q in
-      let a : length (fragments p) ≡ entry_count p + 1 =
-      length-append (body_fragments p (entries p)) (state_fragments p) ∙ omega (arith, ap length s, length-bodies 8 (entry_count p)) in
+      let a : length (fragments p) ≡ entry_count p + 1 = with-one (eqb-false (initialiser p).size 0 q) in
       let e : k ≡ length (body_fragments p (entries p)) + 0 = omega (arith, a, length-bodies 8 (entry_count p), h, l) in
       ap (λ m. fragment_at p m) e ∙ get_or-append-add (body_fragments p (entries p)) (state_fragments p) 0 _ ∙ ap (λ l. get_or l 0 (record { bytes = []; main = 0; alt = 0 })) s
 
   pub fragment-state : (k : ℕ) → entry_count p ≤ k → k < length (fragments p) → fragment_at p k ≡ state
   fragment-state k h l = state-by (eqb (initialiser p).size 0) refl k h l
+
+pub ruleset counting = (length-fragments)

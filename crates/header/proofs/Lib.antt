@@ -1,4 +1,3 @@
 -- What is proved of the definitions for this crate's functions and for callers.
-pub mod Fields
 pub mod Entries
 pub mod Fragments

@@ -1,111 +1,153 @@
-// Reading a paper: its fields, the dispatch check, its parts (document 01, section 6).
+// Reading a paper: its fields, its parts, its entries, the dispatch check.
 
 #![tactic(auto)]
 
-ghost use Rattle.std.specs.Prelude.{List, ◌≡◌, ℕ, ◌<◌, max, length};
-// `Papers.f` is the f of document 01, section 6, in crates/definition/specs/Papers.antt.
+ghost use Rattle.std.specs.Prelude.{List, ◌≡◌, ℕ, ◌+◌, ◌*◌, ◌^◌, ◌<◌, ◌≤◌, length};
+// `Papers.f` is the f of the definitions, in crates/definition/specs/Papers.antt.
 ghost use Rattle.definition.specs.Papers as Papers;
 ghost use Rattle.definition.specs.Papers.{part_at, bytes_of, entries, most_parameters, fragments, dispatch};
 ghost use Rattle.definition.specs.Stacks.{Rules};
-ghost use Rattle.header.specs.View.{dispatched};
+ghost use Rattle.header.specs.View.{dispatched, entry_at, entry_of, part_of};
 
-fn wide(x: u8) -> u32
-    ensures { (result ≡ x) × (result < 256) }
+/// The u16 field at an offset, lowest byte first. Bytes past the end count as missing.
+pub fn field(paper: &[u8], offset: usize) -> u16
+    ensures { result ≡ Papers.field paper.now offset }
 {
-    x as u32
+    match paper.get(offset..) {
+        Some([low, high, ..]) => u16::from_le_bytes([*low, *high]),
+        Some([low]) => u16::from(*low),
+        _ => 0,
+    }
 }
 
-// The u16 field at an offset, lowest byte first. Bytes past the end count as missing.
-pub fn field(paper: &[u8], offset: usize) -> u32
-    ensures same { result ≡ Papers.field paper.now offset }
-    ensures low { result < 65536 }
+/// Where a part of a paper lies.
+#[derive(Clone, Copy, Debug, PartialEq, Eq)]
+pub struct Part {
+    pub offset: u16,
+    pub size: u16,
+}
+
+/// The part whose offset and length stand at `at`. At the paper's end and past it both are 0.
+pub fn part_at(paper: &[u8], at: usize) -> Part
+    ensures { part_of result ≡ part_at paper.now at }
 {
-    if paper.len() <= offset {
-        return 0;
+    Part {
+        offset: field(paper, at),
+        size: field(paper, at.saturating_add(2)),
     }
-    let first = wide(paper[offset]);
-    if paper.len() - offset < 2 {
-        return first;
-    }
-    first + 256 * wide(paper[offset + 1])
 }
 
-pub fn larger(a: u32, b: u32) -> u32
-    ensures { result ≡ max a b }
+impl Part {
+    /// Where the part starts.
+    pub fn start(self) -> usize
+        ensures { result ≡ self.offset }
+    {
+        usize::from(self.offset)
+    }
+
+    /// Where the part ends.
+    pub fn end(self) -> usize
+        ensures { result ≡ self.offset + self.size }
+    {
+        usize::from(self.offset) + usize::from(self.size)
+    }
+
+    /// The bytes of the part, as far as the paper has them.
+    pub fn bytes<'a>(self, paper: &'a [u8]) -> &'a [u8]
+        ensures { result.now ≡ bytes_of paper.now (part_of self) }
+    {
+        let end = self.end().min(paper.len());
+        &paper[self.start().min(end)..end]
+    }
+}
+
+/// An entry of a paper.
+#[derive(Clone, Copy, Debug, PartialEq, Eq)]
+pub struct Entry {
+    pub parameters: u16,
+    pub body: Part,
+}
+
+/// How many entries the paper has.
+pub fn entry_count(paper: &[u8]) -> usize
+    ensures same { result ≡ Papers.entry_count paper.now }
+    ensures low { result < 2 ^ 16 }
 {
-    if a < b {
-        return b;
+    usize::from(field(paper, 0))
+}
+
+/// How many state fields the paper has.
+pub fn state_fields(paper: &[u8]) -> u16
+    ensures { result ≡ Papers.state_fields paper.now }
+{
+    field(paper, 2)
+}
+
+/// Where the initialiser lies.
+pub fn initialiser(paper: &[u8]) -> Part
+    ensures { part_of result ≡ Papers.initialiser paper.now }
+{
+    part_at(paper, 4)
+}
+
+/// Part `k`: the initialiser is part 0, the body of entry k part k + 1. Offset and length of part k stand at 4 + 6 * k.
+pub fn nth_part(paper: &[u8], k: usize) -> Part
+    requires { k ≤ 2 ^ 16 }
+    ensures { part_of result ≡ part_at paper.now (4 + 6 * k) }
+{
+    part_at(paper, 4 + 6 * k)
+}
+
+/// Entry `k`, from 0.
+pub fn nth_entry(paper: &[u8], k: usize) -> Entry
+    requires { k < 2 ^ 16 }
+    ensures { entry_of result ≡ entry_at paper.now k }
+{
+    Entry {
+        parameters: field(paper, 8 + 6 * k),
+        body: part_at(paper, 8 + 6 * k + 2),
     }
-    a
 }
 
-// What the dispatch check finds: each entry fits, or the first that does not, with its sum.
-#[derive(Clone, Copy)]
-pub enum Dispatch {
-    Fits,
-    Over { entry: usize, sum: u32 },
+/// The first entry that the dispatch check refuses, and its sum, which is over the limit.
+#[derive(Clone, Copy, Debug, PartialEq, Eq)]
+pub struct DispatchError {
+    pub entry: usize,
+    pub sum: u32,
 }
 
-// The dispatch check of each entry: parameters + F + 3 over the limit.
-pub fn dispatch_check(paper: &[u8], limit: u32) -> Dispatch
+/// The dispatch check of each entry: parameters + F + 3 may not be over the limit.
+pub fn dispatch_check(paper: &[u8], limit: u32) -> Result<(), DispatchError>
     ensures { (R : Rules) (log : List ℕ)
         → R.limit ≡ limit
         → dispatch R paper.now 0 (entries paper.now) log
         ≡ dispatched R paper.now result log }
 {
-    let count = field(paper, 0) as usize;
-    let fields = field(paper, 2);
-    let mut k: usize = 0;
-    while k < count {
-        let sum = field(paper, 8 + 6 * k) + fields + 3;
+    let fields = u32::from(state_fields(paper));
+    for entry in 0..entry_count(paper) {
+        let sum = u32::from(nth_entry(paper, entry).parameters) + fields + 3;
         if sum > limit {
-            return Dispatch::Over { entry: k, sum };
+            return Err(DispatchError { entry, sum });
         }
-        k += 1;
     }
-    Dispatch::Fits
+    Ok(())
 }
 
-// The parameters of the entry with most.
-pub fn most_parameters(paper: &[u8]) -> u32
+/// The parameters of the entry with most.
+pub fn most_parameters(paper: &[u8]) -> u16
     ensures { result ≡ most_parameters (entries paper.now) }
 {
-    let count = field(paper, 0) as usize;
-    let mut most: u32 = 0;
-    let mut k: usize = 0;
-    while k < count {
-        most = larger(most, field(paper, 8 + 6 * k));
-        k += 1;
+    let mut most = 0;
+    for k in 0..entry_count(paper) {
+        most = nth_entry(paper, k).parameters.max(most);
     }
     most
 }
 
-// The bytes of the part whose offset and length stand at `at`, as far as the paper has them. At the paper's end and past it
-// both are 0, and the part is empty.
-pub fn part<'a>(paper: &'a [u8], at: usize) -> &'a [u8]
-    ensures { result.now ≡ bytes_of paper.now (part_at paper.now at) }
-{
-    if paper.len() <= at {
-        return &paper[0..0];
-    }
-    let offset = field(paper, at) as usize;
-    let size = field(paper, at + 2) as usize;
-    if paper.len() <= offset {
-        return &paper[paper.len()..];
-    }
-    if paper.len() < offset + size {
-        return &paper[offset..];
-    }
-    &paper[offset..offset + size]
-}
-
-// How many fragments are marked: the bodies, and an initialiser that isn't empty.
+/// How many fragments are marked: the bodies, and an initialiser that isn't empty.
+#[tactic(auto, using(crate::proofs::Fragments::counting))]
 pub fn fragment_count(paper: &[u8]) -> usize
     ensures { result ≡ length (fragments paper.now) }
 {
-    let count = field(paper, 0) as usize;
-    if field(paper, 6) == 0 {
-        return count;
-    }
-    count + 1
+    entry_count(paper) + usize::from(initialiser(paper).size != 0)
 }

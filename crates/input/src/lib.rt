@@ -3,59 +3,36 @@
 
 #![tactic(auto)]
 
-ghost use Rattle.std.specs.Prelude.{◌≡◌, ◌<◌, ◌≤◌, false, length, take};
+ghost use Rattle.std.specs.Prelude.{◌≡◌, ◌<◌, ◌≤◌, IfOk, length, take};
 ghost use Rattle.std.specs.Io.KnownBytes.{Consumes, IsAtEnd};
 
+use std::io;
 use std::io::Read;
 
-// Whether a read failed, and how many bytes were read where none did.
-#[derive(Clone, Copy)]
-pub struct Input {
-    pub failed: bool,
-    pub size: usize,
-}
-
-// Reads until the lent bytes are full, the input ends or a read fails, however few bytes a read gives.
-pub fn read_input<R: Read>(source: &mut R, buf: &mut [u8]) -> Input
-    ensures within { result.size ≤ length buf.new }
-    ensures counted { result.size ≡ length (take result.size buf.new) }
+/// Reads until the lent bytes are full, the input ends or a read fails, however few bytes a read gives, and says how many bytes
+/// were read.
+pub fn read_input<R: Read>(source: &mut R, buf: &mut [u8]) -> io::Result<usize>
+    ensures within { IfOk result (λ size. size ≤ length buf.new) }
+    ensures counted { IfOk result (λ size. size ≡ length (take size buf.new)) }
 
     // What was read is what the source lost, and it is all that the source had, unless the lent bytes are full.
-    ensures bytes { result.failed ≡ false
-        → Consumes (R.remaining source.old) (R.remaining source.new) (take result.size buf.new) }
-    ensures end { result.failed ≡ false
-        → result.size < length buf.new
-        → IsAtEnd (R.remaining source.new) }
+    ensures bytes { IfOk result (λ size. Consumes (R.remaining source.old) (R.remaining source.new) (take size buf.new)) }
+    ensures end { IfOk result (λ size. size < length buf.new → IsAtEnd (R.remaining source.new)) }
 {
-    let mut n: usize = 0;
+    let mut n = 0;
     while n < buf.len() {
-        let more = match source.read(&mut buf[n..]) {
-            Ok(more) => more,
-            Err(_) => {
-                return Input {
-                    failed: true,
-                    size: 0,
-                };
-            }
-        };
+        let more = source.read(&mut buf[n..])?;
         if more == 0 {
-            return Input {
-                failed: false,
-                size: n,
-            };
+            return Ok(n);
         }
         n += more;
     }
-    Input {
-        failed: false,
-        size: n,
-    }
+    Ok(n)
 }
 
 #[cfg(test)]
 mod tests {
     use super::*;
-    use std::io;
 
     // Gives a byte a read, and then the end of the input or a failure.
     #[derive(Drop)]
@@ -85,17 +62,16 @@ mod tests {
     #[test]
     fn tells_a_failure_from_the_end(rt: HostRuntime) {
         let mut buf = [0u8; 4];
-        for (given, fails, failed, size) in [
-            (&b"abc"[..], false, false, 3),
-            (b"abc", true, true, 0),
-            (b"abcde", true, false, 4),
-            (b"", false, false, 0),
-            (b"", true, true, 0),
+        for (given, fails, size) in [
+            (&b"abc"[..], false, Some(3)),
+            (b"abc", true, None),
+            (b"abcde", true, Some(4)),
+            (b"", false, Some(0)),
+            (b"", true, None),
         ] {
             let mut source = Drips { rest: given, fails };
-            let input = read_input(&mut source, &mut buf);
-            assert_eq!(rt; input.failed, failed);
-            assert_eq!(rt; input.size, size);
+            let read = read_input(&mut source, &mut buf);
+            assert_eq!(rt; read.ok(), size);
         }
         assert_eq!(rt; buf, *b"abcd");
     }

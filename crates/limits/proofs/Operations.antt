@@ -1,30 +1,14 @@
 -- The operations before an offset, and the answer on all of them.
-use mathlib.Core.Option.{none}
-use mathlib.Core.Path.{◌≡◌, sym, ap, ◌∙◌}
-use Prim.Native.Nat.{ℕ, ◌+◌, ◌≤◌, ◌<◌}
-use native.Mathlib.Omega.{arith}
-use borrow.Author.Tests.{lt-ltb, le-ltb}
-use lib.Dec.{ltb}
-use lib.ListN.{length}
+use Rattle.std.proofs.Common.{◌≡◌, refl, sym, subst, ap, ◌∙◌, ℕ, ◌+◌, ◌≤◌, Bool, true, false, ltb, length, get_or, Some, Ok, Fits, w8, arith}
+use mir.Val.{bool_byte}
 use Rattle.definition.specs.Basics.{Bytes, pick}
 use Rattle.definition.specs.Decoding.{instructions, malformed_at}
 use Rattle.definition.specs.Papers.{operations, limits_of, limit_check}
-use Rattle.definition.specs.Refusals.{Answer, answer, accepted}
+use Rattle.definition.specs.Refusals.{Answer}
 use Rattle.decode.specs.View.{decoded_at, code_at}
 use Rattle.decode.specs.declared.Instruction.{Instruction}
-use Rattle.decode.specs.declared.Decoded.TheVariants.{End, Malformed}
-use Rattle.decode.proofs.Codes.{InstructionAt, code-start, code-ends, code-malformed}
-
--- by the tests of the code
-module _ (count size : ℕ) where
-  pub too_many : 201 < count → answer 17 0 count 201 ≡ limits_of none count size
-  too_many h = rw (lt-ltb 201 count h)
-
-  pub too_large : count ≤ 201 → 10000 < size → answer 18 0 size 10000 ≡ limits_of none count size
-  too_large h g = rw (le-ltb 201 count h, lt-ltb 10000 size g)
-
-  pub within-limits : count ≤ 201 → size ≤ 10000 → accepted ≡ limits_of none count size
-  within-limits h g = rw (le-ltb 201 count h, le-ltb 10000 size g)
+use Rattle.decode.proofs.Bytes.{slice-bytes}
+use Rattle.decode.proofs.Codes.{code-start, code-instruction, less-left}
 
 -- the answer on the code from an offset on, with so many operations before it
 abbrev limits_from : Bytes → ℕ → ℕ → Answer
@@ -45,24 +29,25 @@ counting-none s = record {
   is = rw code-start (ap (λ (n : ℕ). limits_of (malformed_at (code_at s 0)) n (length s)) (omega arith));
 }
 
-module _ (s : Bytes) (offset count : ℕ) (c : Counting s offset count) where
-  counting_more : (i : Instruction) → InstructionAt s offset i → (k : ℕ) → k ≡ count + pick (ltb 0x60 i.opcode) 1 0 → k ≤ count + 1 → Counting s i.next k
-  counting_more i t k e h = record {
-    within = t.within;
-    most = omega (arith, t.onward, c.most);
-    is = c.is ∙ rw t.code (ap (λ (n : ℕ). limits_of (malformed_at (code_at s i.next)) n (length s)) (omega (arith, e)));
-  }
+-- behind an instruction it is counted too, if it is an operation
+pub counting-more : (s : Bytes) (offset count n : ℕ) → Counting s offset count → (i : Instruction) → ((k : ℕ) → Fits w8 (get_or s k 0)) → decoded_at s offset ≡ Ok (Some i)
+    → n ≡ bool_byte (ltb 0x60 i.opcode) → Counting s i.next (count + n)
+counting-more s offset count n c i bytes e m =
+    let t = code-instruction s offset (slice-bytes s bytes) i e in
+    let k : n ≡ pick (ltb 0x60 i.opcode) 1 0 = m ∙ one (ltb 0x60 i.opcode) in
+    let l : n ≤ 1 = subst (λ n. n ≤ 1) (sym k) (at_most (ltb 0x60 i.opcode)) in
+    record {
+      within = t.within;
+      most = omega (arith, t.onward, c.most, l);
+      is = c.is ∙ rw t.code (ap (λ (n : ℕ). limits_of (malformed_at (code_at s i.next)) n (length s)) (omega (arith, k)));
+    }
+  where
+    one : (t : Bool) → bool_byte t ≡ pick t 1 0
+    one true = refl
+    one false = refl
 
-  pub counting-operation : (i : Instruction) → InstructionAt s offset i → 0x60 < i.opcode → Counting s i.next (count + 1)
-  counting-operation i t h = counting_more i t (count + 1) (rw (lt-ltb 0x60 i.opcode h)) (omega arith)
+    at_most : (t : Bool) → pick t 1 0 ≤ 1
+    at_most true = omega arith
+    at_most false = omega arith
 
-  pub counting-push : (i : Instruction) → InstructionAt s offset i → i.opcode ≤ 0x60 → Counting s i.next count
-  counting-push i t h = counting_more i t count (rw (le-ltb 0x60 i.opcode h) (omega arith)) (omega arith)
-
-  pub counting-ends : decoded_at s offset ≡ End → (a : Answer) → a ≡ limits_of none count (length s) → a ≡ limit_check s
-  counting-ends h a e =
-      let z : count + 0 ≡ count = omega arith in
-      e ∙ sym (c.is ∙ rw ((code-ends s offset h).0, z))
-
-  pub counting-malformed : {at : ℕ} → decoded_at s offset ≡ Malformed at → answer 3 offset 0 0 ≡ limit_check s
-  counting-malformed h = sym (c.is ∙ rw (code-malformed s offset h).0)
+pub ruleset counting = (counting-none, less-left)

@@ -1,5 +1,4 @@
 -- The laws behind the functions.
-pub mod Lengths
+pub mod Hex
 pub mod Decoded
 pub mod Listed
-pub mod Listings

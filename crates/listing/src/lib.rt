@@ -1,32 +1,34 @@
-// The lister: a fragment into the words of a listing (document 02, L4).
+// The lister: a fragment into the words of a listing. The output is lent and of any size, and keeps what lies behind the listing:
+// so words are written into it from an index on, and the answer is the index after.
 
 #![tactic(auto)]
 
 ghost use Rattle.std.proofs.Math.Option.{none};
-ghost use Rattle.std.specs.Prelude.{◌≡◌, ◌+◌, ◌^◌, ◌≤◌, ◌<◌, T, length};
+ghost use Rattle.std.specs.Prelude.{◌≡◌, ◌+◌, ◌-◌, ◌^◌, ◌≤◌, ◌<◌, length, take, drop};
 ghost use Rattle.assembling.specs.View.{converted_of};
-ghost use Rattle.definition.specs.Decoding as Decoding;
-ghost use Rattle.definition.specs.Decoding.{malformed_at};
-ghost use Rattle.definition_listings.specs.Listing as Listing;
-ghost use Rattle.listing.specs.View.{length_bytes, data_start, data_length, word_at, word_length, listing_of, Measures, short_of};
-ghost use Rattle.names.specs.Tables.{all_letters, starts_right};
+ghost use Rattle.decode.specs.View.{data_start};
+ghost use Rattle.definition.specs.Decoding.{decode, malformed_at};
+ghost use Rattle.definition_listings.specs.Listing.{hex_bytes, data_word, code_word, listed};
+ghost use Rattle.listing.specs.View.{Stands, data_length, word_at, word_length, listing_of, refused_by, measured};
 ghost use Rattle.text.specs.View.{Written};
 
-// How many bytes of length follow an opcode up to 4e.
-pub fn length_bytes(opcode: u8) -> usize
-    ensures same { result ≡ length_bytes opcode }
-    ensures short { result ≤ 4 }
+use decode::Instruction;
+use names::Names;
+use opcodes::Class;
+use refusals::{Refusal, Refused};
+use text::{write_byte, write_hex, write_word};
+
+/// The data of a push, which ends where the next instruction stands.
+pub fn data<'a>(fragment: &'a [u8], offset: usize, next: usize) -> &'a [u8]
+    requires within { (offset < next) × (next ≤ length fragment.now) }
+    requires push { data_start fragment.now offset ≤ next }
+    ensures { result.now
+        ≡ take
+        (next - data_start fragment.now offset)
+        (drop (data_start fragment.now offset) fragment.now) }
 {
-    if opcode <= 0x4b {
-        return 0;
-    }
-    if opcode == 0x4c {
-        return 1;
-    }
-    if opcode == 0x4d {
-        return 2;
-    }
-    4
+    let size = decode::data_size(fragment, offset, next);
+    &fragment[next - size..next]
 }
 
 // How many letters the word of so many bytes of data has.
@@ -34,217 +36,149 @@ fn data_length(n: usize) -> usize
     requires { n + 1 < 2 ^ 63 }
     ensures { result ≡ data_length n }
 {
-    if n == 0 {
-        return 3;
-    }
-    2 * n + 2
+    if n == 0 { 3 } else { 2 * n + 2 }
 }
 
 // How many letters the word of a code that is no data push has.
-fn code_length(opcode: u8, starts: &[u16]) -> usize
-    requires { T (starts_right starts.now) }
-    ensures { result ≡ length (Listing.code_word opcode) }
+fn code_length(opcode: u8, names: &Names) -> usize
+    ensures { result ≡ length (code_word opcode) }
 {
-    if opcodes::class_of(opcode) == 0 {
-        return 4;
+    if opcodes::class_of(opcode) == Class::Unmodelled {
+        4
+    } else {
+        names.name(opcode).len()
     }
-    let code = names::index(opcode);
-    let from = names::start_of(starts, code);
-    let to = names::start_of(starts, code + 1);
-    to - from
 }
 
 // How many letters the word of an instruction has.
-fn word_length(opcode: u8, offset: usize, next: usize, starts: &[u16]) -> usize
-    requires t { T (starts_right starts.now) }
-    requires offset_lt_next { (offset < next) × (next < 2 ^ 63) }
-    requires offset_bound { opcode ≤ 0x4e → data_start opcode offset ≤ next }
-    ensures { result ≡ word_length opcode offset next }
+fn word_length(fragment: &[u8], instruction: &Instruction, names: &Names) -> usize
+    requires { Stands fragment.now instruction.now }
+    ensures { result ≡ word_length fragment.now instruction.now }
 {
-    if opcode > 0x4e {
-        return code_length(opcode, starts);
+    if instruction.opcode > 0x4e {
+        code_length(instruction.opcode, names)
+    } else {
+        data_length(data(fragment, instruction.offset, instruction.next).len())
     }
-    let start = offset + 1 + length_bytes(opcode);
-    data_length(next - start)
 }
 
-// How many letters a listing has, where they are within the room that is lent.
-#[derive(Clone, Copy)]
-enum Measured {
-    Fits(usize),
-    Short,
-    Malformed(usize),
-}
-
-// The length of a fragment's listing.
-fn measure(fragment: &[u8], starts: &[u16], room: usize) -> Measured
-    requires { T (starts_right starts.now) }
-    ensures { Measures result fragment.now room }
+// Why a listing that is over the room is refused: a malformed fragment comes before a short output.
+fn refusal(fragment: &[u8]) -> Refused
+    ensures { result ≡ refused_by (malformed_at (decode fragment.now)) }
 {
-    let mut offset: usize = 0;
-    let mut size: usize = 0;
-    loop {
-        match decode::decode_at(fragment, offset) {
-            decode::Decoded::At(i) => {
-                let next = i.next;
-                let n = word_length(i.opcode, offset, next, starts);
-                if room - size < n {
-                    return Measured::Short;
-                }
-                size += n;
-                if next == fragment.len() {
-                    return Measured::Fits(size);
-                }
-                if size == room {
-                    return Measured::Short;
-                }
-                size += 1;
-                offset = next;
-                continue;
+    match decode::count_instructions(fragment) {
+        Ok(_) => Refusal::OutputShort.into(),
+        Err(malformed) => malformed.into(),
+    }
+}
+
+// How many letters a fragment's listing has, where they are within the room that is lent.
+fn measure(fragment: &[u8], names: &Names, room: usize) -> Result<usize, Refused>
+    ensures { result ≡ measured (malformed_at (decode fragment.now)) (length (listing_of fragment.now)) room }
+{
+    let mut offset = 0;
+    let mut size = 0;
+    while let Some(instruction) = decode::decode_at(fragment, offset)? {
+        let letters = word_length(fragment, &instruction, names);
+        if letters > room - size {
+            return Err(refusal(fragment));
+        }
+        size += letters;
+        offset = instruction.next;
+        if offset < fragment.len() {
+            if size == room {
+                return Err(refusal(fragment));
             }
-            decode::Decoded::End => {
-                return Measured::Fits(size);
-            }
-            decode::Decoded::Malformed(_) => {
-                return Measured::Malformed(offset);
-            }
+            size += 1;
         }
     }
+    Ok(size)
 }
 
-// Bytes in hexadecimal.
+// Writes bytes in hexadecimal.
 pub fn write_hex_bytes(out: &mut [u8], at: usize, bytes: &[u8]) -> usize
-    requires { at + length (Listing.hex_bytes bytes.now) ≤ length out.old }
-    ensures { Written out.old at (Listing.hex_bytes bytes.now) out.new result }
+    requires { at + length (hex_bytes bytes.now) ≤ length out.old }
+    ensures { Written out.old at (hex_bytes bytes.now) out.new result }
 {
-    let mut next = at;
-    let mut j = 0;
-    while j < bytes.len() {
-        next = text::write_hex(out, next, names::wide(bytes[j]));
-        j += 1;
-    }
-    next
+    let end = at + 2 * bytes.len();
+    hex::encode_to_slice(bytes, &mut out[at..end]).unwrap();
+    end
 }
 
-// A word of data.
+/// Writes a word of data.
 pub fn write_data_word(out: &mut [u8], at: usize, bytes: &[u8]) -> usize
-    requires { at + length (Listing.data_word bytes.now) ≤ length out.old }
-    ensures { Written out.old at (Listing.data_word bytes.now) out.new result }
+    requires { at + length (data_word bytes.now) ≤ length out.old }
+    ensures { Written out.old at (data_word bytes.now) out.new result }
 {
-    if bytes.len() == 0 {
-        return text::write_word(out, at, b"Op0");
+    if bytes.is_empty() {
+        return write_word(out, at, b"Op0");
     }
-    let a = text::write_byte(out, at, b'<');
+    let a = write_byte(out, at, b'<');
     let b = write_hex_bytes(out, a, bytes);
-    text::write_byte(out, b, b'>')
+    write_byte(out, b, b'>')
 }
 
-// The word of a code that is no data push.
-pub fn write_code_word(
-    out: &mut [u8],
-    at: usize,
-    opcode: u8,
-    letters: &[u8],
-    starts: &[u16],
-) -> usize
-    requires letters_value { letters.now ≡ all_letters }
-    requires t { T (starts_right starts.now) }
-    requires opcode_in_bounds { at + length (Listing.code_word opcode) ≤ length out.old }
-    ensures { Written out.old at (Listing.code_word opcode) out.new result }
+/// Writes the word of a code that is no data push.
+pub fn write_code_word(out: &mut [u8], at: usize, opcode: u8, names: &Names) -> usize
+    requires { at + length (code_word opcode) ≤ length out.old }
+    ensures { Written out.old at (code_word opcode) out.new result }
 {
-    if opcodes::class_of(opcode) == 0 {
-        let next = text::write_word(out, at, b"0x");
-        return text::write_hex(out, next, names::wide(opcode));
+    if opcodes::class_of(opcode) == Class::Unmodelled {
+        let next = write_word(out, at, b"0x");
+        write_hex(out, next, opcode)
+    } else {
+        write_word(out, at, names.name(opcode))
     }
-    let code = names::index(opcode);
-    let from = names::start_of(starts, code);
-    let to = names::start_of(starts, code + 1);
-    text::write_word(out, at, &letters[from..to])
 }
 
-// The word of an instruction.
+// Writes the word of an instruction.
 fn write_instruction(
     out: &mut [u8],
     at: usize,
     fragment: &[u8],
-    opcode: u8,
-    offset: usize,
-    next: usize,
-    letters: &[u8],
-    starts: &[u16],
+    instruction: &Instruction,
+    names: &Names,
 ) -> usize
-    requires letters_value { letters.now ≡ all_letters }
-    requires t { T (starts_right starts.now) }
-    requires offset_lt_next { (offset < next) × (next ≤ length fragment.now) }
-    requires offset_bound { opcode ≤ 0x4e → data_start opcode offset ≤ next }
-    requires next_in_bounds { at + length (word_at fragment.now opcode offset next) ≤ length out.old }
-    ensures { Written out.old at (word_at fragment.now opcode offset next) out.new result }
+    requires stands { Stands fragment.now instruction.now }
+    requires room { at + length (word_at fragment.now instruction.now) ≤ length out.old }
+    ensures { Written out.old at (word_at fragment.now instruction.now) out.new result }
 {
-    if opcode > 0x4e {
-        return write_code_word(out, at, opcode, letters, starts);
+    if instruction.opcode > 0x4e {
+        write_code_word(out, at, instruction.opcode, names)
+    } else {
+        write_data_word(
+            out,
+            at,
+            data(fragment, instruction.offset, instruction.next),
+        )
     }
-    let start = offset + 1 + length_bytes(opcode);
-    write_data_word(out, at, &fragment[start..next])
 }
 
-// The words of all instructions.
-fn write_listing(out: &mut [u8], fragment: &[u8], letters: &[u8], starts: &[u16]) -> usize
-    requires letters_value { letters.now ≡ all_letters }
-    requires t { T (starts_right starts.now) }
-    requires fragment_value { malformed_at (Decoding.decode fragment.now) ≡ none }
-    requires fragment_in_bounds { length (listing_of fragment.now) ≤ length out.old }
+// Writes the words of all instructions.
+fn write_listing(out: &mut [u8], fragment: &[u8], names: &Names) -> usize
+    requires whole { malformed_at (decode fragment.now) ≡ none }
+    requires room { length (listing_of fragment.now) ≤ length out.old }
     ensures { Written out.old 0 (listing_of fragment.now) out.new result }
 {
-    let mut offset: usize = 0;
-    let mut at: usize = 0;
-    loop {
-        match decode::decode_at(fragment, offset) {
-            decode::Decoded::At(i) => {
-                let next = i.next;
-                at = write_instruction(out, at, fragment, i.opcode, offset, next, letters, starts);
-                if next == fragment.len() {
-                    return at;
-                }
-                at = text::write_byte(out, at, b' ');
-                offset = next;
-                continue;
-            }
-            decode::Decoded::End => {
-                return at;
-            }
-            decode::Decoded::Malformed(_) => {
-                return at;
-            }
+    let mut offset = 0;
+    let mut at = 0;
+    while let Ok(Some(instruction)) = decode::decode_at(fragment, offset) {
+        at = write_instruction(out, at, fragment, &instruction, names);
+        offset = instruction.next;
+        if offset < fragment.len() {
+            at = write_byte(out, at, b' ');
         }
     }
+    at
 }
 
-// The answer where a listing is over the room: 3 comes before 27.
-fn short_output(fragment: &[u8], out: &mut [u8]) -> assembling::Converted
-    ensures { converted_of result out.new ≡ short_of (malformed_at (Decoding.decode fragment.now)) out.old }
+/// The lister: a fragment into a lent output, and how many bytes were written. Nothing is written before the whole fragment is
+/// decoded, so that a refusal leaves the output as it was.
+pub fn list(fragment: &[u8], out: &mut [u8]) -> Result<usize, Refused>
+    ensures { converted_of result out.new ≡ listed fragment.now out.old }
 {
-    match decode::count_instructions(fragment) {
-        decode::Counted::Whole(_) => assembling::refused(out, 27, 0),
-        decode::Counted::Malformed(offset) => assembling::refused(out, 3, offset),
-    }
-}
-
-// The lister: a fragment into a lent output. Nothing is written before the whole fragment is decoded.
-pub fn list(fragment: &[u8], out: &mut [u8]) -> assembling::Converted
-    ensures { converted_of result out.new ≡ Listing.listed fragment.now out.old }
-{
-    let letters = names::all_letters();
-    let starts = names::all_starts();
-    match measure(fragment, &starts, out.len()) {
-        Measured::Malformed(offset) => assembling::refused(out, 3, offset),
-        Measured::Short => short_output(fragment, out),
-        Measured::Fits(size) => {
-            write_listing(out, fragment, &letters, &starts);
-            assembling::Converted {
-                number: 0,
-                offset: 0,
-                size,
-            }
-        }
-    }
+    let names = Names::new();
+    let size = measure(fragment, &names, out.len())?;
+    write_listing(out, fragment, &names);
+    Ok(size)
 }

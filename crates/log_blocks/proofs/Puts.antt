@@ -4,8 +4,8 @@ use mathlib.Core.List.{[], ◌++◌}
 use mathlib.Core.Path.{◌≡◌, refl, sym, ap, subst, ◌∙◌}
 use Prim.Native.Nat.{ℕ, ◌+◌, ◌<◌}
 use native.Mathlib.Omega.{arith}
-use lib.ListN.{length, take, drop, length-append}
-use lib.Seq.{take_at, paste-zero}
+use lib.ListN.{length, length-append}
+use lib.Seq.{paste-zero}
 use Rattle.definition.specs.Basics.{Bytes}
 use Rattle.text.specs.View.{Written}
 use Rattle.text.proofs.Texts.{then-written}
@@ -35,12 +35,10 @@ then-put {go} {lent} {at} {s} {mid} {between} {t} {new} {next} w v = record {
   sized = v.sized ∙ w.sized;
 }
 
--- the first bytes of an array that a text was written into from the start on
-pub line-put : {go : Bool} {lent : Bytes} {at : ℕ} {new : Bytes} {next : ℕ} {zeros : Bytes} {t line : Bytes} {n : ℕ}
-    → Written zeros 0 t line n → Put go lent at (take n line) new next → Put go lent at t new next
-line-put {zeros = zeros} {t} {line} {n} w v =
-    let e : length t ≡ n = omega (arith, w.ends) in
-    put_as (ap (λ (l : Bytes). take n l) w.holds ∙ take_at t (drop (0 + length t) zeros) n e) v
+-- the bytes of a line that was empty before
+pub line-put : {go : Bool} {lent : Bytes} {at : ℕ} {new : Bytes} {next : ℕ} {t shown items before : Bytes} → before ≡ [] → items ≡ before ++ t → shown ≡ items
+    → Put go lent at shown new next → Put go lent at t new next
+line-put {t = t} e w u v = put_as (u ∙ w ∙ ap (λ (l : Bytes). l ++ t) e) v
 
 -- the code of `put`
 

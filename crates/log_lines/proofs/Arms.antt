@@ -1,6 +1,6 @@
 -- Laws of the arms of a conditional: the row where the other arm ends, and its heights.
 use mathlib.Core.Bool.{Bool, true, false, ◌&&◌, ◌||◌}
-use mathlib.Core.List.{List, ◌++◌}
+use mathlib.Core.List.{List, ◌++◌, append_assoc}
 use mathlib.Core.Path.{◌≡◌, refl, sym, ap, ◌∙◌}
 use Prim.Native.Nat.{ℕ, suc, ◌+◌, ◌-◌, ◌≤◌, ◌<◌}
 use native.Mathlib.Omega.{arith}
@@ -12,11 +12,51 @@ use Rattle.definition.specs.Classes.{class_at}
 use Rattle.definition.specs.Lines.{labelled}
 use Rattle.definition_rules.specs.Maps.{Options, rules_by}
 use Rattle.definition.specs.Stacks.{Rules}
-use Rattle.text.specs.View.{Written}
-use Rattle.text.proofs.Texts.{written_as}
 use Rattle.log_rows.specs.Rows.{main_at, alt_at, opcode_at, is_if, is_else, is_endif}
-use Rattle.log_rows.proofs.Rows.{else-number, endif-number}
+use Rattle.opcodes.specs.Class.{number_of}
+use Rattle.opcodes.specs.declared.Class.{Class}
+use Rattle.opcodes.specs.declared.Class.TheVariants.{Unmodelled, Push, Nothing, If, NotIf, Else, EndIf, Return, ToAlt, FromAlt, Depth, Size, Nip, Tuck, Pick, Roll, Zk, Dup, TwoDup, ThreeDup, Over, TwoOver, Rot, TwoRot, Swap, TwoSwap, Effect10, Effect20, Effect01, Effect11, Effect31, Effect21}
 use Rattle.log_lines.specs.Log.{opener, other_main, arms}
+
+-- a class that is none of IF, NOTIF, ELSE and ENDIF
+pub record Plain (class : Class) : Type 0 where
+  pub endif : is_endif (class_at (number_of class)) ≡ false
+  pub if : is_if (class_at (number_of class)) ≡ false
+  pub else : is_else (class_at (number_of class)) ≡ false
+
+plain-class : (class : Class) → (class ≡ EndIf → ⊥) → (class ≡ If → ⊥) → (class ≡ NotIf → ⊥) → (class ≡ Else → ⊥) → Plain class
+plain-class Unmodelled p q r s = record { endif = refl; if = refl; else = refl }
+plain-class Push p q r s = record { endif = refl; if = refl; else = refl }
+plain-class Nothing p q r s = record { endif = refl; if = refl; else = refl }
+plain-class If p q r s = absurd (q refl)
+plain-class NotIf p q r s = absurd (r refl)
+plain-class Else p q r s = absurd (s refl)
+plain-class EndIf p q r s = absurd (p refl)
+plain-class Return p q r s = record { endif = refl; if = refl; else = refl }
+plain-class ToAlt p q r s = record { endif = refl; if = refl; else = refl }
+plain-class FromAlt p q r s = record { endif = refl; if = refl; else = refl }
+plain-class Depth p q r s = record { endif = refl; if = refl; else = refl }
+plain-class Size p q r s = record { endif = refl; if = refl; else = refl }
+plain-class Nip p q r s = record { endif = refl; if = refl; else = refl }
+plain-class Tuck p q r s = record { endif = refl; if = refl; else = refl }
+plain-class Pick p q r s = record { endif = refl; if = refl; else = refl }
+plain-class Roll p q r s = record { endif = refl; if = refl; else = refl }
+plain-class Zk p q r s = record { endif = refl; if = refl; else = refl }
+plain-class Dup p q r s = record { endif = refl; if = refl; else = refl }
+plain-class TwoDup p q r s = record { endif = refl; if = refl; else = refl }
+plain-class ThreeDup p q r s = record { endif = refl; if = refl; else = refl }
+plain-class Over p q r s = record { endif = refl; if = refl; else = refl }
+plain-class TwoOver p q r s = record { endif = refl; if = refl; else = refl }
+plain-class Rot p q r s = record { endif = refl; if = refl; else = refl }
+plain-class TwoRot p q r s = record { endif = refl; if = refl; else = refl }
+plain-class Swap p q r s = record { endif = refl; if = refl; else = refl }
+plain-class TwoSwap p q r s = record { endif = refl; if = refl; else = refl }
+plain-class Effect10 p q r s = record { endif = refl; if = refl; else = refl }
+plain-class Effect20 p q r s = record { endif = refl; if = refl; else = refl }
+plain-class Effect01 p q r s = record { endif = refl; if = refl; else = refl }
+plain-class Effect11 p q r s = record { endif = refl; if = refl; else = refl }
+plain-class Effect31 p q r s = record { endif = refl; if = refl; else = refl }
+plain-class Effect21 p q r s = record { endif = refl; if = refl; else = refl }
 
 -- n rows are left, and `inner` conditionals are to be opened first; by the classes of lent rows, beside whatever options
 module _ (classes : List ℕ) (fragment : Bytes) (log : List ℕ) (from count : ℕ) where
@@ -45,96 +85,87 @@ module _ (classes : List ℕ) (fragment : Bytes) (log : List ℕ) (from count : 
         pick endif (left options (n - 1) (inner + 1))
         (pick (last && (if || else)) (from + (n - 1)) (left options (n - 1) (pick if (inner - 1) inner)))
 
-    module _ (h : 0 < n) (class : ℕ) (o : class ≡ get_or classes (opcode_at fragment log (from + (n - 1))) 0) where
-      goes : (a b c d : Bool) → is_endif (class_at class) ≡ a → is_if (class_at class) ≡ b → is_else (class_at class) ≡ c → eqb inner 0 ≡ d
+    module _ (h : 0 < n) (class : Class) (o : number_of class ≡ get_or classes (opcode_at fragment log (from + (n - 1))) 0) where
+      goes : (a b c d : Bool) → is_endif (class_at (number_of class)) ≡ a → is_if (class_at (number_of class)) ≡ b → is_else (class_at (number_of class)) ≡ c → eqb inner 0 ≡ d
           → (options : Options) → left options count 0 ≡ onward options a b c d
       unfolding opener
       goes a b c d p q r t options =
           let e : n ≡ suc (n - 1) = omega arith in
           i options ∙ ap (λ m. left options m inner) e
           ∙ ap (λ x. onward options (is_endif (class_at x)) (is_if (class_at x)) (is_else (class_at x)) (eqb inner 0)) (sym o)
-          ∙ ap (λ x. onward options x (is_if (class_at class)) (is_else (class_at class)) (eqb inner 0)) p
-          ∙ ap (λ x. onward options a x (is_else (class_at class)) (eqb inner 0)) q
+          ∙ ap (λ x. onward options x (is_if (class_at (number_of class))) (is_else (class_at (number_of class))) (eqb inner 0)) p
+          ∙ ap (λ x. onward options a x (is_else (class_at (number_of class))) (eqb inner 0)) q
           ∙ ap (λ x. onward options a b x (eqb inner 0)) r
           ∙ ap (λ x. onward options a b c x) t
 
-      -- the tests by the class number
-      endif-is : class ≡ 6 → is_endif (class_at class) ≡ true
-      endif-is p = endif-number class ∙ eq-eqb class 6 p
+      -- by a class
+      as_class : (d : Class) → class ≡ d → (x : Bool) → eqb inner 0 ≡ x
+          → (options : Options) → left options count 0 ≡ onward options (is_endif (class_at (number_of d))) (is_if (class_at (number_of d))) (is_else (class_at (number_of d))) x
+      as_class d e x t = goes _ _ _ x (ap (λ (c : Class). is_endif (class_at (number_of c))) e) (ap (λ (c : Class). is_if (class_at (number_of c))) e) (ap (λ (c : Class). is_else (class_at (number_of c))) e) t
 
-      endif-not : (class ≡ 6 → ⊥) → is_endif (class_at class) ≡ false
-      endif-not p = endif-number class ∙ ne_eqb class 6 p
+      pub opening-endif : class ≡ EndIf → Opening (n - 1) (inner + 1)
+      opening-endif e = as_class EndIf e (eqb inner 0) refl
 
-      else_is : class ≡ 5 → is_else (class_at class) ≡ true
-      else_is x = else-number class ∙ eq-eqb class 5 x
+      pub found-if : class ≡ If → inner ≡ 0 → Opens (from + (n - 1))
+      found-if e z options = sym (as_class If e true (eq-eqb inner 0 z) options)
 
-      else-not : (class ≡ 5 → ⊥) → is_else (class_at class) ≡ false
-      else-not x = else-number class ∙ ne_eqb class 5 x
+      pub found-notif : class ≡ NotIf → inner ≡ 0 → Opens (from + (n - 1))
+      found-notif e z options = sym (as_class NotIf e true (eq-eqb inner 0 z) options)
 
-      pub opening-endif : class ≡ 6 → Opening (n - 1) (inner + 1)
-      opening-endif p = goes true (is_if (class_at class)) (is_else (class_at class)) (eqb inner 0) (endif-is p) refl refl refl
+      pub found-else : class ≡ Else → inner ≡ 0 → Opens (from + (n - 1))
+      found-else e z options = sym (as_class Else e true (eq-eqb inner 0 z) options)
 
-      module _ (p : class ≡ 6 → ⊥) (t : Bool) (q : t ≡ is_if (class_at class)) where
-        pub opening-found : t ≡ true → inner ≡ 0 → Opens (from + (n - 1))
-        opening-found y z options = sym (goes false true (is_else (class_at class)) true (endif-not p) (sym q ∙ y) refl (eq-eqb inner 0 z) options)
+      pub opening-if : class ≡ If → (inner ≡ 0 → ⊥) → Opening (n - 1) (inner - 1)
+      opening-if e z = as_class If e false (ne_eqb inner 0 z)
 
-        pub opening-if : t ≡ true → (inner ≡ 0 → ⊥) → Opening (n - 1) (inner - 1)
-        opening-if y z = goes false true (is_else (class_at class)) false (endif-not p) (sym q ∙ y) refl (ne_eqb inner 0 z)
+      pub opening-notif : class ≡ NotIf → (inner ≡ 0 → ⊥) → Opening (n - 1) (inner - 1)
+      opening-notif e z = as_class NotIf e false (ne_eqb inner 0 z)
 
-        module _ (y : t ≡ false) where
-          pub opening-else : inner ≡ 0 → class ≡ 5 → Opens (from + (n - 1))
-          opening-else z x options = sym (goes false false true true (endif-not p) (sym q ∙ y) (else_is x) (eq-eqb inner 0 z) options)
+      pub opening-else : class ≡ Else → (inner ≡ 0 → ⊥) → Opening (n - 1) inner
+      opening-else e z = as_class Else e false (ne_eqb inner 0 z)
 
-          pub opening-plain : (class ≡ 5 → ⊥) → Opening (n - 1) inner
-          opening-plain x = by (eqb inner 0) refl
-            where
-              by : (b : Bool) → eqb inner 0 ≡ b → Opening (n - 1) inner
-              by true z = goes false false false true (endif-not p) (sym q ∙ y) (else-not x) z
-              by false z = goes false false false false (endif-not p) (sym q ∙ y) (else-not x) z
+      pub opening-plain : (class ≡ EndIf → ⊥) → (class ≡ If → ⊥) → (class ≡ NotIf → ⊥) → (class ≡ Else → ⊥) → Opening (n - 1) inner
+      opening-plain p q r s = by (eqb inner 0) refl
+        where
+          plain : Plain class
+          plain = plain-class class p q r s
 
-          pub opening-inner : (inner ≡ 0 → ⊥) → Opening (n - 1) inner
-          opening-inner z = goes false false (is_else (class_at class)) false (endif-not p) (sym q ∙ y) refl (ne_eqb inner 0 z)
+          by : (b : Bool) → eqb inner 0 ≡ b → Opening (n - 1) inner
+          by true z = goes false false false true plain.endif plain.if plain.else z
+          by false z = goes false false false false plain.endif plain.if plain.else z
 
 -- the main height of the other arm
 
-module _ (classes : List ℕ) (fragment : Bytes) (log : List ℕ) (row class main : ℕ) (o : class ≡ get_or classes (opcode_at fragment log row) 0)
-    (m : main ≡ main_at log row) (t : Bool) (q : t ≡ is_if (class_at class)) where
-  -- this is the height, beside whatever options
-  abbrev pub OtherMain : ℕ → Type 0
-  OtherMain r = (options : Options) → r ≡ other_main (rules_by classes options) fragment log row
-
-  main-by : (b : Bool) → t ≡ b → OtherMain (main - pick b 1 0)
-  unfolding other_main
-  main-by b e options =
-      ap (λ x. main - pick x 1 0) (sym e ∙ q) ∙ ap (λ x. x - pick (is_if (class_at class)) 1 0) m
-      ∙ ap (λ x. main_at log row - pick (is_if (class_at x)) 1 0) o
-
-  pub main-none : t ≡ true → main ≡ 0 → OtherMain 0
-  main-none e z options = omega (arith, main-by true e options, z)
-
-  pub main-less : t ≡ true → OtherMain (main - 1)
-  main-less e = main-by true e
-
-  pub main-same : t ≡ false → OtherMain main
-  main-same e options = omega (arith, main-by false e options)
+pub main-other : (classes : List ℕ) (fragment : Bytes) (log : List ℕ) (row : ℕ) (class : Class) (main : ℕ) → number_of class ≡ get_or classes (opcode_at fragment log row) 0
+    → main ≡ main_at log row → (t : Bool) → t ≡ is_if (class_at (number_of class)) → (b : Bool) → t ≡ b
+    → (options : Options) → main - pick b 1 0 ≡ other_main (rules_by classes options) fragment log row
+unfolding other_main
+main-other classes fragment log row class main o m t q b e options =
+    ap (λ x. main - pick x 1 0) (sym e ∙ q) ∙ ap (λ x. x - pick (is_if (class_at (number_of class))) 1 0) m
+    ∙ ap (λ x. main_at log row - pick (is_if (class_at x)) 1 0) o
 
 -- both arms
 
-pub arms-written : {lent : Bytes} {at : ℕ} {new : Bytes} {next : ℕ} {other main alt main' alt' : ℕ} (R : Rules) (fragment : Bytes)
-    (log : List ℕ) (from n : ℕ)
+-- four texts, one behind another
+pub four-pushed : (before s t u v : Bytes) {a b c d : Bytes} → a ≡ before ++ s → b ≡ a ++ t → c ≡ b ++ u → d ≡ c ++ v → d ≡ before ++ (s ++ t ++ u ++ v)
+four-pushed before s t u v {a} {b} {c} {d} e f g h =
+    let i : b ≡ before ++ (s ++ t) = f ∙ ap (λ (x : Bytes). x ++ t) e ∙ append_assoc before s t in
+    let j : c ≡ before ++ (s ++ t ++ u) = g ∙ ap (λ (x : Bytes). x ++ u) i ∙ append_assoc before (s ++ t) u in
+    h ∙ ap (λ (x : Bytes). x ++ v) j ∙ append_assoc before (s ++ t ++ u) v
+
+pub arms-pushed : (before : Bytes) {new : Bytes} {other main alt main' alt' : ℕ} (R : Rules) (fragment : Bytes) (log : List ℕ) (from n : ℕ)
     → other ≡ opener R fragment log from n 0 → main ≡ main_at log (from + n) → alt ≡ alt_at log (from + n)
     → main' ≡ other_main R fragment log other → alt' ≡ alt_at log other
-    → Written lent at (labelled ": main " main ++ labelled " alt " alt ++ labelled " against main " main' ++ labelled " alt " alt') new next
-    → Written lent at (arms R fragment log from n) new next
+    → new ≡ before ++ (labelled ": main " main ++ labelled " alt " alt ++ labelled " against main " main' ++ labelled " alt " alt')
+    → new ≡ before ++ arms R fragment log from n
 unfolding arms
-arms-written {lent} {at} {new} {next} {other} {main} {alt} {main'} {alt'} R fragment log from n o m a m' a' w =
+arms-pushed before {new} {other} {main} {alt} {main'} {alt'} R fragment log from n o m a m' a' w =
     let s : ℕ → ℕ → ℕ → ℕ → Bytes = λ x y z u. labelled ": main " x ++ labelled " alt " y ++ labelled " against main " z ++ labelled " alt " u in
-    written_as
+    w ∙ ap (λ (x : Bytes). before ++ x)
     (ap (λ x. s x alt main' alt') m ∙ ap (λ x. s (main_at log (from + n)) x main' alt') a
     ∙ ap (λ x. s (main_at log (from + n)) (alt_at log (from + n)) x alt') m'
     ∙ ap (λ x. s (main_at log (from + n)) (alt_at log (from + n)) (other_main R fragment log other) x) a'
     ∙ ap (λ x. s (main_at log (from + n)) (alt_at log (from + n)) (other_main R fragment log x) (alt_at log x)) o)
-    w
 
 -- where the conditional opens, whichever test decides
-pub ruleset opening = (opening-none, opening-end, opening-endif, opening-found, opening-if, opening-else, opening-plain, opening-inner)
+pub ruleset opening = (opening-none, opening-end, opening-endif, found-if, found-notif, found-else, opening-if, opening-notif, opening-else, opening-plain)

@@ -1,19 +1,24 @@
-// The lines that `stacklog` prints around the rows, each written into lent bytes, and the function that does it says which
-// line it is. A text is written from an index on; the answer is the index after it. Each line is of at most 256 bytes, and is
-// written from the start on. Conditionals go by the classes of lent rows: a line is the same beside whatever options.
+// The lines that `stacklog` prints around the rows, each appended to a line, and the function that does it says which line it is.
+// Conditionals go by the classes of lent rows: a line is the same beside whatever options.
 
 #![tactic(auto)]
 
-ghost use Rattle.std.specs.Prelude.{[], ◌≡◌, ◌+◌, ◌-◌, ◌*◌, ◌≤◌, length};
+ghost use Rattle.std.specs.Prelude.{[], ◌≡◌, ◌++◌, ◌+◌, ◌-◌, ◌*◌, ◌≤◌, length};
+ghost use Rattle.arrayvec.specs.ArrayVec.{array_vec_len};
 ghost use Rattle.definition.specs.Lines.{text};
 ghost use Rattle.definition_rules.specs.Maps.{Options, rules_by};
-ghost use Rattle.opcodes.specs.View.{ClassRows};
-ghost use Rattle.text.specs.View.{Written};
+ghost use Rattle.fragments.specs.View.{fragment_of};
+ghost use Rattle.header.specs.View as Header;
+ghost use Rattle.opcodes.specs.Classes.{rows_of};
 ghost use Rattle.log_lines.specs.Log.{start_line, start, ending, accepted_line, refusal, refusal_line, header_line, dispatch_line, malformed_line};
 ghost use Rattle.log_lines.specs.Log.{opener, other_main, arms, verdict_line};
 
-// What is told of a fragment's verdict: number, offset and two figures, the rows written, the peak, whether it has an end, and
-// the heights there.
+use fragments::Fragment;
+use opcodes::{Class, Classes};
+use text::{Line, push_labelled, push_word};
+
+/// What is told of a fragment's verdict: number, offset and two figures, the rows written, the peak, whether it has an end, and
+/// the heights there.
 #[derive(Clone, Copy)]
 pub struct Told {
     pub number: u32,
@@ -27,277 +32,284 @@ pub struct Told {
     pub alt: u32,
 }
 
-// The line before the rows of a fragment.
-fn write_start(out: &mut [u8], entries: usize, k: usize, size: usize, main: u32, alt: u32) -> usize
-    requires { 256 ≤ length out.old }
-    ensures same { Written out.old 0 (start_line entries k size main alt) out.new result }
-    ensures short { result ≤ 256 }
+/// Fragment k of a paper, an empty one where the paper has no fragment k.
+#[tactic(auto, using(crate::proofs::Texts::past))]
+pub fn fragment_at<'a>(paper: &'a [u8], k: usize) -> Fragment<'a>
+    ensures { fragment_of result ≡ Header.fragment_at paper.now k }
 {
-    let a = lines::write_name(out, 0, entries, k);
-    let b = text::write_labelled(out, a, b": length ", size as u64);
-    let c = text::write_labelled(out, b, b", from main ", main as u64);
-    let d = text::write_labelled(out, c, b" alt ", alt as u64);
-    text::write_word(out, d, b"\n")
+    match fragments::nth_fragment(paper, k) {
+        Some(fragment) => fragment,
+        None => Fragment {
+            bytes: &[],
+            main: 0,
+            alt: 0,
+        },
+    }
 }
 
-// That of fragment k of a paper.
-pub fn write_head(out: &mut [u8], paper: &[u8], k: usize) -> usize
-    requires { 256 ≤ length out.old }
-    ensures same { Written out.old 0 (start paper.now k) out.new result }
-    ensures short { result ≤ 256 }
+// Appends the line before the rows of a fragment.
+#[tactic(auto, unfolding(crate::specs::Log::start_line))]
+fn push_start<const N: usize>(
+    line: &mut Line<N>,
+    entries: usize,
+    k: usize,
+    size: usize,
+    main: u32,
+    alt: u32,
+)
+    requires { array_vec_len line.old + 256 ≤ N }
+    ensures items { line.new.items ≡ line.old.items ++ start_line entries k size main alt }
+    ensures short { array_vec_len line.new ≤ array_vec_len line.old + 256 }
 {
-    let entries = header::field(paper, 0) as usize;
-    let size = fragments::fragment_bytes(paper, k).len();
-    let main = fragments::fragment_main(paper, k);
-    let alt = fragments::fragment_alt(paper, k);
-    write_start(out, entries, k, size, main, alt)
+    lines::push_name(line, entries, k);
+    push_labelled(line, b": length ", size as u64);
+    push_labelled(line, b", from main ", u64::from(main));
+    push_labelled(line, b" alt ", u64::from(alt));
+    push_word(line, b"\n");
 }
 
-// How an accepted fragment ends.
-fn write_ending(out: &mut [u8], at: usize, ended: bool, main: u32, alt: u32) -> usize
-    requires { at + 60 ≤ length out.old }
-    ensures same { Written out.old at (ending ended main alt) out.new result }
-    ensures short { result ≤ at + 60 }
+/// Appends that of fragment k of a paper.
+pub fn push_head<const N: usize>(line: &mut Line<N>, paper: &[u8], k: usize)
+    requires { array_vec_len line.old + 256 ≤ N }
+    ensures items { line.new.items ≡ line.old.items ++ start paper.now k }
+    ensures short { array_vec_len line.new ≤ array_vec_len line.old + 256 }
+{
+    let entries = header::entry_count(paper);
+    let fragment = fragment_at(paper, k);
+    push_start(
+        line,
+        entries,
+        k,
+        fragment.bytes.len(),
+        fragment.main,
+        fragment.alt,
+    );
+}
+
+// Appends how an accepted fragment ends.
+fn push_ending<const N: usize>(line: &mut Line<N>, ended: bool, main: u32, alt: u32)
+    requires { array_vec_len line.old + 60 ≤ N }
+    ensures items { line.new.items ≡ line.old.items ++ ending ended main alt }
+    ensures short { array_vec_len line.new ≤ array_vec_len line.old + 60 }
 {
     if ended {
-        let next = text::write_labelled(out, at, b", end main ", main as u64);
-        return text::write_labelled(out, next, b" alt ", alt as u64);
+        push_labelled(line, b", end main ", u64::from(main));
+        push_labelled(line, b" alt ", u64::from(alt));
+    } else {
+        push_word(line, b", end none");
     }
-    text::write_word(out, at, b", end none")
 }
 
-// The line after the rows of an accepted fragment.
-fn write_accepted(out: &mut [u8], peak: u32, ended: bool, main: u32, alt: u32) -> usize
-    requires { 256 ≤ length out.old }
-    ensures same { Written out.old 0 (accepted_line peak ended main alt) out.new result }
-    ensures short { result ≤ 256 }
+// Appends the line after the rows of an accepted fragment.
+#[tactic(auto, unfolding(crate::specs::Log::accepted_line))]
+fn push_accepted<const N: usize>(line: &mut Line<N>, peak: u32, ended: bool, main: u32, alt: u32)
+    requires { array_vec_len line.old + 256 ≤ N }
+    ensures items { line.new.items ≡ line.old.items ++ accepted_line peak ended main alt }
+    ensures short { array_vec_len line.new ≤ array_vec_len line.old + 256 }
 {
-    let a = text::write_labelled(out, 0, b"accepted: peak ", peak as u64);
-    let b = write_ending(out, a, ended, main, alt);
-    text::write_word(out, b, b"\n")
+    push_labelled(line, b"accepted: peak ", u64::from(peak));
+    push_ending(line, ended, main, alt);
+    push_word(line, b"\n");
 }
 
-// Number and word.
-fn write_refusal(out: &mut [u8], at: usize, number: u32, first: u64, second: u64) -> usize
-    requires { at + 110 ≤ length out.old }
-    ensures same { Written out.old at (refusal number first second) out.new result }
-    ensures short { result ≤ at + 110 }
+// Appends number and word.
+#[tactic(auto, unfolding(crate::specs::Log::refusal))]
+fn push_refusal<const N: usize>(line: &mut Line<N>, number: u32, first: u64, second: u64)
+    requires { array_vec_len line.old + 110 ≤ N }
+    ensures items { line.new.items ≡ line.old.items ++ refusal number first second }
+    ensures short { array_vec_len line.new ≤ array_vec_len line.old + 110 }
 {
-    let a = text::write_labelled(out, at, b"refused ", number as u64);
-    let b = text::write_word(out, a, b", ");
-    reasons::write_reason(out, b, number, first, second)
+    push_labelled(line, b"refused ", u64::from(number));
+    push_word(line, b", ");
+    reasons::push_reason(line, number, first, second);
 }
 
-// The line of a refusal with nothing more, behind what leads to it.
-pub fn write_refusal_line(
-    out: &mut [u8],
+/// Appends the line of a refusal with nothing more, behind what leads to it.
+#[tactic(auto, unfolding(crate::specs::Log::refusal_line))]
+pub fn push_refusal_line<const N: usize>(
+    line: &mut Line<N>,
     lead: &[u8],
     number: u32,
     first: u64,
     second: u64,
-) -> usize
-    requires { (256 ≤ length out.old) × (length lead.now ≤ 100) }
-    ensures same { Written
-        out.old
-        0
-        (refusal_line lead.now number first second [])
-        out.new
-        result }
-    ensures short { result ≤ 256 }
+)
+    requires room { array_vec_len line.old + 256 ≤ N }
+    requires lead { length lead.now ≤ 100 }
+    ensures items { line.new.items ≡ line.old.items ++ refusal_line lead.now number first second [] }
+    ensures short { array_vec_len line.new ≤ array_vec_len line.old + 256 }
 {
-    let a = text::write_word(out, 0, lead);
-    let b = write_refusal(out, a, number, first, second);
-    text::write_word(out, b, b"\n")
+    push_word(line, lead);
+    push_refusal(line, number, first, second);
+    push_word(line, b"\n");
 }
 
-// The line of a refused header.
-pub fn write_header(out: &mut [u8], paper: &[u8]) -> usize
-    requires { 256 ≤ length out.old }
-    ensures same { Written out.old 0 (header_line paper.now) out.new result }
-    ensures short { result ≤ 256 }
+/// Appends the line of a refused header.
+#[tactic(auto, unfolding(crate::specs::Log::refusal_line, crate::specs::Log::header_line))]
+pub fn push_header<const N: usize>(line: &mut Line<N>, paper: &[u8])
+    requires { array_vec_len line.old + 256 ≤ N }
+    ensures items { line.new.items ≡ line.old.items ++ header_line paper.now }
+    ensures short { array_vec_len line.new ≤ array_vec_len line.old + 256 }
 {
-    let a = write_refusal(out, 0, 19, 0, 0);
-    let b = faults::write_fault(out, a, paper);
-    text::write_word(out, b, b"\n")
+    push_refusal(line, 19, 0, 0);
+    faults::push_fault(line, paper);
+    push_word(line, b"\n");
 }
 
-// The line of the dispatch check.
-pub fn write_dispatch(out: &mut [u8], entry: usize, sum: u64, limit: u64) -> usize
-    requires { 256 ≤ length out.old }
-    ensures same { Written out.old 0 (dispatch_line entry sum limit) out.new result }
-    ensures short { result ≤ 256 }
+/// Appends the line of the dispatch check.
+#[tactic(auto, unfolding(crate::specs::Log::refusal_line, crate::specs::Log::dispatch_line))]
+pub fn push_dispatch<const N: usize>(line: &mut Line<N>, entry: usize, sum: u64, limit: u64)
+    requires { array_vec_len line.old + 256 ≤ N }
+    ensures items { line.new.items ≡ line.old.items ++ dispatch_line entry sum limit }
+    ensures short { array_vec_len line.new ≤ array_vec_len line.old + 256 }
 {
-    let a = text::write_labelled(out, 0, b"entry ", entry as u64);
-    let b = text::write_word(out, a, b": ");
-    let c = write_refusal(out, b, 20, sum, limit);
-    text::write_word(out, c, b"\n")
+    push_labelled(line, b"entry ", entry as u64);
+    push_word(line, b": ");
+    push_refusal(line, 20, sum, limit);
+    push_word(line, b"\n");
 }
 
-// The line of a malformed fragment.
-fn write_malformed(out: &mut [u8], offset: usize, bytes: &[u8]) -> usize
-    requires { 256 ≤ length out.old }
-    ensures same { Written out.old 0 (malformed_line offset bytes.now) out.new result }
-    ensures short { result ≤ 256 }
+// Appends the line of a malformed fragment.
+#[tactic(auto, unfolding(crate::specs::Log::refusal_line, crate::specs::Log::malformed_line))]
+fn push_malformed<const N: usize>(line: &mut Line<N>, offset: usize, bytes: &[u8])
+    requires { array_vec_len line.old + 256 ≤ N }
+    ensures items { line.new.items ≡ line.old.items ++ malformed_line offset bytes.now }
+    ensures short { array_vec_len line.new ≤ array_vec_len line.old + 256 }
 {
-    let a = write_refusal(out, 0, 3, 0, 0);
-    let b = text::write_labelled(out, a, b" at ", offset as u64);
-    let c = text::write_word(out, b, b":");
-    let d = log_rows::write_instruction(out, c, bytes);
-    text::write_word(out, d, b"\n")
+    push_refusal(line, 3, 0, 0);
+    push_labelled(line, b" at ", offset as u64);
+    push_word(line, b":");
+    log_rows::push_instruction(line, bytes);
+    push_word(line, b"\n");
 }
 
 // The row of the ELSE, or where there is none the IF, of the conditional that is open behind `count` rows from row `from` on.
 #[tactic(auto, using(crate::proofs::Arms::opening))]
-fn opener(fragment: &[u8], log: &[u16], classes: &[u8], from: usize, count: usize) -> usize
-    requires count_in_bounds { 3 * (from + count) ≤ length log.now }
-    requires class_rows { ClassRows classes.now }
+fn opener(fragment: &[u8], log: &[u16], classes: Classes, from: usize, count: usize) -> usize
+    requires { 3 * (from + count) ≤ length log.now }
     ensures same { (options : Options)
-        → result ≡ opener (rules_by classes.now options) fragment.now log.now from count 0 }
+        → result ≡ opener (rules_by (rows_of classes.entry) options) fragment.now log.now from count 0 }
     ensures within { result ≤ from + count }
 {
-    let mut n = count;
     let mut inner: usize = 0;
-    while n > 0 {
-        n -= 1;
+    for n in (0..count).rev() {
         let row = from + n;
-        let class = log_rows::class_of_row(fragment, log, classes, row);
-        if class == opcodes::ENDIF {
-            inner += 1;
-            continue;
-        }
-        if log_rows::is_if(class) {
-            if inner == 0 {
-                return row;
+        match log_rows::class_of_row(fragment, log, classes, row) {
+            Class::EndIf => inner += 1,
+            Class::If | Class::NotIf => {
+                if inner == 0 {
+                    return row;
+                }
+                inner -= 1;
             }
-            inner -= 1;
-            continue;
-        }
-        if inner == 0 {
-            if class == opcodes::ELSE {
-                return row;
+            Class::Else => {
+                if inner == 0 {
+                    return row;
+                }
             }
+            _ => {}
         }
     }
     from
 }
 
-// The main height of the other arm.
-fn other_main(fragment: &[u8], log: &[u16], classes: &[u8], row: usize) -> u32
-    requires row_in_bounds { 3 * row + 3 ≤ length log.now }
-    requires class_rows { ClassRows classes.now }
+// The main height of the other arm: IF pops one item.
+fn other_main(fragment: &[u8], log: &[u16], classes: Classes, row: usize) -> u32
+    requires { 3 * row + 3 ≤ length log.now }
     ensures { (options : Options)
-        → result ≡ other_main (rules_by classes.now options) fragment.now log.now row }
+        → result ≡ other_main (rules_by (rows_of classes.entry) options) fragment.now log.now row }
 {
     let main = log_rows::main_at(log, row);
     if log_rows::is_if(log_rows::class_of_row(fragment, log, classes, row)) {
-        if main == 0 {
-            return 0;
-        }
-        return main - 1;
+        main.saturating_sub(1)
+    } else {
+        main
     }
-    main
 }
 
-// Both arms, where `count` rows come before ENDIF's.
-fn write_arms(
-    out: &mut [u8],
-    at: usize,
+// Appends both arms, where `count` rows come before ENDIF's.
+fn push_arms<const N: usize>(
+    line: &mut Line<N>,
     fragment: &[u8],
     log: &[u16],
-    classes: &[u8],
+    classes: Classes,
     from: usize,
     count: usize,
-) -> usize
-    requires at_in_bounds { (at + 120 ≤ length out.old) × (3 * (from + count) + 3 ≤ length log.now) }
-    requires class_rows { ClassRows classes.now }
-    ensures same { (options : Options)
-        → Written
-        out.old
-        at
-        (arms (rules_by classes.now options) fragment.now log.now from count)
-        out.new
-        result }
-    ensures short { result ≤ at + 120 }
+)
+    requires room { array_vec_len line.old + 120 ≤ N }
+    requires rows { 3 * (from + count) + 3 ≤ length log.now }
+    ensures items { (options : Options)
+        → line.new.items
+        ≡ line.old.items ++ arms (rules_by (rows_of classes.entry) options) fragment.now log.now from count }
+    ensures short { array_vec_len line.new ≤ array_vec_len line.old + 120 }
 {
     let last = from + count;
     let other = opener(fragment, log, classes, from, count);
-    let a = text::write_labelled(out, at, b": main ", log_rows::main_at(log, last) as u64);
-    let b = text::write_labelled(out, a, b" alt ", log_rows::alt_at(log, last) as u64);
-    let c = text::write_labelled(
-        out,
-        b,
-        b" against main ",
-        other_main(fragment, log, classes, other) as u64,
-    );
-    text::write_labelled(out, c, b" alt ", log_rows::alt_at(log, other) as u64)
+    let main = other_main(fragment, log, classes, other);
+    push_labelled(line, b": main ", u64::from(log_rows::main_at(log, last)));
+    push_labelled(line, b" alt ", u64::from(log_rows::alt_at(log, last)));
+    push_labelled(line, b" against main ", u64::from(main));
+    push_labelled(line, b" alt ", u64::from(log_rows::alt_at(log, other)));
 }
 
-// The line of 12.
-fn write_differ(
-    out: &mut [u8],
+// Appends the line of 12.
+fn push_differ<const N: usize>(
+    line: &mut Line<N>,
     fragment: &[u8],
     log: &[u16],
-    classes: &[u8],
+    classes: Classes,
     from: usize,
     count: usize,
     first: u64,
     second: u64,
-) -> usize
-    requires in_bounds { (256 ≤ length out.old) × (3 * (from + count) + 3 ≤ length log.now) }
-    requires class_rows { ClassRows classes.now }
-    ensures same { (options : Options)
-        → Written
-        out.old
-        0
-        (refusal_line
+)
+    requires room { array_vec_len line.old + 256 ≤ N }
+    requires rows { 3 * (from + count) + 3 ≤ length log.now }
+    ensures items { (options : Options)
+        → line.new.items
+        ≡ line.old.items
+        ++ refusal_line
         (text "     ^ ")
         12
         first
         second
-        (arms (rules_by classes.now options) fragment.now log.now from count))
-        out.new
-        result }
-    ensures short { result ≤ 256 }
+        (arms (rules_by (rows_of classes.entry) options) fragment.now log.now from count) }
+    ensures short { array_vec_len line.new ≤ array_vec_len line.old + 256 }
 {
-    let a = text::write_word(out, 0, b"     ^ ");
-    let b = write_refusal(out, a, 12, first, second);
-    let c = write_arms(out, b, fragment, log, classes, from, count);
-    text::write_word(out, c, b"\n")
+    push_word(line, b"     ^ ");
+    push_refusal(line, 12, first, second);
+    push_arms(line, fragment, log, classes, from, count);
+    push_word(line, b"\n");
 }
 
-// The line after the rows of a fragment, the first of them row `from`: 1 to 4 come before any row.
-pub fn write_verdict(
-    out: &mut [u8],
+/// Appends the line after the rows of a fragment, the first of them row `from`: 1 to 4 come before any row.
+pub fn push_verdict<const N: usize>(
+    line: &mut Line<N>,
     fragment: &[u8],
     log: &[u16],
-    classes: &[u8],
+    classes: Classes,
     from: usize,
     t: Told,
-) -> usize
-    requires in_bounds { (256 ≤ length out.old) × (3 * (from + t.rows) ≤ length log.now) }
-    requires class_rows { ClassRows classes.now }
-    ensures same { (options : Options)
-        → Written
-        out.old
-        0
-        (verdict_line (rules_by classes.now options) fragment.now log.now from t)
-        out.new
-        result }
-    ensures short { result ≤ 256 }
+)
+    requires room { array_vec_len line.old + 256 ≤ N }
+    requires rows { 3 * (from + t.rows) ≤ length log.now }
+    ensures items { (options : Options)
+        → line.new.items
+        ≡ line.old.items ++ verdict_line (rules_by (rows_of classes.entry) options) fragment.now log.now from t }
+    ensures short { array_vec_len line.new ≤ array_vec_len line.old + 256 }
 {
     if t.number == 0 {
-        return write_accepted(out, t.peak, t.ended, t.main, t.alt);
-    }
-    if t.number == 3 {
-        let bytes = display::display(fragment, fragment, t.offset, 0);
-        return write_malformed(out, t.offset, bytes);
-    }
-    if t.rows == 0 {
-        return write_refusal_line(out, b"", t.number, t.first, t.second);
-    }
-    if t.number == 12 {
-        return write_differ(
-            out,
+        push_accepted(line, t.peak, t.ended, t.main, t.alt);
+    } else if t.number == 3 {
+        push_malformed(
+            line,
+            t.offset,
+            display::display(fragment, fragment, t.offset, 0),
+        );
+    } else if t.rows == 0 {
+        push_refusal_line(line, b"", t.number, t.first, t.second);
+    } else if t.number == 12 {
+        push_differ(
+            line,
             fragment,
             log,
             classes,
@@ -306,6 +318,7 @@ pub fn write_verdict(
             t.first,
             t.second,
         );
+    } else {
+        push_refusal_line(line, b"     ^ ", t.number, t.first, t.second);
     }
-    write_refusal_line(out, b"     ^ ", t.number, t.first, t.second)
 }

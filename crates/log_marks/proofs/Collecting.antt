@@ -16,7 +16,7 @@ use Rattle.stack_analysis.specs.View.{summarized}
 use Rattle.header.specs.View.{fragment_at}
 use Rattle.stack_analysis.specs.declared.Summary.{Summary}
 use Rattle.paper.specs.View.{fragment_analysis}
-use Rattle.paper.specs.Parts.{Marks}
+use Rattle.paper.proofs.Fragments.{Marks}
 use Rattle.paper.proofs.Markings.{Marking, marking-none, marking-more, onto, told}
 use Rattle.log_lines.specs.declared.Told.{Told}
 use Rattle.log_lines.specs.Log.{told_of}
@@ -75,7 +75,7 @@ module _ (R : Rules) (p : Bytes) (lent : List ℕ) where
         → (mark_from R 0 0 0 (fragments p) lent).verdicts ≡ i.verdicts
     ended e = i.marked ∙ ap (λ (vs : List W.Verdict). i.verdicts ++ vs) e ∙ append-nil i.verdicts
 
-    pub collecting-end : length (fragments p) ≤ k → k ≤ 33 → (none : Told)
+    collecting-end : length (fragments p) ≤ k → k ≤ 33 → (none : Told)
         → none ≡ told_of (record { answer = accepted; rows = 0; peak = 0; end = dead })
         → Holds (mark_from R 0 0 0 (fragments p) lent) (record { entry = 0; last = none; count = k; told = ts }) log
     unfolding mark_from refused_told told_of
@@ -99,6 +99,14 @@ module _ (R : Rules) (p : Bytes) (lent : List ℕ) where
           few = omega (arith, r, i.few, l, ap (λ (x : Told). x.rows) z);
           room = omega (arith, r, i.marking.room, ap (λ (x : Told). x.rows) z);
         }
+
+    -- with the count by its own name
+    pub collecting-all : (count : ℕ) → count ≡ length (fragments p) → count ≡ k → k ≤ 33 → (none : Told)
+        → none ≡ told_of (record { answer = accepted; rows = 0; peak = 0; end = dead })
+        → Holds (mark_from R 0 0 0 (fragments p) lent) (record { entry = 0; last = none; count = count; told = ts }) log
+    collecting-all count e f l none z =
+        subst (λ n. Holds (mark_from R 0 0 0 (fragments p) lent) (record { entry = 0; last = none; count = n; told = ts }) log) (sym f)
+        (collecting-end (omega arith) l none z)
 
     module _ (more : k < length (fragments p)) (v : Summary) (new : List ℕ) (m : Marks (fragment_analysis R p k rows log) (3 * rows) log v new)
         (t : Told) (n : t ≡ numbers_of v) where

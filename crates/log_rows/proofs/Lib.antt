@@ -1,4 +1,3 @@
--- What is proved of the rows for this crate's functions.
-pub mod Texts
-pub mod Words
+-- The laws behind the functions.
 pub mod Rows
+pub mod Words

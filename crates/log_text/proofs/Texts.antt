@@ -2,6 +2,7 @@
 use mathlib.Core.Bool.{Bool, true, false}
 use mathlib.Core.List.{List, [], ◌++◌, append-nil, append_assoc}
 use mathlib.Core.Path.{◌≡◌, refl, sym, ap, subst, ◌∙◌}
+use Rattle.std.specs.Prelude.{Result, Ok, Err}
 use Prim.Native.Nat.{ℕ, ◌+◌, ◌*◌, ◌≤◌, ◌<◌}
 use native.Mathlib.Omega.{arith}
 use borrow.Author.Tests.{eq-eqb, ne_eqb, eqb-true, eqb-false, le-leb, lt-leb}
@@ -9,13 +10,16 @@ use lib.Dec.{eqb}
 use lib.ListN.{length, take, drop}
 use Rattle.definition.specs.Basics.{Bytes, pick}
 use Rattle.definition.specs.Lines.{text, last_line, refused_line}
-use Rattle.definition.specs.Papers.{PaperMarked, mark_paper}
-use Rattle.definition.specs.Refusals.{Answer, answer}
-use Rattle.definition_rules.specs.Maps.{Options, good_map, good_limit, rules_by, rules_of, mark_paper_with}
-use Rattle.definition_rules.specs.Maps as Maps
+use Rattle.definition.specs.Papers.{PaperMarked, refused_paper, mark_paper}
+use Rattle.definition.specs.Refusals.{Answer, answer, refused_at}
+use Rattle.definition_rules.specs.Maps.{Options, good_map, good_limit, rules_of, judged, mark_paper_with}
 use Rattle.definition.specs.Stacks.{Rules}
-use Rattle.definition_rules.proofs.UnderEveryMap.{paper-good}
-use Rattle.maps.specs.View.{judged_number}
+use Rattle.refusals.specs.View.{refusal_of}
+use Rattle.refusals.specs.declared.Refusal as R
+use Rattle.walk.specs.declared.Rules as W
+use Rattle.walk.specs.Runs.{rules_in}
+use Rattle.maps.specs.View.{rules_or_refusal}
+use Rattle.maps.proofs.Judged.{judged-ok, judged-err, rules-are}
 use Rattle.log_lines.specs.declared.Told.{Told}
 use Rattle.log_lines.specs.Log.{refusal_line, header_line, dispatch_line, told_of}
 use Rattle.log_blocks.specs.Blocks.{block}
@@ -24,7 +28,7 @@ use Rattle.log_blocks.proofs.Puts.{put_as, then-put}
 use Rattle.log_marks.specs.declared.Marked.{Marked}
 use Rattle.log_marks.specs.Marks.{all_told, rows_of, refused_told}
 use Rattle.log_marks.specs.View.{Holds}
-use Rattle.log_marks.proofs.Papers.{Refused, holds-judged}
+use Rattle.log_marks.proofs.Papers.{Refused, holds-refused}
 use Rattle.log_text.specs.LogText.{blocks, alone, refused, log_of, log_text, log_text_with}
 use Rattle.log_text.specs.View.{last_by, log_by, Tells, LogsOf, LogsBy, LogsWith}
 use Rattle.log_text.specs.declared.LogText.{LogText}
@@ -179,33 +183,34 @@ module _ (paper : Bytes) (lent_log : List ℕ) {lent : Bytes} {r : LogText} {log
 
 -- By a map and a limit
 
--- 28 and 29 are told by no class
-number-alone : (map : Bytes) (limit n : ℕ) → n ≡ judged_number map limit → (n ≡ 0 → ⊥) → alone n ≡ true
-unfolding judged_number
-number-alone map limit n e z = by (good_map map) (good_limit limit) e
-  where
-    by : (a b : Bool) → n ≡ pick a (pick b 0 29) 28 → alone n ≡ true
-    by true true h = absurd (z h)
-    by true false h = rw h
-    by false b h = rw h
-
 log-alone : (R Q : Rules) (paper : Bytes) (log : List ℕ) (s : Marked) → s.count ≡ 0 → alone s.last.number ≡ true → log_by R paper log s ≡ log_by Q paper log s
 unfolding log_by refused
 log-alone R Q paper log s e a = rw (e, a)
 
-module _ (map : Bytes) (options : Options) (paper : Bytes) (lent_log : List ℕ) {lent : Bytes} {r : LogText} {new : Bytes} where
-  pub logs-judged : (R : Rules) (s : Marked) (n : ℕ) → n ≡ judged_number map options.limit → (n ≡ 0 → ⊥) → Refused 0 n 0 0 s
-      → Tells s.last.number (log_by R paper lent_log s) lent r new → LogsWith map options paper lent_log lent r lent_log new
-  unfolding log_text_with told_of
-  logs-judged R s n j z f w =
-      let e : s.last.number ≡ n = ap (λ (t : Told). t.number) f.1.1 in
-      let a : alone s.last.number ≡ true = ap alone e ∙ number-alone map options.limit n j z in
-      logs-of (rules_of map options) paper (mark_paper_with map options paper lent_log) s lent_log (holds-judged map options paper lent_log s n j z f)
-      (subst (λ (t : Bytes). Tells s.last.number t lent r new) (log-alone R (rules_of map options) paper lent_log s f.1.0 a) w)
+module _ (map : Bytes) (options : Options) {o : Result W.Rules R.Refusal} (told : rules_or_refusal o ≡ judged map options Err Ok) where
+  -- 28 and 29 are told by no class
+  number-alone : {x : R.Refusal} → o ≡ Err x → alone (refused_at 0 (refusal_of x)).number ≡ true
+  number-alone h = sym (judged-err (λ f. alone (refused_at 0 f).number) (λ R. true) map options told h) ∙ by (good_map map) (good_limit options.limit)
+    where
+      by : (a b : Bool) → pick a (pick b true (alone 29)) (alone 28) ≡ true
+      by true true = refl
+      by true false = refl
+      by false b = refl
 
-  pub logs-with : good_map map ≡ true → good_limit options.limit ≡ true → (rows : List ℕ) → rows ≡ Maps.rows_of map → {log : List ℕ}
-      → LogsBy (rules_by rows options) paper lent_log lent r log new → LogsWith map options paper lent_log lent r log new
-  unfolding log_text log_text_with
-  logs-with g l rows e {log} w =
-      let b : LogsBy (rules_of map options) paper lent_log lent r log new = subst (λ (x : List ℕ). LogsBy (rules_by x options) paper lent_log lent r log new) e w in
-      rw (paper-good map options paper lent_log g l) b
+  module _ (paper : Bytes) (lent_log : List ℕ) {lent : Bytes} {r : LogText} {new : Bytes} where
+    pub logs-refused : {x : R.Refusal} → o ≡ Err x → (R : Rules) (s : Marked) → Refused 0 (refusal_of x) s
+        → Tells s.last.number (log_by R paper lent_log s) lent r new → LogsWith map options paper lent_log lent r lent_log new
+    unfolding log_text_with told_of
+    logs-refused {x} h R s f w =
+        let e : s.last.number ≡ (refused_at 0 (refusal_of x)).number = ap (λ (t : Told). t.number) f.last in
+        let a : alone s.last.number ≡ true = ap alone e ∙ number-alone h in
+        logs-of (rules_of map options) paper (mark_paper_with map options paper lent_log) s lent_log (holds-refused map options told paper lent_log s h f)
+        (subst (λ (t : Bytes). Tells s.last.number t lent r new) (log-alone R (rules_of map options) paper lent_log s f.none a) w)
+
+    pub logs-with : {x : W.Rules} → o ≡ Ok x → {log : List ℕ} → LogsBy (rules_in x) paper lent_log lent r log new → LogsWith map options paper lent_log lent r log new
+    unfolding log_text log_text_with mark_paper_with
+    logs-with {x} h {log} w =
+        let b : LogsBy (rules_of map options) paper lent_log lent r log new = subst (λ (R : Rules). LogsBy R paper lent_log lent r log new) (rules-are map options told h) w in
+        let e : mark_paper_with map options paper lent_log ≡ mark_paper (rules_of map options) paper lent_log =
+        judged-ok (λ f. refused_paper 0 f lent_log) (λ R. mark_paper R paper lent_log) map options told h ∙ ap (λ R. mark_paper R paper lent_log) (rules-are map options told h) in
+        rw e b

@@ -5,8 +5,8 @@
 ghost use Rattle.std.specs.Prelude.{[], ◌≡◌, ◌+◌, ◌*◌, ◌≤◌, ◌<◌, length, take};
 ghost use Rattle.definition_rules.specs.Maps.{rules_by};
 ghost use Rattle.definition_rules.specs.Maps as Maps;
-ghost use Rattle.opcodes.specs.View.{ClassRows};
-ghost use Rattle.walk.specs.Runs.{options_of};
+ghost use Rattle.opcodes.specs.Classes.{rows_of as class_rows};
+ghost use Rattle.walk.specs.Runs.{options_of, rules_in};
 ghost use Rattle.log_lines.specs.Log.{refusal_line, header_line, dispatch_line};
 ghost use Rattle.log_blocks.specs.View.{Put};
 ghost use Rattle.log_marks.specs.Marks.{rows_of};
@@ -15,7 +15,9 @@ ghost use Rattle.log_text.specs.View.{last_by, log_by, Tells, LogsBy, Logs, Logs
 
 use log_lines::Told;
 use log_marks::Marked;
-use walk::Options;
+use opcodes::Classes;
+use text::Line;
+use walk::{Options, Rules};
 
 // The verdict's number, and the size of the text.
 #[derive(Clone, Copy)]
@@ -30,9 +32,9 @@ fn put_header(text: &mut [u8], at: usize, go: bool, paper: &[u8]) -> usize
     ensures same { Put go text.old at (header_line paper.now) text.new result }
     ensures near { result ≤ at + 256 }
 {
-    let mut line = [0u8; 256];
-    let n = log_lines::write_header(&mut line, paper);
-    log_blocks::put(text, at, go, &line[..n])
+    let mut line: Line<256> = Line::new();
+    log_lines::push_header(&mut line, paper);
+    log_blocks::put(text, at, go, line.as_slice())
 }
 
 // The line of the dispatch check.
@@ -41,22 +43,16 @@ fn put_dispatch(text: &mut [u8], at: usize, go: bool, entry: usize, sum: u64, li
     ensures same { Put go text.old at (dispatch_line entry sum limit) text.new result }
     ensures near { result ≤ at + 256 }
 {
-    let mut line = [0u8; 256];
-    let n = log_lines::write_dispatch(&mut line, entry, sum, limit);
-    log_blocks::put(text, at, go, &line[..n])
+    let mut line: Line<256> = Line::new();
+    log_lines::push_dispatch(&mut line, entry, sum, limit);
+    log_blocks::put(text, at, go, line.as_slice())
 }
 
 // Whether the line of a refusal is number and word alone.
 fn alone(number: u32) -> bool
     ensures { result ≡ alone number }
 {
-    if number == 21 {
-        return true;
-    }
-    if number == 28 {
-        return true;
-    }
-    number == 29
+    matches!(number, 21 | 28 | 29)
 }
 
 // Such a line.
@@ -65,9 +61,9 @@ fn put_alone(text: &mut [u8], at: usize, go: bool, number: u32, first: u64, seco
     ensures same { Put go text.old at (refusal_line [] number first second []) text.new result }
     ensures near { result ≤ at + 256 }
 {
-    let mut line = [0u8; 256];
-    let n = log_lines::write_refusal_line(&mut line, b"", number, first, second);
-    log_blocks::put(text, at, go, &line[..n])
+    let mut line: Line<256> = Line::new();
+    log_lines::push_refusal_line(&mut line, b"", number, first, second);
+    log_blocks::put(text, at, go, line.as_slice())
 }
 
 // The last line of a refused paper.
@@ -82,9 +78,9 @@ fn put_last(text: &mut [u8], at: usize, go: bool, entry: usize, t: Told) -> usiz
         result }
     ensures near { result ≤ at + 256 }
 {
-    let mut line = [0u8; 256];
-    let n = lines::write_refused(&mut line, 0, t.number, entry, t.offset, t.first, t.second);
-    log_blocks::put(text, at, go, &line[..n])
+    let mut line: Line<256> = Line::new();
+    lines::push_refused(&mut line, t.number, entry, t.offset, t.first, t.second);
+    log_blocks::put(text, at, go, line.as_slice())
 }
 
 // The next index, and the next row.
@@ -100,33 +96,30 @@ fn put_blocks(
     go: bool,
     paper: &[u8],
     log: &[u16],
-    classes: &[u8],
+    classes: Classes,
     count: usize,
     told: [Told; 33],
 ) -> Place
     requires count_bound { (count ≤ 33) × (rows_of (take count told) ≤ 330000) }
     requires told_in_bounds { 3 * rows_of (take count told) ≤ length log.now }
-    requires class_rows { ClassRows classes.now }
     ensures same { (options : Maps.Options)
         → Put
         go
         text.old
         0
-        (blocks (rules_by classes.now options) paper.now log.now 0 0 (take count told))
+        (blocks (rules_by (class_rows classes.entry) options) paper.now log.now 0 0 (take count told))
         text.new
         result.at }
     ensures rows { result.from ≡ rows_of (take count told) }
     ensures near { result.at ≤ 100000000 }
 {
-    let mut at: usize = 0;
-    let mut from: usize = 0;
-    let mut k: usize = 0;
-    while k < count {
+    let mut at = 0;
+    let mut from = 0;
+    for k in 0..count {
         let t = told[k];
         let next = log_blocks::put_block(text, at, go, paper, log, classes, k, from, t);
         at = log_blocks::put(text, next, go, b"\n");
         from += t.rows;
-        k += 1;
     }
     Place { at, from }
 }
@@ -138,19 +131,18 @@ fn put_refused(
     go: bool,
     paper: &[u8],
     log: &[u16],
-    classes: &[u8],
+    classes: Classes,
     entry: usize,
     from: usize,
     t: Told,
 ) -> usize
     requires at_bound { (at ≤ 100000000) × ((t.rows ≤ 330000) × (3 * (from + t.rows) ≤ length log.now)) }
-    requires class_rows { ClassRows classes.now }
     ensures same { (options : Maps.Options)
         → Put
         go
         text.old
         at
-        (refused (rules_by classes.now options) paper.now log.now entry from t)
+        (refused (rules_by (class_rows classes.entry) options) paper.now log.now entry from t)
         text.new
         result }
     ensures near { result ≤ 1000000000 }
@@ -168,16 +160,22 @@ fn put_refused(
 }
 
 // All of a marked paper.
-fn put_log(text: &mut [u8], go: bool, paper: &[u8], log: &[u16], classes: &[u8], m: Marked) -> usize
+fn put_log(
+    text: &mut [u8],
+    go: bool,
+    paper: &[u8],
+    log: &[u16],
+    classes: Classes,
+    m: Marked,
+) -> usize
     requires count_bound { (m.count ≤ 33) × (rows_of (take m.count m.told) + m.last.rows ≤ 330000) }
     requires rows_in_bounds { 3 * (rows_of (take m.count m.told) + m.last.rows) ≤ length log.now }
-    requires class_rows { ClassRows classes.now }
     ensures { (options : Maps.Options)
         → Put
         go
         text.old
         0
-        (log_by (rules_by classes.now options) paper.now log.now m)
+        (log_by (rules_by (class_rows classes.entry) options) paper.now log.now m)
         text.new
         result }
 {
@@ -193,14 +191,13 @@ fn put_log(text: &mut [u8], go: bool, paper: &[u8], log: &[u16], classes: &[u8],
 }
 
 // Counts what is printed of a marked paper, and writes that where there is room.
-fn write_marked(paper: &[u8], log: &[u16], classes: &[u8], m: Marked, text: &mut [u8]) -> LogText
+fn write_marked(paper: &[u8], log: &[u16], classes: Classes, m: Marked, text: &mut [u8]) -> LogText
     requires count_bound { (m.count ≤ 33) × (rows_of (take m.count m.told) + m.last.rows ≤ 330000) }
     requires rows_in_bounds { 3 * (rows_of (take m.count m.told) + m.last.rows) ≤ length log.now }
-    requires class_rows { ClassRows classes.now }
     ensures { (options : Maps.Options)
         → Tells
         m.last.number
-        (log_by (rules_by classes.now options) paper.now log.now m)
+        (log_by (rules_by (class_rows classes.entry) options) paper.now log.now m)
         text.old
         result
         text.new }
@@ -215,17 +212,10 @@ fn write_marked(paper: &[u8], log: &[u16], classes: &[u8], m: Marked, text: &mut
     LogText { number, size }
 }
 
-// Marks a paper by the classes of lent rows, counts what is printed of it, and writes that where there is room.
-pub fn write_log_rows(
-    paper: &[u8],
-    classes: &[u8],
-    options: Options,
-    log: &mut [u16],
-    text: &mut [u8],
-) -> LogText
-    requires { (ClassRows classes.now) × (options.limit ≤ 244) }
+/// Marks a paper by these rules, counts what is printed of it, and writes that where there is room.
+pub fn write_log_rows(paper: &[u8], rules: Rules, log: &mut [u16], text: &mut [u8]) -> LogText
     ensures { LogsBy
-        (rules_by classes.now (options_of options))
+        (rules_in rules.entry)
         paper.now
         log.old
         text.old
@@ -233,11 +223,11 @@ pub fn write_log_rows(
         log.new
         text.new }
 {
-    let m = log_marks::mark_rows(paper, classes, options, log);
-    write_marked(paper, log, classes, m, text)
+    let m = log_marks::mark_rows(paper, rules, log);
+    write_marked(paper, log, rules.classes, m, text)
 }
 
-// The same by the built-in table at 244. Every input comes to its text.
+/// The same by the built-in table at 244. Every input comes to its text.
 pub fn write_log(paper: &[u8], log: &mut [u16], text: &mut [u8]) -> LogText
     ensures { Logs
         paper.now
@@ -247,13 +237,11 @@ pub fn write_log(paper: &[u8], log: &mut [u16], text: &mut [u8]) -> LogText
         log.new
         text.new }
 {
-    let classes = opcodes::table();
-    let options = Options::built_in();
-    write_log_rows(paper, &classes, options, log, text)
+    write_log_rows(paper, Rules::built_in(), log, text)
 }
 
-// The same by a lent map and a lent limit, in a mode: 28 and then 29 before all else. Every input comes to its text. The text of 28 and 29
-// has no row, so that no class is read: the built-in table stands for the map.
+/// The same by a lent map and a lent limit, in a mode: 28 and then 29 before all else. Every input comes to its text. The text of
+/// 28 and 29 has no row, so that no class is read: the built-in table stands for the map.
 pub fn write_log_with(
     paper: &[u8],
     map: &[u8],
@@ -271,12 +259,11 @@ pub fn write_log_with(
         log.new
         text.new }
 {
-    let number = maps::judge(map, options.limit);
-    if number != 0 {
-        let m = log_marks::refused(0, number, 0, 0);
-        let classes = opcodes::table();
-        return write_marked(paper, log, &classes, m, text);
+    match maps::rules(map, options) {
+        Ok(rules) => write_log_rows(paper, rules, log, text),
+        Err(refusal) => {
+            let m = log_marks::refused(0, refusal);
+            write_marked(paper, log, Classes::built_in(), m, text)
+        }
     }
-    let classes = maps::rows(map);
-    write_log_rows(paper, classes, options, log, text)
 }

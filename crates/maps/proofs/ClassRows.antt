@@ -1,11 +1,11 @@
 -- The rows of a good map: 256 bytes from its first row on, each a class number.
 use mathlib.Core.Bool.{Bool, true, false}
 use mathlib.Core.Path.{◌≡◌, refl}
-use Prim.Native.Nat.{ℕ, ◌+◌, ◌-◌, ◌≤◌, ◌<◌}
+use Prim.Native.Nat.{ℕ, ◌+◌, ◌-◌, ◌<◌}
 use native.Mathlib.Omega.{arith}
 use borrow.Author.Tests.{ltb-true, ltb-false}
 use lib.Dec.{ltb}
-use lib.ListN.{length, take, drop, get_or, get_or-eq_default}
+use lib.ListN.{take, drop, get_or, get_or-eq_default}
 use Rattle.definition.specs.Basics.{Bytes}
 use Rattle.definition_rules.specs.Maps.{first_row, rows_of, good_map}
 use Rattle.definition_rules.proofs.GoodMaps.{GoodMap, good_map_rows}
@@ -16,9 +16,6 @@ pub rows-lent : (map : Bytes) (at : ℕ) → at ≡ first_row map → take (at +
 rows-lent map at e =
     let n : at + 256 - at ≡ 256 = omega arith in
     rw (n, e)
-
-pub rows-within : (map : Bytes) (at : ℕ) → good_map map ≡ true → at ≡ first_row map → at + 256 ≤ length map
-rows-within map at g e = omega (arith, (good_map_rows map g).within, e)
 
 pub good-rows : (map : Bytes) → good_map map ≡ true → ClassRows (rows_of map)
 good-rows map g = record { size = m.size; below = λ code. by code (ltb code 256) refl }

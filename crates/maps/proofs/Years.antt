@@ -1,18 +1,14 @@
 -- Laws of a year's map in lent bytes.
-use mathlib.Core.List.{List, [], ◌∷◌, ◌++◌}
-use mathlib.Core.Path.{◌≡◌, refl, sym, ap, ap₂, subst, ◌∙◌}
-use Prim.Native.Nat.{ℕ, zero, suc, ◌+◌, ◌≤◌, ◌<◌}
+use mathlib.Core.List.{List, [], ◌∷◌}
+use mathlib.Core.Path.{◌≡◌, refl, sym, ap, ap₂, ◌∙◌}
+use Prim.Native.Nat.{ℕ, suc, ◌+◌, ◌<◌}
 use native.Mathlib.Omega.{arith}
-use borrow.Author.Tests.{ne_eqb, le-leb, lt-leb}
-use lib.ListN.{length, drop, get_or}
+use borrow.Author.Tests.{ne_eqb, le-leb}
+use lib.ListN.{length, get_or}
 use Rattle.definition.specs.Basics.{Bytes}
 use Rattle.definition.specs.Classes.{class_number}
 use Rattle.definition_rules.specs.Maps.{table_from, built_in_map}
 use Rattle.definition_rules.specs.Years.{classic_number, classic_map}
-use Rattle.definition_rules.proofs.BuiltInMap.{built_in_map_size}
-use Rattle.definition_rules.proofs.ClassicYear.{classic_map_size}
-use Rattle.text.specs.View.{Written}
-use Rattle.text.proofs.Texts.{then-written}
 use Rattle.maps.specs.View.{Numbers, year_map, YearRows, map_size, map_put}
 
 -- what is promised of the size and of the lent bytes
@@ -50,27 +46,3 @@ current-rows year rows y b = record { size = b.size; same = rw y (ap headed (all
 pub classic-rows : (year : ℕ) (rows : List ℕ) → year ≡ 1 → Numbers classic_number rows → YearRows year rows
 unfolding year_map classic_map
 classic-rows year rows y b = record { size = b.size; same = rw y (ap headed (all-tabled classic_number rows b)) }
-
--- the map of either year has 260 bytes
-year-size : (year : ℕ) → year < 2 → length (year_map year) ≡ 260
-unfolding year_map
-year-size zero h = built_in_map_size
-year-size (suc zero) h = classic_map_size
-year-size (suc (suc n)) h = absurd (omega (arith, h))
-
-module _ (year : ℕ) (lent : Bytes) (y : year < 2) where
-  -- too few bytes
-  pub no_room : length lent < 260 → Puts year lent 0 lent
-  no_room h =
-      let l = lt-leb (length (year_map year)) (length lent) (omega (arith, h, year-size year y)) in
-      (rw l, rw l)
-
-  -- header and rows, one behind the other
-  pub map-put : 260 ≤ length lent → (rows : List ℕ) → YearRows year rows → {mid new : Bytes} {next last : ℕ}
-      → Written lent 0 (0x00 ∷ 0x01 ∷ 0x04 ∷ 0x00 ∷ []) mid next → Written mid next rows new last → Puts year lent 260 new
-  map-put h rows b {mid} {new} {next} {last} v w =
-      let all : Written lent 0 (year_map year) new last =
-      subst (λ (l : Bytes). Written lent 0 l new last) (sym b.same) (then-written (omega arith) v w) in
-      let l = le-leb (length (year_map year)) (length lent) (omega (arith, h, year-size year y)) in
-      let z : 0 + length (year_map year) ≡ length (year_map year) = omega arith in
-      (rw l (sym (year-size year y)), rw l (all.holds ∙ ap (λ k. year_map year ++ drop k lent) z))

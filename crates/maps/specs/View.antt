@@ -1,7 +1,13 @@
--- What the rows of a map are judged by, and how far they are judged.
-use Rattle.std.specs.Prelude.{Bool, ◌&&◌, List, [], ◌∷◌, ◌++◌, ◌≡◌, ℕ, ◌<◌, leb, eqb, length, drop, get_or}
+-- What a map and what is lent beside it give, and the maps of the years.
+use Rattle.std.specs.Prelude.{List, [], ◌∷◌, ◌++◌, ◌≡◌, ℕ, ◌<◌, leb, eqb, length, drop, get_or, Result, Ok, Err}
 use Rattle.definition.specs.Basics.{Bytes, pick}
-use Rattle.definition_rules.specs.Maps.{good_rows, good_map, good_limit, built_in_map}
+use Rattle.definition.specs.Refusals as D
+use Rattle.definition.specs.Stacks as S
+use Rattle.definition_rules.specs.Maps.{built_in_map}
+use Rattle.refusals.specs.View.{refusal_of}
+use Rattle.refusals.specs.declared.Refusal.{Refusal}
+use Rattle.walk.specs.Runs.{rules_in}
+use Rattle.walk.specs.declared.Rules.{Rules}
 use Rattle.definition_rules.specs.Years.{classic_map}
 
 -- 256 rows by this rule, number by number
@@ -9,13 +15,10 @@ pub record Numbers (rule : ℕ → ℕ) (rows : List ℕ) : Type 0 where
   pub size : length rows ≡ 256
   pub row : (code : ℕ) → code < 256 → get_or rows code 0 ≡ rule code
 
--- the rows before this code are judged: all are good where these are and those from it on
-pub record JudgedUpTo (rows : List ℕ) (code : ℕ) (good : Bool) : Type 0 where
-  pub same : (good && good_rows code (drop code rows)) ≡ good_rows 0 rows
-
--- what is wrong with a map and a limit: 28, else 29, or 0 where both are good
-unfoldable pub judged_number : Bytes → ℕ → ℕ
-judged_number map limit = pick (good_map map) (pick (good_limit limit) 0 29) 28
+-- the rules of a walk, or why there are none
+abbrev pub rules_or_refusal : Result Rules Refusal → Result S.Rules D.Refusal
+rules_or_refusal (Ok r) = Ok (rules_in r)
+rules_or_refusal (Err r) = Err (refusal_of r)
 
 -- the map of a year: 0 has the built-in one, 1 the classic one; no bytes where there is no such year
 unfoldable pub year_map : ℕ → Bytes

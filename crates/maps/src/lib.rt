@@ -1,74 +1,30 @@
-// Lent opcode maps and limits: document 02, request L6; and the maps of the rule years, request L8.
+// Lent opcode maps and limits, and the maps of the rule years.
 
 #![tactic(auto)]
 
-ghost use Rattle.std.specs.Prelude.{true, ◌&&◌, not, ◌≡◌, ◌<◌, leb, eqb, length};
-ghost use Rattle.definition.specs.Classes.{class_number};
-ghost use Rattle.definition_rules.specs.Maps.{first_row, rows_of, good_rows, good_map, good_limit};
-ghost use Rattle.definition_rules.specs.Years.{classic_number};
-ghost use Rattle.opcodes.specs.View.{ClassRows};
-ghost use Rattle.maps.specs.View.{Numbers, JudgedUpTo, judged_number, YearRows, map_size, map_put};
+ghost use Rattle.std.specs.Prelude.{true, false, ◌≡◌, ◌<◌, length, IfSome, IfNone, unwrap_or};
+ghost use Rattle.definition_rules.specs.Maps.{first_row, rows_of, good_rows, good_map, good_limit, judged};
+ghost use Rattle.opcodes.specs.Classes.{rows_of as rows_by};
+ghost use Rattle.walk.specs.Runs.{options_of};
+ghost use Rattle.maps.specs.View.{rules_or_refusal, YearRows, map_size, map_put};
+
+use opcodes::Classes;
+use refusals::Refusal;
+use stack::Limit;
+use walk::{Options, Rules};
 
 mod classic;
 
-// The built-in table, by its class numbers.
-fn numbers() -> [u8; 256]
-    ensures { Numbers class_number result }
-{
-    opcodes::CLASSES
-}
-
-// What is good stays so where a row is that of the built-in table.
-fn early_row_good(good: bool, class: u8, own: u8) -> bool
-    ensures { result ≡ (good && eqb class own) }
-{
-    if class != own {
-        return false;
-    }
-    good
-}
-
-// What is good stays so where a row is a class and not push.
-#[tactic(auto, using(crate::proofs::Judging::later))]
-fn later_row_good(good: bool, class: u8) -> bool
-    ensures { result ≡ (good && (leb class 31 && not (eqb class 1))) }
-{
-    if class == 1 {
-        return false;
-    }
-    if class > 31 {
-        return false;
-    }
-    good
-}
-
-// Whether the rows up to 60 are those of the built-in table. Every row is looked at: one flag is carried through the loop.
-fn early_rows(rows: &[u8]) -> bool
+/// Whether 256 rows are good: those up to 60 are the built-in ones, and each later one is a class other than push.
+fn good_rows(rows: &[u8]) -> bool
     requires { length rows.now ≡ 256 }
-    ensures { JudgedUpTo rows.now 0x61 result }
-{
-    let classes = numbers();
-    let mut good = true;
-    let mut code: usize = 0;
-    while code < 0x61 {
-        good = early_row_good(good, rows[code], classes[code]);
-        code += 1;
-    }
-    good
-}
-
-// Whether the rows are good, where those up to 60 are judged.
-fn later_rows(rows: &[u8], early: bool) -> bool
-    requires { (length rows.now ≡ 256) × (JudgedUpTo rows.now 0x61 early) }
     ensures { result ≡ good_rows 0 rows.now }
 {
-    let mut good = early;
-    let mut code: usize = 0x61;
-    while code < 256 {
-        good = later_row_good(good, rows[code]);
-        code += 1;
-    }
-    good
+    let (early, later) = rows.split_at(0x61);
+    early == &opcodes::CLASSES[..0x61]
+        && later
+            .iter()
+            .all(|&class| class <= 31 && class != opcodes::PUSH)
 }
 
 // Where the rows of a map begin.
@@ -79,93 +35,70 @@ fn first_row(map: &[u8]) -> usize
     header::field(map, 2) as usize
 }
 
-// Whether a map is good: not 28.
-fn good_map(map: &[u8]) -> bool
-    ensures { result ≡ good_map map.now }
+/// The classes by the rows of a map; none where the map is bad.
+fn classes(map: &[u8]) -> Option<Classes<'_>>
+    ensures some { IfSome result (λ c. (good_map map.now ≡ true) × (rows_by c ≡ rows_of map.now)) }
+    ensures none { IfNone result (good_map map.now ≡ false) }
 {
-    let count = header::field(map, 0);
-    if count != 256 {
-        return false;
+    let first = first_row(map);
+    if header::field(map, 0) != 256 || first < 4 || map.len() < first + 256 {
+        return None;
     }
-    let at = first_row(map);
-    if at < 4 {
-        return false;
+    let rows = &map[first..first + 256];
+    if good_rows(rows) {
+        Some(Classes::new(rows))
+    } else {
+        None
     }
-    if map.len() < at + 256 {
-        return false;
-    }
-    let rows = &map[at..at + 256];
-    later_rows(rows, early_rows(rows))
 }
 
-// Whether a limit is good: not 29.
-fn good_limit(limit: u32) -> bool
-    ensures { result ≡ good_limit limit }
+/// A lent limit; none where it is bad.
+fn limit(items: u32) -> Option<Limit>
+    ensures some { IfSome result (λ l. (good_limit items ≡ true) × (l.items ≡ items)) }
+    ensures none { IfNone result (good_limit items ≡ false) }
 {
-    if limit < 1 {
-        return false;
+    if (1..=244).contains(&items) {
+        Some(Limit::new(items))
+    } else {
+        None
     }
-    limit <= 244
 }
 
-// What is wrong with a map and a limit: 28, else 29, or 0 where both are good.
-#[tactic(auto, using(crate::proofs::Judged::judging))]
-pub fn judge(map: &[u8], limit: u32) -> u32
-    ensures { result ≡ judged_number map.now limit }
+/// What a walk goes by under a lent map and what is lent beside it. A bad map is told before a bad limit.
+pub fn rules(map: &[u8], options: Options) -> Result<Rules<'_>, Refusal>
+    ensures { rules_or_refusal result ≡ judged map.now (options_of options) Err Ok }
 {
-    let good = good_map(map);
-    let limited = good_limit(limit);
-    if !good {
-        return 28;
+    Ok(Rules {
+        classes: classes(map).ok_or(Refusal::BadMap)?,
+        limit: limit(options.limit).ok_or(Refusal::BadLimit)?,
+        examined: options.examined,
+    })
+}
+
+/// The rows of a year: 0 is the current one, which is built in, 1 the classic one. There is no other.
+fn year_rows(year: u32) -> Option<&'static [u8; 256]>
+    ensures some { IfSome result (λ rows. YearRows year rows.now) }
+    ensures none { IfNone result (1 < year) }
+{
+    match year {
+        0 => Some(&opcodes::CLASSES),
+        1 => Some(&classic::CLASSIC),
+        _ => None,
     }
-    if !limited {
-        return 29;
-    }
-    0
 }
 
-// The rows of a good map.
-pub fn rows<'a>(map: &'a [u8]) -> &'a [u8]
-    requires { good_map map.now ≡ true }
-    ensures same { result.now ≡ rows_of map.now }
-    ensures good { ClassRows result.now }
-{
-    let at = first_row(map);
-    &map[at..at + 256]
-}
-
-// The table of the classic year, by its class numbers.
-fn classic_numbers() -> [u8; 256]
-    ensures { Numbers classic_number result }
-{
-    classic::CLASSIC
-}
-
-// The rows of a year: 0 is the current one, which is built in, 1 the classic one.
-fn year_rows(year: u32) -> [u8; 256]
-    requires { year < 2 }
-    ensures { YearRows year result }
-{
-    if year == 1 {
-        return classic_numbers();
-    }
-    numbers()
-}
-
-// The map of a year into lent bytes, 0 the built-in one, 1 the classic one: its size, 260; or 0, and nothing is written, where
-// there is no such year or no room.
-pub fn write_map(year: u32, map: &mut [u8]) -> u32
-    ensures size { result ≡ map_size year map.old }
+/// The map of a year into lent bytes, 0 the built-in one, 1 the classic one: its size. None, and nothing is written, where there is
+/// no such year or no room.
+pub fn write_map(year: u32, map: &mut [u8]) -> Option<usize>
+    ensures size { unwrap_or result 0 ≡ map_size year map.old }
+    ensures whole { IfSome result (λ n. n ≡ 260) }
     ensures put { map.new ≡ map_put year map.old }
 {
-    if year > 1 {
-        return 0;
-    }
+    let rows = year_rows(year)?;
     if map.len() < 260 {
-        return 0;
+        return None;
     }
-    let rows = year_rows(year);
-    let next = text::write_word(map, 0, b"\x00\x01\x04\x00");
-    text::write_word(map, next, &rows);
-    260
+    map[..4].copy_from_slice(b"\x00\x01\x04\x00");
+    map[4..260].copy_from_slice(rows);
+    Some(260)
 }

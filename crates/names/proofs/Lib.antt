@@ -1,2 +1,2 @@
 -- The laws behind the functions.
-pub mod Names
+pub mod Tables

@@ -1,19 +1,19 @@
-// The names of the opcodes, and the code of a name (document 02, L4).
+// The names of the opcodes, and the code of a name.
 
 #![tactic(auto)]
 
-ghost use Rattle.std.specs.Prelude.{◌≡◌, ◌≤◌, ◌<◌, T, length, get_or};
-ghost use Rattle.definition_listings.specs.Assembling as Assembling;
-ghost use Rattle.definition_listings.specs.OpcodeNames.{name_table};
+ghost use Rattle.std.specs.Prelude.{◌≡◌, ◌<◌, T, length};
+ghost use Rattle.definition_listings.specs.Assembling.{code_in};
+ghost use Rattle.definition_listings.specs.OpcodeNames.{name_table, name_of};
 ghost use Rattle.names.specs.Tables.{all_letters, starts_right, place_of, codes_right};
-ghost use Rattle.names.specs.View.{name_word};
+ghost use Rattle.names.specs.View.{code_option};
 
 // The names of the codes one after another, in the order of the codes.
-const LETTERS: [u8; 1242] =
+static LETTERS: [u8; 1242] =
     *b"Op0Op1NegateOp1Op2Op3Op4Op5Op6Op7Op8Op9Op10Op11Op12Op13Op14Op15Op16OpNopOpIfOpNotIfOpElseOpEndIfOpVerifyOpReturnOpToAltStackOpFromAltStackOp2DropOp2DupOp3DupOp2OverOp2RotOp2SwapOpDepthOpDropOpDupOpNipOpOverOpPickOpRollOpRotOpSwapOpTuckOpCatOpSubstrOpSizeOpInvertOpAndOpOrOpXorOpEqualOpEqualVerifyOp1AddOp1SubOpNegateOpAbsOpNotOp0NotEqualOpAddOpSubOpMulOpDivOpModOpBoolAndOpBoolOrOpNumEqualOpNumEqualVerifyOpNumNotEqualOpLessThanOpGreaterThanOpLessThanOrEqualOpGreaterThanOrEqualOpMinOpMaxOpWithinOpZkPrecompileOpBlake2bWithKeyOpSHA256OpBlake2bOpCheckSigECDSAOpCheckSigOpCheckSigVerifyOpCheckLockTimeVerifyOpCheckSequenceVerifyOpTxVersionOpTxInputCountOpTxOutputCountOpTxLockTimeOpTxSubnetIdOpTxGasOpTxInputIndexOpTxPayloadLenOpBlake3OpBin2NumOpOutpointTxIdOpOutpointIndexOpTxInputSeqOpTxInputAmountOpTxInputSpkOpTxInputDaaScoreOpTxInputIsCoinbaseOpTxOutputAmountOpTxOutputSpkOpTxInputSpkLenOpTxOutputSpkLenOpTxInputScriptSigLenOpAuthOutputCountOpInputCovenantIdOpCovInputCountOpCovOutputCountOpChainblockSeqCommitOpOutputCovenantIdOpOutputAuthorizingInputOpBlake3WithKeyOpTxPayloadSubstrOpAuthOutputIdxOpNum2BinOpCovInputIdxOpCovOutputIdxOpTxInputScriptSigSubstrOpTxInputSpkSubstrOpTxOutputSpkSubstrOpCheckSigFromStackOpCheckSigFromStackECDSA";
 
 // Where the name of each code begins; it ends where that of the next code begins, at once where the code has none.
-const STARTS: [u16; 257] = [
+static STARTS: [u16; 257] = [
     0, // 00
     3, // 01
     3, // 02
@@ -275,7 +275,7 @@ const STARTS: [u16; 257] = [
 
 // The code of a word, by its place (`place_of`): at the place of each name its code, and 0 elsewhere. A word is a name exactly if
 // the code at its place has that name.
-const CODES: [u8; 512] = [
+static CODES: [u8; 512] = [
     0, 0, 0, 0, 0, 0, 85, // Op5
     0, // Op0
     0, 0, 0, 0, 0, 123, // OpRot
@@ -402,105 +402,65 @@ const CODES: [u8; 512] = [
     0, 157, // OpNumEqualVerify
 ];
 
-// The tables, for those that read and write words one by one.
-pub fn all_letters() -> [u8; 1242]
-    ensures { result ≡ all_letters }
-{
-    LETTERS
-}
-
-pub fn all_starts() -> [u16; 257]
-    ensures { T (starts_right result) }
-{
-    STARTS
-}
-
-pub fn all_codes() -> [u8; 512]
-    ensures { T (codes_right result) }
-{
-    CODES
-}
-
-// A word that is no data, as it is read: outside the form, or the byte of a code.
+/// The names of the opcodes, and the code of each name.
 #[derive(Clone, Copy)]
-pub enum Word {
-    Strange,
-    Code(u8),
+pub struct Names {
+    letters: &'static [u8; 1242],
+    starts: &'static [u16; 257],
+    codes: &'static [u8; 512],
+    ghost letters_right: { letters.now ≡ all_letters },
+    ghost starts_right: { T (starts_right starts.now) },
+    ghost codes_right: { T (codes_right codes.now) },
 }
 
-// Whether two texts are the same.
-fn same(a: &[u8], b: &[u8]) -> bool
-    ensures { result ≡ Assembling.same a.now b.now }
-{
-    if a.len() != b.len() {
-        return false;
-    }
-    let mut j = 0;
-    while j < a.len() {
-        if a[j] != b[j] {
-            return false;
+impl Names {
+    /// The names of all codes.
+    pub fn new() -> Names {
+        Names {
+            letters: &LETTERS,
+            starts: &STARTS,
+            codes: &CODES,
         }
-        j += 1;
     }
-    true
-}
 
-// A byte as a number.
-pub fn wide(x: u8) -> u64
-    ensures same { result ≡ x }
-    ensures byte { result < 256 }
-{
-    x as u64
+    /// The name of a code, nothing where it has none.
+    pub fn name(&self, code: u8) -> &'static [u8]
+        ensures { result.now ≡ name_of code }
+    {
+        let code = usize::from(code);
+        let from = usize::from(self.starts[code]);
+        let to = usize::from(self.starts[code + 1]);
+        let letters = self.letters;
+        &letters[from..to]
+    }
+
+    /// The code of a name: of a word, the code at its place, if the word is that code's name.
+    pub fn code_of(&self, word: &[u8]) -> Option<u8>
+        ensures { result ≡ code_option (code_in name_table word.now) }
+    {
+        if word.is_empty() {
+            return None;
+        }
+        let code = self.codes[place_of(word)];
+        if self.name(code) == word {
+            Some(code)
+        } else {
+            None
+        }
+    }
 }
 
 // The place of a word in the table of codes.
+#[tactic(auto, unfolding(crate::specs::Tables::place_of))]
 fn place_of(word: &[u8]) -> usize
     requires { 0 < length word.now }
     ensures same { result ≡ place_of word.now }
     ensures within { result < 512 }
 {
     let n = word.len();
-    let length = (n % 512) as u64;
-    let last = wide(word[n - 1]);
-    let half = wide(word[n / 2]);
-    let third = wide(word[n / 3]);
-    let two_thirds = wide(word[n * 2 / 3]);
-    ((349 * (length + last) + 231 * half + 259 * third + 470 * two_thirds) % 512) as usize
-}
-
-// A byte as an index.
-pub fn index(x: u8) -> usize
-    ensures same { result ≡ x }
-    ensures byte { result < 256 }
-{
-    x as usize
-}
-
-// Where the name of a code begins, or, of 256, where the last ends.
-pub fn start_of(starts: &[u16], code: usize) -> usize
-    requires { T (starts_right starts.now) × (code ≤ 256) }
-    ensures { result ≡ get_or starts.now code 0 }
-{
-    starts[code] as usize
-}
-
-// A word that begins with neither `<` nor `0x`: the name at its place, or no name.
-pub fn name_read(word: &[u8], letters: &[u8], starts: &[u16], codes: &[u8]) -> Word
-    requires letters_value { letters.now ≡ all_letters }
-    requires t { T (starts_right starts.now) }
-    requires t_2 { T (codes_right codes.now) }
-    ensures { result ≡ name_word (Assembling.code_in name_table word.now) }
-{
-    if word.len() == 0 {
-        return Word::Strange;
-    }
-    let place = place_of(word);
-    let code = codes[place];
-    let at = index(code);
-    let from = start_of(starts, at);
-    let to = start_of(starts, at + 1);
-    if same(&letters[from..to], word) {
-        return Word::Code(code);
-    }
-    Word::Strange
+    let last = usize::from(word[n - 1]);
+    let half = usize::from(word[n / 2]);
+    let third = usize::from(word[n / 3]);
+    let two_thirds = usize::from(word[n * 2 / 3]);
+    (349 * (n % 512 + last) + 231 * half + 259 * third + 470 * two_thirds) % 512
 }

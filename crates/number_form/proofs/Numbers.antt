@@ -1,6 +1,6 @@
 -- The number form: a number as a value, and a value read as an index.
-use mathlib.Core.Bool.{Bool, true, false, ◌||◌, or-true, or-false}
-use mathlib.Core.Path.{◌≡◌, refl, sym, ap, subst⁻¹, ◌∙◌}
+use mathlib.Core.Bool.{Bool, true, false, not, ◌||◌, or-true, or-false}
+use mathlib.Core.Path.{◌≡◌, refl, sym, ap, ◌∙◌}
 use mathlib.Core.List.{[], ◌∷◌}
 use mathlib.Core.Option.{none, some}
 use Prim.Native.Nat.{ℕ, zero, suc, ◌+◌, ◌-◌, ◌*◌, ◌/◌, ◌%◌, ◌^◌, ◌≤◌, ◌<◌}
@@ -12,15 +12,14 @@ use lib.ListN.{length}
 use lib.Pow.{pow_pos, shr-shr, mod-pow-add, shl_exact}
 use Rattle.definition.specs.Basics.{Bytes, pick}
 use Rattle.definition.specs.Decoding.{number, plus, digits, signed, serialize, last, minimal, value, deserialize, index_read}
-use Rattle.definition.specs.Decoding as D
-use Rattle.definition.specs.Stacks.{readable}
-use Rattle.definition.specs.Walk.{known, marking}
+use Rattle.definition.specs.Walk.{known}
 use Rattle.definition.specs.Replay.{AreBytes}
 use Rattle.decode.specs.View.{low_bytes, item_of, value_of, Held}
-use Rattle.number_form.specs.View.{read_of, indexed}
+use Rattle.number_form.specs.View.{indexed}
 use Rattle.decode.specs.declared.Value.TheVariants.{Unknown, Exact}
-use Rattle.number_form.specs.declared.Index.{Index}
-use Rattle.number_form.specs.declared.Index.TheVariants as I
+use Rattle.std.specs.Prelude.{Result, Ok, Err}
+use Rattle.number_form.specs.declared.NoIndex.{NoIndex}
+use Rattle.number_form.specs.declared.NoIndex.TheVariants as I
 use Rattle.decode.proofs.Bytes.{length-low}
 use Rattle.decode.proofs.Values.{held-known, item-of-known}
 
@@ -117,7 +116,7 @@ length-serialize : (k n : ℕ) → Takes k n → length (serialize (plus n)) ≡
 unfolding serialize
 length-serialize k n t = length-signed n k n (omega arith) t
 
-pub value-zero : (n : ℕ) → n ≡ 0 → Exact 0 0 ≡ value_of (known (serialize (plus n)))
+pub value-zero : (n : ℕ) → n ≡ 0 → Exact 0 n ≡ value_of (known (serialize (plus n)))
 unfolding serialize
 value-zero n e = rw e
 
@@ -165,9 +164,6 @@ sign-only b lt h = by (eqb b 0x00) refl
     by true e = refl
     by false e = eq-eqb b 0x80 (omega (arith, eqb-false b 0x00 e))
 
-minimal-one : (n : ℕ) → last (low_bytes 1 n) % 128 ≡ 0 → minimal (low_bytes 1 n) ≡ false
-minimal-one n h = rw (sign-only (n % 256) (omega arith) h)
-
 minimal-more : (k n : ℕ) → last (low_bytes (suc (suc k)) n) % 128 ≡ 0 → minimal (low_bytes (suc (suc k)) n) ≡ leb 0x80 (last (low_bytes (suc k) n))
 minimal-more zero n h = rw (sign-only (n / 256 % 256) (omega arith) h, or-false (leb 0x80 (n % 256)))
 minimal-more (suc k) n h = minimal-more k (n / 256) h
@@ -179,15 +175,11 @@ last_of (suc k) w n h e =
     let q : (w - 1) * 8 ≡ 8 * k = omega arith in
     rw q (sym (last-low k n))
 
-pub minimal-last : (len n b : ℕ) → b ≡ last (low_bytes len n) → (b % 128 ≡ 0 → ⊥) → true ≡ minimal (low_bytes len n)
-minimal-last len n b e h = sym (minimal-good (low_bytes len n) (rw (← e) h))
-
-pub minimal-not-one : (len n b : ℕ) → b ≡ last (low_bytes len n) → b % 128 ≡ 0 → len ≡ 1 → false ≡ minimal (low_bytes len n)
-minimal-not-one len n b e h q =
-    subst⁻¹ (λ (m : ℕ). last (low_bytes m n) % 128 ≡ 0 → false ≡ minimal (low_bytes m n)) q (λ g. sym (minimal-one n g)) (rw e at h)
+pub minimal-last : (len n b : ℕ) → b ≡ last (low_bytes len n) → (b % 128 ≡ 0 → ⊥) → not (eqb (b % 128) 0) ≡ minimal (low_bytes len n)
+minimal-last len n b e h = rw (ne_eqb (b % 128) 0 h) (sym (minimal-good (low_bytes len n) (rw (← e) h)))
 
 module _ (len n b c : ℕ) (e : b ≡ last (low_bytes len n)) (h : b % 128 ≡ 0) (pos : 1 ≤ len) (more : len ≡ 1 → ⊥) (f : c ≡ last (low_bytes (len - 1) n)) where
-  minimal-before : leb 0x80 c ≡ minimal (low_bytes len n)
+  pub minimal-before : leb 0x80 c ≡ minimal (low_bytes len n)
   minimal-before = by len e pos more f
     where
       by : (len : ℕ) → b ≡ last (low_bytes len n) → 1 ≤ len → (len ≡ 1 → ⊥) → c ≡ last (low_bytes (len - 1) n) → leb 0x80 c ≡ minimal (low_bytes len n)
@@ -197,14 +189,8 @@ module _ (len n b c : ℕ) (e : b ≡ last (low_bytes len n)) (h : b % 128 ≡ 0
           let m : suc (suc k) - 1 ≡ suc k = omega arith in
           ap (leb 0x80) (f ∙ ap (λ (j : ℕ). last (low_bytes j n)) m) ∙ sym (minimal-more k n (rw e at h))
 
-  pub minimal-clear : c < 128 → false ≡ minimal (low_bytes len n)
-  minimal-clear g = sym (lt-leb 0x80 c g) ∙ minimal-before
-
-  pub minimal-set : 128 ≤ c → true ≡ minimal (low_bytes len n)
-  minimal-set g = sym (le-leb 0x80 c g) ∙ minimal-before
-
 -- reading, by the tests that lead to each answer
-abbrev Read : ℕ → ℕ → Index
+abbrev Read : ℕ → ℕ → Result ℕ NoIndex
 Read len n = indexed (index_read (deserialize (low_bytes len n)))
 
 deserialize-good : (len n : ℕ) → len ≤ 8 → minimal (low_bytes len n) ≡ true → deserialize (low_bytes len n) ≡ some (value (low_bytes len n))
@@ -219,17 +205,17 @@ deserialize-long : (len n : ℕ) → 8 < len → deserialize (low_bytes len n) �
 unfolding deserialize
 deserialize-long len n h = rw (length-low len n, lt-leb len 8 h)
 
-pub read-zero : (len n : ℕ) → len ≡ 0 → I.At 0 ≡ Read len n
+pub read-zero : (len n : ℕ) → len ≡ 0 → Ok 0 ≡ Read len n
 unfolding deserialize
 read-zero len n e = rw e
 
-pub read-long : (len n : ℕ) → 8 < len → I.NoNumber ≡ Read len n
+pub read-long : (len n : ℕ) → 8 < len → Err I.NoNumber ≡ Read len n
 read-long len n h = rw (deserialize-long len n h)
 
-pub read-not-minimal : (len n : ℕ) → len ≤ 8 → minimal (low_bytes len n) ≡ false → I.NoNumber ≡ Read len n
+pub read-not-minimal : (len n : ℕ) → len ≤ 8 → minimal (low_bytes len n) ≡ false → Err I.NoNumber ≡ Read len n
 read-not-minimal len n h m = rw (deserialize-bad len n h m)
 
-pub read-negative : (len n b : ℕ) → len ≤ 8 → minimal (low_bytes len n) ≡ true → b ≡ last (low_bytes len n) → 128 ≤ b → I.Negative ≡ Read len n
+pub read-negative : (len n b : ℕ) → len ≤ 8 → minimal (low_bytes len n) ≡ true → b ≡ last (low_bytes len n) → 128 ≤ b → Err I.Negative ≡ Read len n
 read-negative len n b h m e g = rw (deserialize-good len n h m, le-ltb (last (low_bytes len n)) 0x80 (omega arith))
 
 pub shift-positive : (e : ℕ) → e < 64 → 0 < (1 * 2 ^ e) % 2 ^ 64
@@ -247,16 +233,6 @@ number-below-sign (suc k) w n pos h q lt =
     rw (a, x, number-low-mod (suc k) n, b, mod-pow-add n 7 (8 * k), mod-pow-add n 8 (8 * k), y)
 
 pub read-index : (len w n b : ℕ) → 1 ≤ len → len ≤ 8 → w ≡ len → minimal (low_bytes len n) ≡ true → b ≡ last (low_bytes len n) → b < 128
-    → I.At (n % ((1 * 2 ^ (w * 8 - 1)) % 2 ^ 64)) ≡ Read len n
+    → Ok (n % ((1 * 2 ^ (w * 8 - 1)) % 2 ^ 64)) ≡ Read len n
 read-index len w n b pos h q m e g =
     rw (deserialize-good len n h m, lt-ltb (last (low_bytes len n)) 0x80 (omega arith), number-below-sign len w n pos h q (omega arith))
-
--- the answer for an index, and what follows it
-pub answer-reads : (x : D.Index) (i : Index) → i ≡ indexed x → (read_of i ≡ readable marking x) × (i ≡ indexed x)
-answer-reads x i e = (ap read_of e ∙ by x, e)
-  where
-    by : (x : D.Index) → read_of (indexed x) ≡ readable marking x
-    by D.not_known = refl
-    by D.no_number = refl
-    by D.negative = refl
-    by (D.index n) = refl

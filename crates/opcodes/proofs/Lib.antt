@@ -1,4 +1,4 @@
 -- The laws behind the two functions, and what is proved of the class numbers.
 pub mod Every
 pub mod Match
-pub mod Classes
+pub mod Numbering

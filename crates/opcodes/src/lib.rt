@@ -1,114 +1,149 @@
-// The class of each opcode: document 01, section 2.
+// The class of each opcode.
 
 #![tactic(auto)]
 
 ghost use Rattle.std.specs.Prelude.{◌≡◌, get_or};
 ghost use Rattle.definition.specs.Classes.{class_number};
 ghost use Rattle.opcodes.specs.View.{ClassRows, BuiltInRows};
+ghost use Rattle.opcodes.specs.Class.{number_of};
 
-// The class numbers: unmodelled, push, nothing, then the classes of one opcode each.
-pub const UNMODELLED: u8 = 0;
+/// The class of an opcode: what it does to the stacks, or to the walk. Its number is its place in this list.
+#[repr(u8)]
+#[derive(Clone, Copy, Debug, PartialEq, Eq)]
+pub enum Class {
+    Unmodelled,
+    Push,
+    Nothing,
+    If,
+    NotIf,
+    Else,
+    EndIf,
+    Return,
+    ToAlt,
+    FromAlt,
+    Depth,
+    Size,
+    Nip,
+    Tuck,
+    Pick,
+    Roll,
+    Zk,
+    // Copies, (depth, count): (1, 1), (2, 2), (3, 3), (2, 1), (4, 2).
+    Dup,
+    TwoDup,
+    ThreeDup,
+    Over,
+    TwoOver,
+    // Left rotations, (count, shift): (3, 1), (6, 2), (2, 1), (4, 2).
+    Rot,
+    TwoRot,
+    Swap,
+    TwoSwap,
+    // The plain classes, by the items that they pop and push.
+    Effect10,
+    Effect20,
+    Effect01,
+    Effect11,
+    Effect31,
+    Effect21,
+}
 
-pub const PUSH: u8 = 1;
+/// A number above 31, which is no class.
+#[derive(Clone, Copy, Debug, PartialEq, Eq)]
+pub struct NoClass(pub u8);
 
-pub const NOTHING: u8 = 2;
+impl TryFrom<u8> for Class {
+    ghost use Rattle.opcodes.specs.Class.{Numbers};
 
-pub const IF: u8 = 3;
+    type Error = NoClass;
 
-pub const NOTIF: u8 = 4;
+    ghost try_from_gives = { Numbers };
 
-pub const ELSE: u8 = 5;
+    fn try_from(number: u8) -> Result<Class, NoClass> {
+        Ok(match number {
+            0 => Class::Unmodelled,
+            1 => Class::Push,
+            2 => Class::Nothing,
+            3 => Class::If,
+            4 => Class::NotIf,
+            5 => Class::Else,
+            6 => Class::EndIf,
+            7 => Class::Return,
+            8 => Class::ToAlt,
+            9 => Class::FromAlt,
+            10 => Class::Depth,
+            11 => Class::Size,
+            12 => Class::Nip,
+            13 => Class::Tuck,
+            14 => Class::Pick,
+            15 => Class::Roll,
+            16 => Class::Zk,
+            17 => Class::Dup,
+            18 => Class::TwoDup,
+            19 => Class::ThreeDup,
+            20 => Class::Over,
+            21 => Class::TwoOver,
+            22 => Class::Rot,
+            23 => Class::TwoRot,
+            24 => Class::Swap,
+            25 => Class::TwoSwap,
+            26 => Class::Effect10,
+            27 => Class::Effect20,
+            28 => Class::Effect01,
+            29 => Class::Effect11,
+            30 => Class::Effect31,
+            31 => Class::Effect21,
+            _ => return Err(NoClass(number)),
+        })
+    }
+}
 
-pub const ENDIF: u8 = 6;
+impl From<Class> for u8 {
+    ghost use Rattle.opcodes.specs.Class.{number_of};
 
-pub const RETURN: u8 = 7;
+    ghost from_gives = { λ class number. number ≡ number_of class };
 
-pub const TO_ALT: u8 = 8;
+    fn from(class: Class) -> u8 {
+        class as u8
+    }
+}
 
-pub const FROM_ALT: u8 = 9;
-
-pub const DEPTH: u8 = 10;
-
-pub const SIZE: u8 = 11;
-
-pub const NIP: u8 = 12;
-
-pub const TUCK: u8 = 13;
-
-pub const PICK: u8 = 14;
-
-pub const ROLL: u8 = 15;
-
-pub const ZK: u8 = 16;
-
-// Copies, (depth, count): (1, 1), (2, 2), (3, 3), (2, 1), (4, 2).
-pub const DUP: u8 = 17;
-
-pub const TWO_DUP: u8 = 18;
-
-pub const THREE_DUP: u8 = 19;
-
-pub const OVER: u8 = 20;
-
-pub const TWO_OVER: u8 = 21;
-
-// Left rotations, (count, shift): (3, 1), (6, 2), (2, 1), (4, 2).
-pub const ROT: u8 = 22;
-
-pub const TWO_ROT: u8 = 23;
-
-pub const SWAP: u8 = 24;
-
-pub const TWO_SWAP: u8 = 25;
-
-// The plain classes, by the items that they pop and push.
-pub const EFFECT_1_0: u8 = 26;
-
-pub const EFFECT_2_0: u8 = 27;
-
-pub const EFFECT_0_1: u8 = 28;
-
-pub const EFFECT_1_1: u8 = 29;
-
-pub const EFFECT_3_1: u8 = 30;
-
-pub const EFFECT_2_1: u8 = 31;
-
-// The class of an opcode, by the ranges of section 2 in their order.
-pub fn class_of(opcode: u8) -> u8
-    ensures { result ≡ class_number opcode }
+/// The class of an opcode, by its range.
+#[tactic(auto, unfolding(definition::specs::Classes::class_number))]
+pub fn class_of(opcode: u8) -> Class
+    ensures { number_of result ≡ class_number opcode }
 {
     match opcode {
-        0x00..=0x4f | 0x51..=0x60 => PUSH,
-        0x61 => NOTHING,
-        0x63 => IF,
-        0x64 => NOTIF,
-        0x67 => ELSE,
-        0x68 => ENDIF,
-        0x6a => RETURN,
-        0x6b => TO_ALT,
-        0x6c => FROM_ALT,
-        0x74 => DEPTH,
-        0x82 => SIZE,
-        0x77 => NIP,
-        0x7d => TUCK,
-        0x79 => PICK,
-        0x7a => ROLL,
-        0xa6 => ZK,
-        0x76 => DUP,
-        0x6e => TWO_DUP,
-        0x6f => THREE_DUP,
-        0x78 => OVER,
-        0x70 => TWO_OVER,
-        0x7b => ROT,
-        0x71 => TWO_ROT,
-        0x7c => SWAP,
-        0x72 => TWO_SWAP,
-        0x69 | 0x75 | 0xb0 | 0xb1 => EFFECT_1_0,
-        0x6d | 0x88 | 0x9d | 0xad => EFFECT_2_0,
-        0xb2..=0xb9 => EFFECT_0_1,
-        0x83 | 0x8b | 0x8c | 0x8f..=0x92 | 0xa8 | 0xaa | 0xba..=0xce => EFFECT_1_1,
-        0x7f | 0xa5 | 0xd5..=0xd9 => EFFECT_3_1,
+        0x00..=0x4f | 0x51..=0x60 => Class::Push,
+        0x61 => Class::Nothing,
+        0x63 => Class::If,
+        0x64 => Class::NotIf,
+        0x67 => Class::Else,
+        0x68 => Class::EndIf,
+        0x6a => Class::Return,
+        0x6b => Class::ToAlt,
+        0x6c => Class::FromAlt,
+        0x74 => Class::Depth,
+        0x82 => Class::Size,
+        0x77 => Class::Nip,
+        0x7d => Class::Tuck,
+        0x79 => Class::Pick,
+        0x7a => Class::Roll,
+        0xa6 => Class::Zk,
+        0x76 => Class::Dup,
+        0x6e => Class::TwoDup,
+        0x6f => Class::ThreeDup,
+        0x78 => Class::Over,
+        0x70 => Class::TwoOver,
+        0x7b => Class::Rot,
+        0x71 => Class::TwoRot,
+        0x7c => Class::Swap,
+        0x72 => Class::TwoSwap,
+        0x69 | 0x75 | 0xb0 | 0xb1 => Class::Effect10,
+        0x6d | 0x88 | 0x9d | 0xad => Class::Effect20,
+        0xb2..=0xb9 => Class::Effect01,
+        0x83 | 0x8b | 0x8c | 0x8f..=0x92 | 0xa8 | 0xaa | 0xba..=0xce => Class::Effect11,
+        0x7f | 0xa5 | 0xd5..=0xd9 => Class::Effect31,
         0x7e
         | 0x84..=0x87
         | 0x93..=0x97
@@ -117,10 +152,75 @@ pub fn class_of(opcode: u8) -> u8
         | 0xa7
         | 0xab
         | 0xac
-        | 0xcf..=0xd4 => EFFECT_2_1,
-        _ => UNMODELLED,
+        | 0xcf..=0xd4 => Class::Effect21,
+        _ => Class::Unmodelled,
     }
 }
+
+// The class numbers, as the tables name them.
+pub const UNMODELLED: u8 = Class::Unmodelled as u8;
+
+pub const PUSH: u8 = Class::Push as u8;
+
+pub const NOTHING: u8 = Class::Nothing as u8;
+
+pub const IF: u8 = Class::If as u8;
+
+pub const NOTIF: u8 = Class::NotIf as u8;
+
+pub const ELSE: u8 = Class::Else as u8;
+
+pub const ENDIF: u8 = Class::EndIf as u8;
+
+pub const RETURN: u8 = Class::Return as u8;
+
+pub const TO_ALT: u8 = Class::ToAlt as u8;
+
+pub const FROM_ALT: u8 = Class::FromAlt as u8;
+
+pub const DEPTH: u8 = Class::Depth as u8;
+
+pub const SIZE: u8 = Class::Size as u8;
+
+pub const NIP: u8 = Class::Nip as u8;
+
+pub const TUCK: u8 = Class::Tuck as u8;
+
+pub const PICK: u8 = Class::Pick as u8;
+
+pub const ROLL: u8 = Class::Roll as u8;
+
+pub const ZK: u8 = Class::Zk as u8;
+
+pub const DUP: u8 = Class::Dup as u8;
+
+pub const TWO_DUP: u8 = Class::TwoDup as u8;
+
+pub const THREE_DUP: u8 = Class::ThreeDup as u8;
+
+pub const OVER: u8 = Class::Over as u8;
+
+pub const TWO_OVER: u8 = Class::TwoOver as u8;
+
+pub const ROT: u8 = Class::Rot as u8;
+
+pub const TWO_ROT: u8 = Class::TwoRot as u8;
+
+pub const SWAP: u8 = Class::Swap as u8;
+
+pub const TWO_SWAP: u8 = Class::TwoSwap as u8;
+
+pub const EFFECT_1_0: u8 = Class::Effect10 as u8;
+
+pub const EFFECT_2_0: u8 = Class::Effect20 as u8;
+
+pub const EFFECT_0_1: u8 = Class::Effect01 as u8;
+
+pub const EFFECT_1_1: u8 = Class::Effect11 as u8;
+
+pub const EFFECT_3_1: u8 = Class::Effect31 as u8;
+
+pub const EFFECT_2_1: u8 = Class::Effect21 as u8;
 
 // The class of each opcode as a table, each entry beside its code.
 pub const CLASSES: [u8; 256] = [
@@ -382,24 +482,43 @@ pub const CLASSES: [u8; 256] = [
     UNMODELLED, // ff
 ];
 
-// The class of an opcode, out of the table.
-pub fn class_at(opcode: u8) -> u8
-    ensures { result ≡ class_number opcode }
-{
-    CLASSES[opcode as usize]
+/// The class of each opcode, by 256 lent rows of class numbers.
+#[derive(Clone, Copy)]
+pub struct Classes<'a> {
+    rows: &'a [u8],
+    pub ghost good: { ClassRows rows.now },
 }
 
-// The table, to be lent: its rows are the rules of section 2.
-pub fn table() -> [u8; 256]
-    ensures { BuiltInRows result }
-{
-    CLASSES
+impl<'a> Classes<'a> {
+    ghost use Rattle.opcodes.specs.Class.{number_of};
+    ghost use Rattle.opcodes.specs.Classes.{rows_of};
+
+    /// By these rows, each of which is a class number.
+    pub fn new(rows: &'a [u8]) -> Classes<'a>
+        requires { ClassRows rows.now }
+        ensures { rows_of result ≡ rows.now }
+    {
+        Classes { rows }
+    }
+
+    /// The built-in classes.
+    pub fn built_in() -> Classes<'static>
+        ensures { BuiltInRows (rows_of result) }
+    {
+        Classes { rows: &CLASSES }
+    }
+
+    /// The class of an opcode.
+    pub fn of(self, opcode: u8) -> Class
+        ensures { number_of result ≡ get_or (rows_of self.entry) opcode 0 }
+    {
+        Class::try_from(self.rows[opcode as usize]).unwrap()
+    }
 }
 
-// The class of an opcode, out of lent rows.
-pub fn class_in(rows: &[u8], opcode: u8) -> u8
-    requires { ClassRows rows.now }
-    ensures { result ≡ get_or rows.now opcode 0 }
+/// The class of an opcode, out of the table.
+pub fn class_at(opcode: u8) -> Class
+    ensures { number_of result ≡ class_number opcode }
 {
-    rows[opcode as usize]
+    Classes::built_in().of(opcode)
 }

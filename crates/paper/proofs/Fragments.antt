@@ -11,15 +11,13 @@ use lib.ListN.{length, take, drop, length-drop, drop_of_length-le}
 use lib.Seq.{take_all}
 use Rattle.definition.specs.Basics.{Bytes}
 use Rattle.definition.specs.Decoding.{Instruction, decode, instructions, malformed_at}
-use Rattle.definition.specs.Papers.{Fragment, field, part_at, bytes_of, entries, most_parameters, fragments}
+use Rattle.definition.specs.Papers.{Fragment, fragments}
 use Rattle.definition.specs.Stacks.{Rules, Stacks}
 use Rattle.definition.specs.Walk.{Item, Move, moves, refuses, effect, Frame, State, met, onward, follow, at_end, walk, answered, begin, unknowns, tested, Marked, analysis_of, analysis}
 use Rattle.stack_analysis.specs.View.{summarized}
 use Rattle.stack_analysis.specs.declared.Summary.{Summary}
 use Rattle.header.specs.View.{fragment_at}
-use Rattle.header.proofs.Fragments.{body_at, state, fragment-body, fragment-state}
 use Rattle.paper.specs.View.{fragment_analysis, fragment_marked}
-use Rattle.paper.specs.Parts.{Marks}
 
 -- The rows that an analysis writes
 
@@ -87,24 +85,29 @@ module _ (log : List ℕ) (from : ℕ) where
   none_after : (rest : List ℕ) → rest ++ drop (length log - from) (drop from log) ≡ rest
   none_after rest = ap (λ l. rest ++ l) (drop_of_length-le (drop from log) {i = length log - from} (omega (arith, length-drop from log))) ∙ append-nil rest
 
+-- the answer r and the new log are those of the analysis m of what the log has from a number on, and its rows have room
+pub record Marks (m : Marked) (from : ℕ) (log : List ℕ) (r : Summary) (new : List ℕ) : Type 0 where
+  pub same : r ≡ summarized m.verdict
+  pub logged : new ≡ take from log ++ m.log
+  pub room : from + 3 * r.rows ≤ length log
+
 -- the analysis of s from there on
 module _ (R : Rules) (s : Bytes) (main alt from : ℕ) (log : List ℕ) where
   abbrev analysed : List ℕ → Marked
   analysed l = analysis R s main alt l
 
-  pub marks-part : (t : Bytes) (rest : List ℕ) (r : Summary) → s ≡ t → from ≤ length log
+  marks-part : (rest : List ℕ) (r : Summary) → from ≤ length log
       → r ≡ summarized (analysed (take (length log - from) (drop from log))).verdict → rest ≡ (analysed (take (length log - from) (drop from log))).log
-      → Marks (analysis R t main alt (drop from log)) from log r (take from log ++ (rest ++ drop (length log - from) (drop from log)))
+      → Marks (analysed (drop from log)) from log r (take from log ++ (rest ++ drop (length log - from) (drop from log)))
   unfolding summarized
-  marks-part t rest r q h e f =
+  marks-part rest r h e f =
       let e' : r ≡ summarized (analysed (drop from log)).verdict = e ∙ ap (λ l. summarized (analysed l).verdict) (all_left log from) in
       let f' : rest ≡ (analysed (drop from log)).log = f ∙ ap (λ l. (analysed l).log) (all_left log from) in
-      subst (λ (u : Bytes). Marks (analysis R u main alt (drop from log)) from log r (take from log ++ (rest ++ drop (length log - from) (drop from log)))) q
-      (record {
+      record {
         same = e';
         logged = ap (λ l. take from log ++ l) (none_after log from rest ∙ f');
         room = omega (arith, ap (λ (v : Summary). v.rows) e', rows-analysis R s main alt (drop from log), length-drop from log);
-      })
+      }
 
 -- What is promised of a fragment
 
@@ -149,14 +152,10 @@ module _ (R : Rules) (p : Bytes) (k rows : ℕ) (log : List ℕ) where
               room = λ h. omega (arith, m.room, start);
             }
 
-        pub marks-body : (n parameters fields : ℕ) → n ≡ field p 0 → k < n → parameters ≡ field p (8 + 6 * k) → fields ≡ field p 2
-            → Marks (analysis R (bytes_of p (part_at p (8 + 6 * k + 2))) (parameters + fields) 0 (drop from log)) from log r new → FragmentMarks R p k rows log r new
-        marks-body n parameters fields e h f g m =
-            in-log (body_at p (8 + 6 * k)) (fragment-body p k (omega (arith, e, h)))
-            (subst (λ (main : ℕ). Marks (analysis R (bytes_of p (part_at p (8 + 6 * k + 2))) main 0 (drop from log)) from log r new) (rw (f, g)) m)
-
-        pub marks-state : (n most : ℕ) → n ≡ field p 0 → n ≤ k → most ≡ most_parameters (entries p)
-            → Marks (analysis R (bytes_of p (part_at p 4)) most 1 (drop from log)) from log r new → FragmentMarks R p k rows log r new
-        marks-state n most e h f m =
-            in-log (state p) (fragment-state p k (omega (arith, e, h)) there)
-            (subst (λ (main : ℕ). Marks (analysis R (bytes_of p (part_at p 4)) main 1 (drop from log)) from log r new) f m)
+    -- the analysis of fragment k, on the log from where its rows start
+    pub marks-fragment : (f : Fragment) → f ≡ fragment_at p k → (from : ℕ) → from ≡ min (3 * rows) (length log) → (r : Summary) (rest : List ℕ)
+        → r ≡ summarized (analysis R f.bytes f.main f.alt (take (length log - from) (drop from log))).verdict
+        → rest ≡ (analysis R f.bytes f.main f.alt (take (length log - from) (drop from log))).log
+        → FragmentMarks R p k rows log r (take from log ++ (rest ++ drop (length log - from) (drop from log)))
+    marks-fragment f e from start r rest g h =
+        in-log r _ from start f (sym e) (marks-part R f.bytes f.main f.alt from log rest r (omega (arith, start)) g h)

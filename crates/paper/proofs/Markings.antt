@@ -10,17 +10,17 @@ use lib.Seq.{drop-cons}
 use Rattle.definition.specs.Basics.{Bytes}
 use Rattle.definition.specs.Papers.{Fragment, fragments, entries, good_header, PaperMarked, after, mark_from, dispatch, mark_paper, EachTrue}
 use Rattle.definition.specs.Papers as P
-use Rattle.definition.specs.Refusals.{answer}
+use Rattle.definition.specs.Refusals.{Refusal, answer, bad_header, long_paper, dispatch_too_large}
 use Rattle.definition.specs.Stacks.{Rules}
-use Rattle.definition.specs.Walk.{Marked, dead, analysis}
+use Rattle.definition.specs.Walk.{Marked, dead, analysis, refused_verdict}
 use Rattle.definition.proofs.TrueOfPaper.{true_of_paper_by}
 use Rattle.stack_analysis.specs.View.{summarized}
 use Rattle.stack_analysis.specs.declared.Summary.{Summary}
 use Rattle.header.specs.View.{dispatched, fragment_at}
-use Rattle.header.specs.declared.Dispatch.{Dispatch}
-use Rattle.header.specs.declared.Dispatch.TheVariants.{Fits, Over}
+use Rattle.header.specs.declared.DispatchError.{DispatchError}
+use Rattle.std.specs.Prelude.{Result, Ok, Err}
 use Rattle.paper.specs.View.{fragment_analysis, paper_of}
-use Rattle.paper.specs.Parts.{Marks}
+use Rattle.paper.proofs.Fragments.{Marks}
 use Rattle.paper.specs.declared.PaperVerdict.{PaperVerdict}
 
 -- The fragments one after another
@@ -149,37 +149,39 @@ module _ (R : Rules) (p : Bytes) (lent : List ℕ) where
 
 -- The whole paper
 
--- number, first and second figure of a refusal of the paper itself
-abbrev pub refused_with : ℕ → ℕ → ℕ → ℕ → P.PaperVerdict
-refused_with entry number first second = record { entry = entry; verdict = record { answer = answer number 0 first second; rows = 0; peak = 0; end = dead } }
+-- a refusal of the paper itself
+abbrev pub refused_as : ℕ → Refusal → P.PaperVerdict
+refused_as entry x = record { entry = entry; verdict = refused_verdict 0 x 0 }
 
 module _ (R : Rules) (p : Bytes) (log : List ℕ) where
-  pub paper-long : 8000 < length p → (r : PaperVerdict) → paper_of r ≡ refused_with 0 21 (length p) 8000 → Answers r log (mark_paper R p log)
+  pub paper-long : 8000 < length p → (r : PaperVerdict) → paper_of r ≡ refused_as 0 (long_paper (length p)) → Answers r log (mark_paper R p log)
   unfolding mark_paper
   paper-long h r e = record { same = rw (lt-ltb 8000 (length p) h) e; logged = rw (lt-ltb 8000 (length p) h) }
 
   module _ (short : length p ≤ 8000) (t : Bool) (g : t ≡ good_header p) where
-    pub paper-bad : not t ≡ true → (r : PaperVerdict) → paper_of r ≡ refused_with 0 19 0 0 → Answers r log (mark_paper R p log)
+    pub paper-bad : not t ≡ true → (r : PaperVerdict) → paper_of r ≡ refused_as 0 bad_header → Answers r log (mark_paper R p log)
     unfolding mark_paper
     paper-bad h r e = record {
       same = rw (le-ltb 8000 (length p) short, ← g, not-true t h) e;
       logged = rw (le-ltb 8000 (length p) short, ← g, not-true t h);
     }
 
-    module _ (h : not t ≡ false) (d : Dispatch) (f : (Q : Rules) (l : List ℕ) → Q.limit ≡ R.limit → dispatch Q p 0 (entries p) l ≡ dispatched Q p d l) where
+    module _ (h : not t ≡ false) (limit : ℕ) (q : limit ≡ R.limit) (d : Result (Unit {0}) DispatchError)
+        (f : (Q : Rules) (l : List ℕ) → Q.limit ≡ limit → dispatch Q p 0 (entries p) l ≡ dispatched Q p d l) where
       checked : mark_paper R p log ≡ dispatched R p d log
       unfolding mark_paper
-      checked = rw (le-ltb 8000 (length p) short, ← g, not-false t h) (f R log refl)
+      checked = rw (le-ltb 8000 (length p) short, ← g, not-false t h) (f R log (sym q))
 
-      pub paper-over : (entry sum : ℕ) → d ≡ Over entry sum → (r : PaperVerdict) → paper_of r ≡ refused_with entry 20 sum R.limit → Answers r log (mark_paper R p log)
-      paper-over entry sum q r e =
-          let c : mark_paper R p log ≡ dispatched R p (Over entry sum) log = checked ∙ ap (λ (x : Dispatch). dispatched R p x log) q in
-          record { same = e ∙ sym (ap (λ (x : PaperMarked). x.paper) c); logged = sym (ap (λ (x : PaperMarked). x.log) c) }
+      pub paper-over : (x : DispatchError) → d ≡ Err x → (r : PaperVerdict) → paper_of r ≡ refused_as x.entry (dispatch_too_large x.sum limit)
+          → Answers r log (mark_paper R p log)
+      paper-over x g r e =
+          let c : mark_paper R p log ≡ dispatched R p (Err x) log = checked ∙ ap (λ (y : Result (Unit {0}) DispatchError). dispatched R p y log) g in
+          record { same = e ∙ ap (λ n. refused_as x.entry (dispatch_too_large x.sum n)) q ∙ sym (ap (λ (x : PaperMarked). x.paper) c); logged = sym (ap (λ (x : PaperMarked). x.log) c) }
 
-      pub paper-marked : d ≡ Fits → (r : PaperVerdict) (new : List ℕ)
+      pub paper-marked : d ≡ Ok tt → (r : PaperVerdict) (new : List ℕ)
           → paper_of r ≡ (mark_from R 0 0 0 (fragments p) log).paper → new ≡ (mark_from R 0 0 0 (fragments p) log).log → Answers r new (mark_paper R p log)
-      paper-marked q r new e l =
-          let c : mark_paper R p log ≡ dispatched R p Fits log = checked ∙ ap (λ (x : Dispatch). dispatched R p x log) q in
+      paper-marked g r new e l =
+          let c : mark_paper R p log ≡ dispatched R p (Ok tt) log = checked ∙ ap (λ (y : Result (Unit {0}) DispatchError). dispatched R p y log) g in
           record { same = e ∙ sym (ap (λ (x : PaperMarked). x.paper) c); logged = l ∙ sym (ap (λ (x : PaperMarked). x.log) c) }
 
 -- what acceptance means

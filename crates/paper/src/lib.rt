@@ -1,26 +1,24 @@
-// Marking a paper: document 01, section 6.
+// Marking a paper.
 
 #![tactic(auto)]
 
-ghost use Rattle.std.specs.Prelude.{◌≡◌, ◌+◌, ◌*◌, ◌≤◌, min, length, drop};
-ghost use Rattle.definition.specs.Papers.{part_at, bytes_of, fragments, mark_from, mark_paper, EachTrue};
-ghost use Rattle.definition_rules.specs.Maps.{rules_by, rules_of, mark_paper_with};
+ghost use Rattle.std.specs.Prelude.{◌≡◌, ◌+◌, ◌*◌, ◌≤◌, min, length};
+ghost use Rattle.definition.specs.Papers.{fragments, mark_from, mark_paper, EachTrue};
+ghost use Rattle.definition_rules.specs.Maps.{rules_of, mark_paper_with};
 ghost use Rattle.definition.specs.Stacks.{built_in};
-ghost use Rattle.definition.specs.Refusals.{answer};
-ghost use Rattle.definition.specs.Walk.{analysis, dead};
-ghost use Rattle.opcodes.specs.View.{ClassRows};
-ghost use Rattle.walk.specs.Runs.{options_of};
+ghost use Rattle.definition.specs.Walk.{refused_verdict};
+ghost use Rattle.refusals.specs.View.{refusal_of};
+ghost use Rattle.walk.specs.Runs.{options_of, rules_in};
 ghost use Rattle.stack_analysis.specs.View.{summarized};
 ghost use Rattle.paper.specs.View.{fragment_marked, paper_of};
-ghost use Rattle.paper.specs.Parts.{Marks};
 
-use header::Dispatch;
+use refusals::Refusal;
 use stack_analysis::Summary;
-use walk::Options;
+use walk::{Options, Rules};
 
-// The verdict on a paper: the entry that it is about (E for the initialiser), number, offset and two figures, the rows
-// written, the peak. A paper has no end stacks.
-#[derive(Clone, Copy)]
+/// The verdict on a paper: the entry that it is about (E for the initialiser), number, offset and two figures, the rows
+/// written, the peak. A paper has no end stacks.
+#[derive(Clone, Copy, Debug, PartialEq, Eq)]
 pub struct PaperVerdict {
     pub entry: usize,
     pub number: u32,
@@ -35,60 +33,24 @@ pub struct PaperVerdict {
 fn rows_start(rows: usize, lent: usize) -> usize
     ensures { result ≡ min (3 * rows) lent }
 {
-    if rows > lent / 3 {
-        return lent;
-    }
-    3 * rows
+    rows.saturating_mul(3).min(lent)
 }
 
-// The part whose offset and length stand at `at`, analysed from these heights; its rows are written from number `from` of
-// the log on, and 4 weighs it against what the log has left there.
-fn mark_part(
-    paper: &[u8],
-    at: usize,
-    main: u32,
-    alt: u32,
-    classes: &[u8],
-    options: Options,
-    from: usize,
-    log: &mut [u16],
-) -> Summary
-    requires from_in_bounds { from ≤ length log.old }
-    requires class_rows { (ClassRows classes.now) × (options.limit ≤ 244) }
-    ensures { Marks
-        (analysis
-        (rules_by classes.now (options_of options))
-        (bytes_of paper.now (part_at paper.now at))
-        main
-        alt
-        (drop from log.old))
-        from
-        log.old
-        result
-        log.new }
-{
-    let fragment = header::part(paper, at);
-    stack_analysis::analyze_heights_rows(fragment, main, alt, classes, options, &mut log[from..])
-}
-
-// The verdict of fragment k, the bodies in order and then the initialiser; its rows are written behind `rows` others. 19
-// where the paper has no fragment k. The classes are those of lent rows.
+/// The verdict of fragment k, the bodies in order and then the initialiser; its rows are written behind `rows` others. 19
+/// where the paper has no fragment k.
 pub fn mark_fragment_rows(
     paper: &[u8],
     k: usize,
     rows: usize,
-    classes: &[u8],
-    options: Options,
+    rules: Rules,
     log: &mut [u16],
 ) -> Summary
-    requires { (ClassRows classes.now) × (options.limit ≤ 244) }
-    ensures same { result
-        ≡ summarized (fragment_marked (rules_by classes.now (options_of options)) paper.now k rows log.old).verdict }
-    ensures logged { log.new ≡ (fragment_marked (rules_by classes.now (options_of options)) paper.now k rows log.old).log }
+    ensures same { result ≡ summarized (fragment_marked (rules_in rules.entry) paper.now k rows log.old).verdict }
+    ensures logged { log.new ≡ (fragment_marked (rules_in rules.entry) paper.now k rows log.old).log }
     ensures room { 3 * rows ≤ length log.old
         → 3 * (rows + result.rows) ≤ length log.old }
 {
-    if k >= header::fragment_count(paper) {
+    let Some(fragment) = fragments::nth_fragment(paper, k) else {
         return Summary {
             number: 19,
             offset: 0,
@@ -100,27 +62,19 @@ pub fn mark_fragment_rows(
             main: 0,
             alt: 0,
         };
-    }
+    };
     let from = rows_start(rows, log.len());
-    let count = header::field(paper, 0) as usize;
-    if k < count {
-        let main = header::field(paper, 8 + 6 * k) + header::field(paper, 2);
-        return mark_part(paper, 8 + 6 * k + 2, main, 0, classes, options, from, log);
-    }
-    mark_part(
-        paper,
-        4,
-        header::most_parameters(paper),
-        1,
-        classes,
-        options,
-        from,
-        log,
+    stack_analysis::analyze_heights_rows(
+        fragment.bytes,
+        fragment.main,
+        fragment.alt,
+        rules,
+        &mut log[from..],
     )
 }
 
-// The verdict of fragment k, the bodies in order and then the initialiser; its rows are written behind `rows` others. 19
-// where the paper has no fragment k. By the built-in table at 244; every input comes to a verdict.
+/// The verdict of fragment k, the bodies in order and then the initialiser; its rows are written behind `rows` others. 19
+/// where the paper has no fragment k. By the built-in table at 244; every input comes to a verdict.
 pub fn mark_fragment(paper: &[u8], k: usize, rows: usize, log: &mut [u16]) -> Summary
     ensures same { result
         ≡ summarized (fragment_marked built_in paper.now k rows log.old).verdict }
@@ -128,25 +82,18 @@ pub fn mark_fragment(paper: &[u8], k: usize, rows: usize, log: &mut [u16]) -> Su
     ensures room { 3 * rows ≤ length log.old
         → 3 * (rows + result.rows) ≤ length log.old }
 {
-    let classes = opcodes::table();
-    let options = Options::built_in();
-    mark_fragment_rows(paper, k, rows, &classes, options, log)
+    mark_fragment_rows(paper, k, rows, Rules::built_in(), log)
 }
 
 // All fragments, their rows one after another in the log.
-fn mark_fragments(paper: &[u8], classes: &[u8], options: Options, log: &mut [u16]) -> PaperVerdict
-    requires { (ClassRows classes.now) × (options.limit ≤ 244) }
-    ensures same { paper_of result
-        ≡ (mark_from (rules_by classes.now (options_of options)) 0 0 0 (fragments paper.now) log.old).paper }
-    ensures logged { log.new
-        ≡ (mark_from (rules_by classes.now (options_of options)) 0 0 0 (fragments paper.now) log.old).log }
+fn mark_fragments(paper: &[u8], rules: Rules, log: &mut [u16]) -> PaperVerdict
+    ensures same { paper_of result ≡ (mark_from (rules_in rules.entry) 0 0 0 (fragments paper.now) log.old).paper }
+    ensures logged { log.new ≡ (mark_from (rules_in rules.entry) 0 0 0 (fragments paper.now) log.old).log }
 {
-    let count = header::fragment_count(paper);
-    let mut k: usize = 0;
-    let mut rows: usize = 0;
-    let mut peak: u32 = 0;
-    while k < count {
-        let v = mark_fragment_rows(paper, k, rows, classes, options, log);
+    let mut rows = 0;
+    let mut peak = 0;
+    for k in 0..header::fragment_count(paper) {
+        let v = mark_fragment_rows(paper, k, rows, rules, log);
         rows += v.rows;
         if v.number != 0 {
             return PaperVerdict {
@@ -159,8 +106,7 @@ fn mark_fragments(paper: &[u8], classes: &[u8], options: Options, log: &mut [u16
                 peak: 0,
             };
         }
-        peak = header::larger(peak, v.peak);
-        k += 1;
+        peak = v.peak.max(peak);
     }
     PaperVerdict {
         entry: 0,
@@ -174,58 +120,54 @@ fn mark_fragments(paper: &[u8], classes: &[u8], options: Options, log: &mut [u16
 }
 
 // A refusal of the paper itself, with no rows.
-fn refused(entry: usize, number: u32, first: u64, second: u64) -> PaperVerdict
-    ensures { paper_of result
-        ≡ record {
-          entry = entry;
-          verdict = record { answer = answer number 0 first second; rows = 0; peak = 0; end = dead };
-        } }
+#[tactic(auto, unfolding(crate::specs::View::paper_of))]
+fn refused(entry: usize, refusal: Refusal) -> PaperVerdict
+    ensures { paper_of result ≡ record { entry = entry; verdict = refused_verdict 0 (refusal_of refusal) 0 } }
 {
     PaperVerdict {
         entry,
-        number,
+        number: refusal.number(),
         offset: 0,
-        first,
-        second,
+        first: refusal.first(),
+        second: refusal.second(),
         rows: 0,
         peak: 0,
     }
 }
 
-// Marks a paper: 21, 19, the dispatch check of each entry, the bodies in order, then the initialiser; by the classes
-// of lent rows.
-pub fn mark_paper_rows(
-    paper: &[u8],
-    classes: &[u8],
-    options: Options,
-    log: &mut [u16],
-) -> PaperVerdict
-    requires { (ClassRows classes.now) × (options.limit ≤ 244) }
-    ensures same { paper_of result ≡ (mark_paper (rules_by classes.now (options_of options)) paper.now log.old).paper }
-    ensures logged { log.new ≡ (mark_paper (rules_by classes.now (options_of options)) paper.now log.old).log }
+/// Marks a paper: 21, 19, the dispatch check of each entry, the bodies in order, then the initialiser.
+pub fn mark_paper_rows(paper: &[u8], rules: Rules, log: &mut [u16]) -> PaperVerdict
+    ensures same { paper_of result ≡ (mark_paper (rules_in rules.entry) paper.now log.old).paper }
+    ensures logged { log.new ≡ (mark_paper (rules_in rules.entry) paper.now log.old).log }
     ensures replayed { result.number ≡ 0
         → EachTrue
-        (rules_by classes.now (options_of options))
+        (rules_in rules.entry)
         0
         (fragments paper.now)
-        (mark_paper (rules_by classes.now (options_of options)) paper.now log.old).verdicts
+        (mark_paper (rules_in rules.entry) paper.now log.old).verdicts
         log.new }
 {
-    if paper.len() > 8000 {
-        return refused(0, 21, paper.len() as u64, 8000);
+    let length = paper.len();
+    if length > 8000 {
+        return refused(0, Refusal::LongPaper { length });
     }
     if !good_header::header_ok(paper) {
-        return refused(0, 19, 0, 0);
+        return refused(0, Refusal::BadHeader);
     }
-    let limit = options.limit;
-    let d = header::dispatch_check(paper, limit);
-    match d {
-        Dispatch::Over { entry, sum } => refused(entry, 20, sum as u64, limit as u64),
-        Dispatch::Fits => mark_fragments(paper, classes, options, log),
+    let limit = rules.limit.items();
+    match header::dispatch_check(paper, limit) {
+        Ok(()) => mark_fragments(paper, rules, log),
+        Err(over) => refused(
+            over.entry,
+            Refusal::DispatchTooLarge {
+                sum: over.sum,
+                limit,
+            },
+        ),
     }
 }
 
-// Marks a paper by the built-in table at 244. Every input comes to a verdict.
+/// Marks a paper by the built-in table at 244. Every input comes to a verdict.
 pub fn mark_paper(paper: &[u8], log: &mut [u16]) -> PaperVerdict
     ensures same { paper_of result ≡ (mark_paper built_in paper.now log.old).paper }
     ensures logged { log.new ≡ (mark_paper built_in paper.now log.old).log }
@@ -237,12 +179,10 @@ pub fn mark_paper(paper: &[u8], log: &mut [u16]) -> PaperVerdict
         (mark_paper built_in paper.now log.old).verdicts
         log.new }
 {
-    let classes = opcodes::table();
-    let options = Options::built_in();
-    mark_paper_rows(paper, &classes, options, log)
+    mark_paper_rows(paper, Rules::built_in(), log)
 }
 
-// Marks a paper by a lent map and a lent limit, in a mode: 28 and then 29 before all else. Every input comes to a verdict.
+/// Marks a paper by a lent map and a lent limit, in a mode: 28 and then 29 before all else. Every input comes to a verdict.
 pub fn mark_paper_with(paper: &[u8], map: &[u8], options: Options, log: &mut [u16]) -> PaperVerdict
     ensures same { paper_of result ≡ (mark_paper_with map.now (options_of options) paper.now log.old).paper }
     ensures logged { log.new ≡ (mark_paper_with map.now (options_of options) paper.now log.old).log }
@@ -254,10 +194,8 @@ pub fn mark_paper_with(paper: &[u8], map: &[u8], options: Options, log: &mut [u1
         (mark_paper_with map.now (options_of options) paper.now log.old).verdicts
         log.new }
 {
-    let number = maps::judge(map, options.limit);
-    if number != 0 {
-        return refused(0, number, 0, 0);
+    match maps::rules(map, options) {
+        Ok(rules) => mark_paper_rows(paper, rules, log),
+        Err(refusal) => refused(0, refusal),
     }
-    let classes = maps::rows(map);
-    mark_paper_rows(paper, classes, options, log)
 }

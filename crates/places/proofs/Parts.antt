@@ -77,6 +77,8 @@ module _ (body init : Bytes) (offset mark : ℕ) where
         → (start ∷ length r ∷ []) ≡ part_numbers body init offset mark
     part-numbers start h = rw (h, part-size)
 
+pub ruleset parts = (part-shown, part-inside, part-size)
+
 -- the start, by the mark
 module _ (body init : Bytes) (offset mark r : ℕ) where
   pub start-body : mark ≡ 0 → r ≡ min offset (length body) → r ≡ display_start body init offset mark
@@ -93,3 +95,5 @@ unfolding display_start
 start_none body init offset zero h k = absurd (h refl)
 start_none body init offset (suc zero) h k = absurd (k refl)
 start_none body init offset (suc (suc n)) h k = omega arith
+
+pub ruleset starts = (start-body, start-init, start_none)

@@ -1,78 +1,34 @@
 -- Stores into lent places.
 use mathlib.Core.Bool.{Bool, true, false}
-use mathlib.Core.List.{List, [], ◌∷◌, ◌++◌}
-use mathlib.Core.Path.{◌≡◌, refl, ap, ◌∙◌}
-use Prim.Native.Nat.{ℕ, suc, ◌+◌, ◌≤◌, ◌<◌}
-use native.Mathlib.Omega.{arith}
+use mathlib.Core.List.{List, ◌++◌}
+use mathlib.Core.Path.{◌≡◌, refl}
+use Prim.Native.Nat.{◌≤◌, ◌<◌}
 use borrow.Author.Tests.{lt-ltb, le-ltb, leb-true, leb-false}
 use lib.Dec.{leb}
-use lib.ListN.{length, take, drop, set}
-use lib.Seq.{take_at}
+use lib.ListN.{length, drop}
 use Rattle.definition.specs.Basics.{Bytes, pick}
-use Rattle.text.specs.View.{Written}
-use Rattle.lines.specs.View.{lines_in}
-use Rattle.lines.specs.declared.Lines.{Lines}
 use Rattle.places.specs.View.{written}
 
--- these numbers stored one after another, the first of them in place k
-abbrev pub stored : ℕ → List ℕ → List ℕ → List ℕ
-stored k [] out = out
-stored k (n ∷ ns) out = stored (suc k) ns (set out k n)
-
--- the first place stays
-behind : (k : ℕ) (ns out : List ℕ) (x : ℕ) → stored (suc k) ns (x ∷ out) ≡ (x ∷ stored k ns out)
-behind k [] out x = refl
-behind k (n ∷ ns) out x = behind (suc k) ns (set out k n) x
-
-all-stored : (ns out : List ℕ) → length ns ≤ length out → stored 0 ns out ≡ (ns ++ drop (length ns) out)
-all-stored [] out h = refl
-all-stored (n ∷ ns) [] h = absurd (omega arith)
-all-stored (n ∷ ns) (x ∷ out) h = behind 0 ns out n ∙ ap (λ (l : List ℕ). n ∷ l) (all-stored ns out (omega arith))
-
-pub too_few : (ns out : List ℕ) → length out < length ns → out ≡ written ns out
+-- all as lent where there are fewer
+pub too_few : {A : Type 0} (values out : List A) → length out < length values → out ≡ written values out
 unfolding written
-too_few ns out h = rw (lt-ltb (length out) (length ns) h)
+too_few values out h = rw (lt-ltb (length out) (length values) h)
 
-pub all-written : (ns out : List ℕ) → length ns ≤ length out → stored 0 ns out ≡ written ns out
+-- the values and the rest where there is room
+pub all-written : {A : Type 0} (values out : List A) → length values ≤ length out → (values ++ drop (length values) out) ≡ written values out
 unfolding written
-all-written ns out h = rw (le-ltb (length out) (length ns) h) (all-stored ns out h)
+all-written values out h = rw (le-ltb (length out) (length values) h)
 
--- a text written into lent bytes
-pub text-written : (t out new : Bytes) (next : ℕ) → length t ≤ length out → Written out 0 t new next → new ≡ written t out
-unfolding written
-text-written t out new next h w =
-    let e : 0 + length t ≡ length t = omega arith in
-    rw (le-ltb (length out) (length t) h) (w.holds ∙ ap (λ k. t ++ drop k out) e)
+pub ruleset values = (too_few, all-written)
 
 -- a text written where there is room for it, by the other test
-pub where-room : (t out new : Bytes) → new ≡ pick (leb (length t) (length out)) (t ++ drop (length t) out) out → new ≡ written t out
-unfolding written
-where-room t out new e = e ∙ by (leb (length t) (length out)) refl
-  where
-    by : (b : Bool) → leb (length t) (length out) ≡ b → pick (leb (length t) (length out)) (t ++ drop (length t) out) out ≡ written t out
-    by true h = rw (h, le-ltb (length out) (length t) (leb-true (length t) (length out) h))
-    by false h = rw (h, lt-ltb (length out) (length t) (leb-false (length t) (length out) h))
+module _ (t out : Bytes) where
+  by-room : (b : Bool) → leb (length t) (length out) ≡ b → pick (leb (length t) (length out)) (t ++ drop (length t) out) out ≡ written t out
+  unfolding written
+  by-room true h = rw (h, le-ltb (length out) (length t) (leb-true (length t) (length out) h))
+  by-room false h = rw (h, lt-ltb (length out) (length t) (leb-false (length t) (length out) h))
 
--- a text written at the start of an array: its size, and the part that holds it
-module _ (zeros t new : Bytes) (n : ℕ) (w : Written zeros 0 t new n) where
-  pub first-size : n ≡ length t
-  first-size = omega (arith, w.ends)
+  pub where-room : pick (leb (length t) (length out)) (t ++ drop (length t) out) out ≡ written t out
+  where-room = by-room (leb (length t) (length out)) refl
 
-  pub first-text : take n new ≡ t
-  first-text =
-      let e : length t ≡ n = omega (arith, w.ends) in
-      ap (λ (l : Bytes). take n l) w.holds ∙ take_at t (drop (0 + length t) zeros) n e
-
--- the text that the lines hold, its size, and the number beside it
-module _ (l : Lines) (number : ℕ) (t : Bytes) (e : l ≡ lines_in number t) where
-  pub held_number : l.number ≡ number
-  unfolding lines_in
-  held_number = ap (λ (m : Lines). m.number) e
-
-  pub held-size : l.size ≡ length t
-  unfolding lines_in
-  held-size = ap (λ (m : Lines). m.size) e
-
-  pub held-text : take l.size l.bytes ≡ t
-  unfolding lines_in
-  held-text = ap (λ (m : Lines). take m.size m.bytes) e ∙ take_at t _ (length t) refl
+pub ruleset rooms = (where-room)

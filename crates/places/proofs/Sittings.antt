@@ -7,6 +7,7 @@ use borrow.Author.Tests.{le-ltb}
 use lib.ListN.{length, get_or, set, length-set}
 use lib.Seq.{paste, paste-zero, paste-suc, take-length}
 use Rattle.places.specs.View.{written}
+use Rattle.places.proofs.Places.{too_few}
 
 module _ (lent counts : List ℕ) where
   -- k counts stand behind the first three of the lent places
@@ -43,3 +44,5 @@ sums-written number sum count counts (x ∷ y ∷ z ∷ rest) out k h q c =
     let e : 3 + length counts ≡ suc (suc (suc (length counts))) = omega arith in
     rw (le-ltb (suc (suc (suc (length rest)))) (suc (suc (suc (length counts)))) (omega (arith, h)))
     (c.stands ∙ rw (q, take-length counts, e))
+
+pub ruleset sittings = (too_few, counts-none, counts-more, sums-written, kept-3)

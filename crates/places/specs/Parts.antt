@@ -1,5 +1,8 @@
 -- What the functions of this crate promise one another.
-use Rattle.std.specs.Prelude.{List, [], ◌∷◌, ℕ, zero, suc, ◌+◌, get_or}
+use Rattle.std.specs.Prelude.{List, [], ◌∷◌, ℕ, ◌+◌, take}
+use Rattle.std.specs.List.{flat_map}
+use Rattle.decode.specs.declared.Value.{Value}
+use Rattle.decode.specs.declared.Value.TheVariants.{Unknown, Exact}
 use Rattle.ends.specs.declared.EndStacks.{EndStacks}
 use Rattle.stack_analysis.specs.declared.Summary.{Summary}
 use Rattle.stack_analysis.specs.declared.Verdict.{Verdict}
@@ -14,11 +17,11 @@ summary_numbers v =
 abbrev pub in_heights : Verdict → Summary
 in_heights v = record { number = v.number; offset = v.offset; first = v.first; second = v.second; rows = v.rows; peak = v.peak; ended = v.ended; main = v.end.main; alt = v.end.alt }
 
--- the three numbers of each of n places of these arrays, from place a on
-abbrev pub places_numbers : List ℕ → List ℕ → ℕ → ℕ → List ℕ
-places_numbers lens bytes a zero = []
-places_numbers lens bytes a (suc n) = get_or lens a 0 ∷ get_or bytes a 0 ∷ 0 ∷ places_numbers lens bytes (suc a) n
+-- the three numbers of an item: its length, its bytes as one number, its mark
+abbrev pub value_numbers : Value → List ℕ
+value_numbers Unknown = 255 ∷ 0 ∷ 0 ∷ []
+value_numbers (Exact len bytes) = len ∷ bytes ∷ 0 ∷ []
 
 -- those of all items of the struct
 abbrev pub struct_numbers : EndStacks → List ℕ
-struct_numbers e = places_numbers e.lens e.bytes 0 (e.main + e.alt)
+struct_numbers e = flat_map value_numbers (take (e.main + e.alt) e.items)

@@ -18,9 +18,9 @@ abbrev pub flag : Bool → ℕ
 flag true = 1
 flag false = 0
 
--- the lent places afterwards: these numbers in the first of them, the rest as lent; all as lent where there are fewer
-unfoldable pub written : List ℕ → List ℕ → List ℕ
-written numbers out = pick (ltb (length out) (length numbers)) out (numbers ++ drop (length numbers) out)
+-- the lent places afterwards: these values in the first of them, the rest as lent; all as lent where there are fewer
+unfoldable pub written : {A : Type 0} → List A → List A → List A
+written values out = pick (ltb (length out) (length values)) out (values ++ drop (length values) out)
 
 -- the nine numbers of a verdict on a fragment; where there is no end its heights are 0 and 0
 abbrev pub verdict_numbers : Verdict → List ℕ

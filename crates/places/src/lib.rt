@@ -2,94 +2,92 @@
 
 #![tactic(auto)]
 
-ghost use Rattle.std.specs.Prelude.{[], ◌∷◌, ◌≡◌, suc, ◌+◌, ◌≤◌, min, length, take};
-ghost use Rattle.lines.specs.View.{Within};
-ghost use Rattle.definition.specs.Refusals.{greatest_number};
-ghost use Rattle.limits.specs.View.{answer_of};
+ghost use Rattle.std.specs.Prelude.{[], ◌∷◌, ◌≡◌, ◌+◌, ◌≤◌, min, length};
+ghost use Rattle.arrayvec.specs.ArrayVec.{array_vec_len};
+ghost use Rattle.assembling.specs.View.{converted_of};
+ghost use Rattle.definition.specs.Basics.{Bytes};
 ghost use Rattle.paper.specs.View.{paper_of};
+ghost use Rattle.refusals.specs.View.{numbers_of};
 ghost use Rattle.sums.specs.View.{sums_of};
 ghost use Rattle.tally.specs.View.{tally_of};
-ghost use Rattle.places.specs.View.{flag, written, answer_numbers, paper_numbers, sums_numbers, display_start, tally_from};
-ghost use Rattle.places.specs.Parts.{summary_numbers, in_heights, struct_numbers};
+ghost use Rattle.places.specs.View.{written, answer_numbers, paper_numbers, sums_numbers, converted_numbers, display_start, tally_from};
+ghost use Rattle.places.specs.Parts.{value_numbers, summary_numbers, in_heights, struct_numbers};
 
-use assembling::Converted;
+use decode::Value;
 use ends::EndStacks;
-use limits::Answer;
 use lines::Lines;
 use paper::PaperVerdict;
+use refusals::{Answer, Refusal, Refused};
 use stack_analysis::{Summary, Verdict};
 use sums::SittingSums;
 use tally::Tally;
+use text::Line;
 
-fn flag(b: bool) -> u64
-    ensures { result ≡ flag b }
+/// Values into the first of the lent places, where there are that many: the rest stays as lent, and all of it where there are
+/// fewer.
+#[tactic(auto, using(crate::proofs::Places::values))]
+pub fn write_values<T: Copy>(values: &[T], lent: &mut [T])
+    ensures { lent.new ≡ written values.now lent.old }
 {
-    if b {
-        return 1;
+    if values.len() <= lent.len() {
+        lent[..values.len()].copy_from_slice(values);
     }
-    0
 }
 
-fn wide(x: u8) -> u64
-    ensures { result ≡ x }
+/// The verdict's numbers into the lent places, where there are nine of them: number, offset, two figures, rows, peak,
+/// whether there is an end (1 or 0), and the heights of its main and alt; and its number.
+pub fn write(s: Summary, out: &mut [u64]) -> u32
+    ensures number { result ≡ s.number }
+    ensures out { out.new ≡ written (summary_numbers s) out.old }
 {
-    x as u64
+    let numbers = [
+        u64::from(s.number),
+        s.offset as u64,
+        s.first,
+        s.second,
+        s.rows as u64,
+        u64::from(s.peak),
+        u64::from(s.ended),
+        u64::from(s.main),
+        u64::from(s.alt),
+    ];
+    write_values(&numbers, out);
+    s.number
 }
 
-fn wide_count(x: u32) -> u64
-    ensures { result ≡ x }
+// The numbers of an item: its length, 255 where it is unknown; its bytes as one number, 0 where it is unknown; its mark, which is 0.
+fn item_numbers(item: Value) -> [u64; 3]
+    ensures { result ≡ value_numbers item }
 {
-    x as u64
-}
-
-// The verdict's numbers into the lent places, where there are nine of them: number, offset, two figures, rows, peak,
-// whether there is an end (1 or 0), and the heights of its main and alt.
-pub fn write(v: Summary, out: &mut [u64])
-    ensures { out.new ≡ written (summary_numbers v) out.old }
-{
-    if out.len() < 9 {
-        return;
+    match item {
+        Value::Unknown => [255, 0, 0],
+        Value::Exact { len, bytes } => [u64::from(len), bytes, 0],
     }
-    out[0] = v.number as u64;
-    out[1] = v.offset as u64;
-    out[2] = v.first;
-    out[3] = v.second;
-    out[4] = v.rows as u64;
-    out[5] = v.peak as u64;
-    out[6] = flag(v.ended);
-    out[7] = v.main as u64;
-    out[8] = v.alt as u64;
 }
 
-// The items of end stacks into the lent places, where there are three of them to an item: its length, its bytes as one
-// number, its mark, which is 0.
-pub fn write_items(e: EndStacks, items: &mut [u64])
-    requires { e.main + e.alt ≤ 244 }
-    ensures { items.new ≡ written (struct_numbers e) items.old }
+/// The numbers of the items of end stacks into the lent places, where there are three of them to an item.
+#[tactic(auto, using(crate::proofs::Items::listings))]
+pub fn write_items(e: &EndStacks, items: &mut [u64])
+    requires { e.now.main + e.now.alt ≤ 244 }
+    ensures { items.new ≡ written (struct_numbers e.now) items.old }
 {
     let count = (e.main + e.alt) as usize;
     if items.len() < 3 * count {
         return;
     }
-    let lens = e.lens;
-    let bytes = e.bytes;
-    let mut k: usize = 0;
-    while k < count {
-        items[3 * k] = wide(lens[k]);
-        items[3 * k + 1] = bytes[k];
-        items[3 * k + 2] = 0;
-        k += 1;
+    for k in 0..count {
+        items[3 * k..3 * k + 3].copy_from_slice(&item_numbers(e.items[k]));
     }
 }
 
-// A verdict with its end stacks: the items of the end into `items`, the verdict's numbers into `out`, and its number.
-pub fn write_verdict(v: Verdict, items: &mut [u64], out: &mut [u64]) -> u32
-    requires { v.end.main + v.end.alt ≤ 244 }
-    ensures number { result ≡ v.number }
-    ensures items { items.new ≡ written (struct_numbers v.end) items.old }
-    ensures out { out.new ≡ written (summary_numbers (in_heights v)) out.old }
+/// A verdict with its end stacks: the items of the end into `items`, the verdict's numbers into `out`, and its number.
+pub fn write_verdict(v: &Verdict, items: &mut [u64], out: &mut [u64]) -> u32
+    requires { v.now.end.main + v.now.end.alt ≤ 244 }
+    ensures number { result ≡ v.now.number }
+    ensures items { items.new ≡ written (struct_numbers v.now.end) items.old }
+    ensures out { out.new ≡ written (summary_numbers (in_heights v.now)) out.old }
 {
-    let end = v.end;
+    write_items(&v.end, items);
     let heights = Summary {
         number: v.number,
         offset: v.offset,
@@ -98,152 +96,147 @@ pub fn write_verdict(v: Verdict, items: &mut [u64], out: &mut [u64]) -> u32
         rows: v.rows,
         peak: v.peak,
         ended: v.ended,
-        main: end.main,
-        alt: end.alt,
+        main: v.end.main,
+        alt: v.end.alt,
     };
-    write_items(end, items);
-    write(heights, out);
-    v.number
+    write(heights, out)
 }
 
-// The limit check's answer into the lent places, where there are four of them: number, offset, two figures.
-pub fn write_answer(a: Answer, out: &mut [u64])
-    ensures { out.new ≡ written (answer_numbers (answer_of a)) out.old }
+/// An answer into the lent places, where there are four of them, number, offset and two figures; and its number.
+pub fn write_answer(a: Answer, out: &mut [u64]) -> u32
+    ensures number { result ≡ a.number }
+    ensures out { out.new ≡ written (answer_numbers (numbers_of a)) out.old }
 {
-    if out.len() < 4 {
-        return;
-    }
-    out[0] = a.number as u64;
-    out[1] = a.offset as u64;
-    out[2] = a.first;
-    out[3] = a.second;
+    write_values(
+        &[u64::from(a.number), a.offset as u64, a.first, a.second],
+        out,
+    );
+    a.number
 }
 
-// The numbers of a verdict on a paper into the lent places, where there are seven of them: number, entry, offset, two
-// figures, rows, peak.
-pub fn write_paper(v: PaperVerdict, out: &mut [u64])
-    ensures { out.new ≡ written (paper_numbers (paper_of v)) out.old }
+/// The numbers of a verdict on a paper into the lent places, where there are seven of them: number, entry, offset, two
+/// figures, rows, peak; and its number.
+#[tactic(auto, unfolding(paper::specs::View::paper_of))]
+pub fn write_paper(p: PaperVerdict, out: &mut [u64]) -> u32
+    ensures number { result ≡ p.number }
+    ensures out { out.new ≡ written (paper_numbers (paper_of p)) out.old }
 {
-    if out.len() < 7 {
-        return;
-    }
-    out[0] = v.number as u64;
-    out[1] = v.entry as u64;
-    out[2] = v.offset as u64;
-    out[3] = v.first;
-    out[4] = v.second;
-    out[5] = v.rows as u64;
-    out[6] = v.peak as u64;
+    let numbers = [
+        u64::from(p.number),
+        p.entry as u64,
+        p.offset as u64,
+        p.first,
+        p.second,
+        p.rows as u64,
+        u64::from(p.peak),
+    ];
+    write_values(&numbers, out);
+    p.number
 }
 
-// A part's start and length into the lent places, where there are two of them.
+/// A part's start and length into the lent places, where there are two of them.
 pub fn write_part(start: usize, size: usize, out: &mut [u64])
     ensures { out.new ≡ written (start ∷ size ∷ []) out.old }
 {
-    if out.len() < 2 {
-        return;
-    }
-    out[0] = start as u64;
-    out[1] = size as u64;
+    write_values(&[start as u64, size as u64], out);
 }
 
-fn smaller(a: usize, b: usize) -> usize
-    ensures { result ≡ min a b }
-{
-    if a < b {
-        return a;
-    }
-    b
-}
-
-// A text into the lent bytes, where they have room for it.
-pub fn write_text(from: &[u8], text: &mut [u8])
-    ensures { text.new ≡ written from.now text.old }
-{
-    if text.len() < from.len() {
-        return;
-    }
-    text::write_word(text, 0, from);
-}
-
-// A text's size into the lent places, where there is one.
+/// A text's size into the lent places, where there is one.
 pub fn write_size(size: usize, out: &mut [u64])
     ensures { out.new ≡ written (size ∷ []) out.old }
 {
-    if out.len() < 1 {
-        return;
-    }
-    out[0] = size as u64;
+    write_values(&[size as u64], out);
 }
 
-// The lines of a paper: the text into `text`, its size into `out`, and the verdict's number.
-pub fn write_lines(l: Lines, text: &mut [u8], out: &mut [u64]) -> u32
-    requires { Within l }
-    ensures number { result ≡ l.number }
-    ensures text { text.new ≡ written (take l.size l.bytes) text.old }
-    ensures out { out.new ≡ written (l.size ∷ []) out.old }
+/// A text into `text`, and its size into `out`.
+pub fn write_text<const N: usize>(line: &Line<N>, text: &mut [u8], out: &mut [u64])
+    ensures text { text.new ≡ written line.now.items text.old }
+    ensures out { out.new ≡ written (array_vec_len line.now ∷ []) out.old }
 {
-    let bytes = l.bytes;
-    let size = l.size;
-    write_text(&bytes[..size], text);
-    write_size(size, out);
+    write_values(line, text);
+    write_size(line.len(), out);
+}
+
+/// The lines of a paper: the text into `text`, its size into `out`, and the verdict's number.
+pub fn write_lines(l: &Lines, text: &mut [u8], out: &mut [u64]) -> u32
+    ensures number { result ≡ l.now.number }
+    ensures text { text.new ≡ written l.now.text.items text.old }
+    ensures out { out.new ≡ written (array_vec_len l.now.text ∷ []) out.old }
+{
+    write_text(&l.text, text, out);
     l.number
 }
 
-// The numbers of the sums over a sitting into the lent places, where there are that many of them: number, sum, count, and how
-// often each verdict number occurred.
-pub fn write_sums(r: SittingSums, out: &mut [u64])
-    requires { length r.counts ≡ suc greatest_number }
-    ensures { out.new ≡ written (sums_numbers (sums_of r)) out.old }
+// A number and the sums over a sitting into the lent places, where there are that many of them.
+#[tactic(auto, using(crate::proofs::Sittings::sittings))]
+fn write_sitting(number: u32, s: SittingSums, out: &mut [u64])
+    ensures { out.new ≡ written (number ∷ s.sum ∷ s.count ∷ s.counts) out.old }
 {
     if out.len() < 3 + sums::NUMBERS {
         return;
     }
-    out[0] = r.number as u64;
-    out[1] = r.sum;
-    out[2] = r.count as u64;
-    let counts = r.counts;
-    let mut k: usize = 0;
-    while k < sums::NUMBERS {
-        out[3 + k] = wide_count(counts[k]);
-        k += 1;
+    out[0] = u64::from(number);
+    out[1] = s.sum;
+    out[2] = u64::from(s.count);
+    for k in 0..sums::NUMBERS {
+        out[3 + k] = u64::from(s.counts[k]);
     }
 }
 
-// The numbers of an assembler's or lister's answer into the lent places, where there are three of them: number, offset, bytes
-// written.
-pub fn write_converted(c: Converted, out: &mut [u64])
-    ensures { out.new ≡ written (c.number ∷ c.offset ∷ c.size ∷ []) out.old }
+/// The numbers of the sums over a sitting into the lent places, where there are that many of them: number, sum, count, and how
+/// often each verdict number occurred, all but the number 0 where the sitting is refused; and the number.
+pub fn write_sums(r: Result<SittingSums, Refusal>, out: &mut [u64]) -> u32
+    ensures number { result ≡ (sums_of r).number }
+    ensures out { out.new ≡ written (sums_numbers (sums_of r)) out.old }
 {
-    if out.len() < 3 {
-        return;
-    }
-    out[0] = c.number as u64;
-    out[1] = c.offset as u64;
-    out[2] = c.size as u64;
+    let zeros = SittingSums {
+        counts: [0; sums::NUMBERS],
+        sum: 0,
+        count: 0,
+    };
+    let (number, s) = match r {
+        Ok(s) => (0, s),
+        Err(refusal) => (refusal.number(), zeros),
+    };
+    write_sitting(number, s, out);
+    number
 }
 
-// The tally of four counters: fragments, accepted, rows, greatest peak.
+/// The numbers of an assembler's or lister's answer into the lent places, where there are three of them: number, offset, bytes
+/// written; and the number.
+pub fn write_converted(c: Result<usize, Refused>, out: &mut [u64]) -> u32
+    ensures number { (text : Bytes) → result ≡ (converted_of c text).number }
+    ensures out { (text : Bytes) → out.new ≡ written (converted_numbers (converted_of c text)) out.old }
+{
+    let (number, offset, size) = match c {
+        Ok(size) => (0, 0, size),
+        Err(refused) => (refused.refusal.number(), refused.offset, 0),
+    };
+    write_values(&[u64::from(number), offset as u64, size as u64], out);
+    number
+}
+
+/// The tally of four counters: fragments, accepted, rows, greatest peak.
 pub fn tally_from(counters: &[u32; 4]) -> Tally
     ensures { tally_of result ≡ tally_from counters.now }
 {
+    let [fragments, accepts, rows, peak] = *counters;
     Tally {
-        fragments: counters[0],
-        accepts: counters[1],
-        rows: counters[2],
-        peak: counters[3],
+        fragments,
+        accepts,
+        rows,
+        peak,
     }
 }
 
-// Where the part that is displayed starts in its fragment.
+/// Where the part that is displayed starts in its fragment.
+#[tactic(auto, using(crate::proofs::Parts::starts))]
 pub fn display_start(body: &[u8], init: &[u8], offset: usize, mark: u32) -> usize
     ensures { result ≡ display_start body.now init.now offset mark }
 {
-    if mark == 0 {
-        return smaller(offset, body.len());
+    match mark {
+        0 => offset.min(body.len()),
+        1 => offset.min(init.len()),
+        _ => 0,
     }
-    if mark == 1 {
-        return smaller(offset, init.len());
-    }
-    0
 }

@@ -1,2 +1,2 @@
 -- What is proved of the words for this crate's functions.
-mod Texts
+pub mod Texts

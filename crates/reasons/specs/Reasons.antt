@@ -1,4 +1,4 @@
--- A refusal in words: document 01, section 7, and the requests of document 02.
+-- A refusal in words.
 use Rattle.std.specs.Prelude.{List, [], ◌∷◌, ◌++◌, ℕ, get_or}
 use Prim.Native.String.{String}
 use Rattle.definition.specs.Basics.{Bytes}
@@ -13,7 +13,7 @@ both word first and second = labelled word first ++ labelled and second
 abbrev pub of_opcode : String → ℕ → Bytes
 of_opcode word opcode = text word ++ hex_byte opcode
 
--- The word of each number with its figures, from 0 on. Request L2, "Tutors must explain which mistake a 9 was": the words of 9, 24
+-- The word of each number with its figures, from 0 on. The words of 9, 24
 -- and 25 say what was wrong with the item.
 abbrev pub reasons : ℕ → ℕ → List Bytes
 reasons first second =

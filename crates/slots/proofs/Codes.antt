@@ -107,14 +107,14 @@ module _ (len n : ℕ) where
     code-large h = rw (e, lt-leb n 245 h)
 
   module _ (k : Held (Exact len n)) where
-    -- pushed by its code alone
-    pub code-item : sufficient (code_of len n) ≡ true → slot_item (code_of len n) 0 ≡ exact (low_bytes len n)
-    code-item s = either len 1 (slot_item (code_of len n) 0 ≡ exact (low_bytes len n))
-        (λ e. either-le n 245 (slot_item (code_of len n) 0 ≡ exact (low_bytes len n))
-        (λ h. rw (← code-small e h) (item-high (10 + n) 0 (omega arith) ∙ rw e (let z : 10 + n - 10 ≡ n % 256 = omega arith in rw z)))
-        (λ h. absurd (is-sufficient len (ap sufficient (code-large e h) ∙ s) (omega arith) k.0)))
-        (λ e. let z : len ≡ 0 = either len 0 (len ≡ 0) (λ z. z) (λ z. absurd (is-sufficient len (ap sufficient (code-long e) ∙ s) (omega (arith, z)) k.0)) in
-        rw (← code-long e) (rw z))
+    -- its slot holds it
+    pub code-slot : Canon (code_of len n) n × (slot_item (code_of len n) n ≡ exact (low_bytes len n))
+    code-slot = either len 1 (Canon (code_of len n) n × (slot_item (code_of len n) n ≡ exact (low_bytes len n)))
+        (λ e. either-le n 245 (Canon (code_of len n) n × (slot_item (code_of len n) n ≡ exact (low_bytes len n)))
+        (λ h. let z : n % 256 ≡ 10 + n - 10 = omega arith in
+        rw (← code-small e h) (canon-sufficient (10 + n) n (omega arith) (sufficient-high (10 + n) (omega arith)), item-high (10 + n) n (omega arith) ∙ rw (e, z)))
+        (λ h. rw (← code-large e h) (record { byte = omega arith; held = λ a b. k.1; large = λ g. h }, item-low len n k.0)))
+        (λ e. rw (← code-long e) (record { byte = omega (arith, k.0); held = λ a b. k.1; large = λ g. absurd (e g) }, item-low len n k.0))
 
     -- pushed with its bytes: its code is its length
     module _ (s : sufficient (code_of len n) ≡ false) where

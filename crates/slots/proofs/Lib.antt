@@ -2,4 +2,3 @@ pub mod Codes
 pub mod Laws
 pub mod Joins
 pub mod Blanks
-pub mod Values

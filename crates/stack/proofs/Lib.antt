@@ -1,7 +1,10 @@
+pub mod Tests
+pub mod Moves
+pub mod Turns
 pub mod Mains
 pub mod Alts
 pub mod Joins
-pub mod Fresh
-pub mod Values
 pub mod Pops
+pub mod Values
 pub mod Indices
+pub mod Fresh

@@ -1,5 +1,5 @@
 -- Items popped one by one: indices, counts and tags.
-use mathlib.Core.Path.{◌≡◌, refl, sym, ap, ◌∙◌}
+use mathlib.Core.Path.{◌≡◌, refl, sym, ◌∙◌}
 use mathlib.Core.Bool.{Bool, true, false, ◌&&◌}
 use mathlib.Core.List.{[], ◌∷◌}
 use mathlib.Core.Option.{none, some}
@@ -11,6 +11,7 @@ use mir.Syntax.{w64}
 use mir.Val.{Fits}
 use lib.Dec.{leb, ltb}
 use lib.ListN.{length, get_or}
+use Rattle.std.specs.Prelude.{Result, Ok, Err}
 use Rattle.definition.specs.Basics.{Bytes, pick}
 use Rattle.definition.specs.Decoding.{number, last, minimal, value, deserialize, index_read, index_of}
 use Rattle.definition.specs.Decoding as D
@@ -19,37 +20,31 @@ use Rattle.definition.specs.Stacks as S
 use Rattle.definition.specs.Stacks.{pop, pop_index, readable}
 use Rattle.definition.specs.Walk.{Item, bytes_known, marking}
 use Rattle.definition.specs.Replay.{AreBytes}
+use Rattle.refusals.specs.View.{refusal_of}
+use Rattle.refusals.specs.declared.Refusal.{Refusal}
+use Rattle.refusals.specs.declared.Refusal.TheVariants.{MainDry}
 use Rattle.decode.specs.View.{low_bytes, item_of, Held}
-use Rattle.number_form.specs.View.{indexed}
+use Rattle.number_form.specs.View.{indexed, index_refusal}
 use Rattle.decode.specs.declared.Value.{Value}
 use Rattle.decode.specs.declared.Value.TheVariants.{Unknown, Exact}
-use Rattle.number_form.specs.declared.Index.{Index}
-use Rattle.number_form.specs.declared.Index.TheVariants as I
+use Rattle.number_form.specs.declared.NoIndex.{NoIndex}
 use Rattle.decode.proofs.Bytes.{bytes_low, length-low}
-use Rattle.slots.specs.View.{sufficient, cells}
+use Rattle.slots.specs.View.{Slots, cells}
 use Rattle.slots.specs.Parts.{InSlot}
 use Rattle.slots.proofs.Laws.{tops-seg}
-use Rattle.slots.proofs.Values.{in-slot}
-use Rattle.stack.specs.View.{slots_of, view, Fit, Says}
-use Rattle.stack.specs.Parts.{count_of, without, Small, counted, Pops}
-use Rattle.stack.specs.declared.Stacks.{Stacks}
-use Rattle.stack.specs.declared.Refusal.{Refusal}
-use Rattle.stack.specs.declared.Refusal.TheVariants.{MainDry, BadIndex, CrookedNumber, NegativeIndex}
-use Rattle.stack.specs.declared.Stepped.{Stepped}
-use Rattle.stack.specs.declared.Count.{Count}
-use Rattle.stack.specs.declared.Count.TheVariants as C
-use Rattle.stack.proofs.Mains.{refusing, refuses}
+use Rattle.stack.specs.View.{stacks_in}
+use Rattle.stack.specs.Parts.{Small, counted, PopsIn}
 
 -- Popping
 
-module _ (s : Stacks) where
-  pub pop-dry : s.mains < 1 → (next : Item → S.Stacks Item → S.Outcome Item) → pop (view s) next ≡ S.refused (main_dry 1 s.mains)
-  unfolding view
-  pop-dry h next = let e : s.mains ≡ 0 = omega arith in rw e
+module _ (p : Slots) (m a : ℕ) where
+  pub pop-short : m < 1 → (next : Item → S.Stacks Item → S.Outcome Item) → pop (stacks_in p m a) next ≡ S.refused (main_dry 1 m)
+  unfolding stacks_in
+  pop-short h next = let e : m ≡ 0 = omega arith in rw e
 
-  pub pop-is : 1 ≤ s.mains → (next : Item → S.Stacks Item → S.Outcome Item) → pop (view s) next ≡ next (cells (slots_of s) (s.mains - 1)) (view (without s 1))
-  unfolding view
-  pop-is h next = rw (tops-seg (cells (slots_of s)) (s.mains - 1) 1 s.mains (omega arith), add-zero)
+  pub pop-is : 1 ≤ m → (next : Item → S.Stacks Item → S.Outcome Item) → pop (stacks_in p m a) next ≡ next (cells p (m - 1)) (stacks_in p (m - 1) a)
+  unfolding stacks_in
+  pop-is h next = rw (tops-seg (cells p) (m - 1) 1 m (omega arith), add-zero)
 
 -- Indices
 
@@ -78,82 +73,64 @@ index-small l h n k = by (leb (length l) 8 && minimal l)
     by true i = read (ltb (last l) 128) refl i
     by false i = absurd (let z : ◌≡◌ {A = ℕ} 0 1 = cc in omega arith)
 
--- the definition's index for the code's, which tells each of the four apart
-abbrev told : Index → D.Index
-told I.Unknown = D.not_known
-told I.NoNumber = D.no_number
-told I.Negative = D.negative
-told (I.At n) = D.index n
+-- an index as `read_index` and the conversion of its refusals tell it
+abbrev told : D.Index → Result ℕ Refusal
+told x = by (indexed x)
+  where
+    by : Result ℕ NoIndex → Result ℕ Refusal
+    by (Ok n) = Ok n
+    by (Err why) = Err (index_refusal why)
 
-told-indexed : (x : D.Index) → told (indexed x) ≡ x
-told-indexed D.not_known = refl
-told-indexed D.no_number = refl
-told-indexed D.negative = refl
-told-indexed (D.index n) = refl
+module _ (p : Slots) (m a : ℕ) where
+  pub pops-short : m < 1 → (f : Refusal) → f ≡ MainDry 1 m → (r : Result ℕ Refusal) → r ≡ Err f → PopsIn p m a r
+  pops-short h f g r e = rw (e, g) (record { small = tt; same = λ next. pop-short p m a h _ })
 
--- the index of a value, as the code's
-module _ (v : Value) (i : Index) (e : i ≡ indexed (index_of (bytes_known (item_of v)))) where
-  counts : (j : Index) → i ≡ j → count_of (told j) ≡ count_of (index_of (bytes_known (item_of v)))
-  counts j g = ap (λ x. count_of (told x)) (sym g ∙ e) ∙ ap count_of (told-indexed (index_of (bytes_known (item_of v))))
-
-  pub count_at : (n : ℕ) → i ≡ I.At n → C.At n ≡ count_of (index_of (bytes_known (item_of v)))
-  count_at n = counts (I.At n)
-
-  pub count-unknown : i ≡ I.Unknown → C.Refused BadIndex ≡ count_of (index_of (bytes_known (item_of v)))
-  count-unknown = counts I.Unknown
-
-  pub count-no-number : i ≡ I.NoNumber → C.Refused CrookedNumber ≡ count_of (index_of (bytes_known (item_of v)))
-  count-no-number = counts I.NoNumber
-
-  pub count-negative : i ≡ I.Negative → C.Refused NegativeIndex ≡ count_of (index_of (bytes_known (item_of v)))
-  count-negative = counts I.Negative
-
-module _ (s : Stacks) (f : Fit s) where
-  pub pops-dry : s.mains < 1 → Pops s (C.Refused (MainDry 1 s.mains))
-  pops-dry h = record { small = tt; same = λ next. pop-dry s h _ }
-
-  module _ (h : 1 ≤ s.mains) (v : Value) (i : Count) (e : i ≡ count_of (index_of (bytes_known (item_of v)))) where
-    -- the value v is on top
-    pops : InSlot (get_or s.codes (s.mains - 1) 0) (get_or s.bytes (s.mains - 1) 0) v → Pops s i
-    pops k = rw e (record { small = small v k.held; same = λ next. pop-is s h _ ∙ rw (← k.item) (on (index_of (bytes_known (item_of v))) next) })
+  -- the value v is on top
+  module _ (h : 1 ≤ m) (v : Value) (k : InSlot (get_or p.codes (m - 1) 0) (get_or p.bytes (m - 1) 0) v) where
+    pops : PopsIn p m a (told (index_of (bytes_known (item_of v))))
+    pops = record { small = small v k.held; same = λ next. pop-is p m a h _ ∙ rw (← k.item) (on (index_of (bytes_known (item_of v))) next) }
       where
-        some-index : (x : D.Index) → ((n : ℕ) → x ≡ D.index n → n < 2 ^ 63) → Small s.mains (count_of x)
+        some-index : (x : D.Index) → ((n : ℕ) → x ≡ D.index n → n < 2 ^ 63) → Small m (told x)
         some-index D.not_known g = tt
         some-index D.no_number g = tt
         some-index D.negative g = tt
         some-index (D.index n) g = (g n refl, h)
 
-        small : (w : Value) → Held w → Small s.mains (count_of (index_of (bytes_known (item_of w))))
+        small : (w : Value) → Held w → Small m (told (index_of (bytes_known (item_of w))))
         small Unknown g = tt
         small (Exact len b) g = some-index _ (λ n x. index-small (low_bytes len b) (bytes_low len b) n (rw (length-low len b) g.0) x)
 
-        on : (x : D.Index) (next : ℕ → S.Stacks Item → S.Outcome Item) → readable marking x (λ n. next n (view (without s 1))) ≡ counted (count_of x) (view (without s 1)) next
+        on : (x : D.Index) (next : ℕ → S.Stacks Item → S.Outcome Item) → readable marking x (λ n. next n (stacks_in p (m - 1) a)) ≡ counted (told x) (stacks_in p (m - 1) a) next
         on D.not_known next = refl
         on D.no_number next = refl
         on D.negative next = refl
         on (D.index n) next = refl
 
-    pub pops-code : sufficient (get_or s.codes (s.mains - 1) 0) ≡ true → InSlot (get_or s.codes (s.mains - 1) 0) 0 v → Pops s i
-    pops-code z k = pops (in-slot _ _ (f.sound.canon (s.mains - 1)) v z k)
+    module _ (i : Result ℕ NoIndex) (e : i ≡ indexed (index_of (bytes_known (item_of v)))) where
+      pub pops-at : (n : ℕ) → i ≡ Ok n → PopsIn p m a (Ok n)
+      pops-at n g = by (index_of (bytes_known (item_of v))) (sym e ∙ g) pops
+        where
+          by : (x : D.Index) → indexed x ≡ Ok n → PopsIn p m a (told x) → PopsIn p m a (Ok n)
+          by x z w = rw z at w
 
-    pub pops-bytes : InSlot (get_or s.codes (s.mains - 1) 0) (get_or s.bytes (s.mains - 1) 0) v → Pops s i
-    pops-bytes = pops
-
--- the next number fits, and there was an item
-module _ (s : Stacks) (c : Count) (k : Pops s c) (n : ℕ) (e : c ≡ C.At n) where
-  at_small : (n < 2 ^ 63) × (1 ≤ s.mains)
-  at_small = rw e at k.small
-
-  pub next_fits : (m : ℕ) → m ≤ 2 → Fits w64 (n + m)
-  next_fits m g = let h = at_small.0 in record { fits = omega arith }
-
-  pub had-one : 1 ≤ s.mains
-  had-one = at_small.1
+      pub pops-none : (why : NoIndex) → i ≡ Err why → (r : Result ℕ Refusal) → r ≡ Err (index_refusal why) → PopsIn p m a r
+      pops-none why g r y = rw y (by (index_of (bytes_known (item_of v))) (sym e ∙ g) pops)
+        where
+          by : (x : D.Index) → indexed x ≡ Err why → PopsIn p m a (told x) → PopsIn p m a (Err (index_refusal why))
+          by x z w = rw z at w
 
 -- on from a popped index
-module _ (s : Stacks) (c : Count) (k : Pops s c) (next : ℕ → S.Stacks Item → S.Outcome Item) where
-  pub on-at : (n : ℕ) → c ≡ C.At n → (r : Stepped) → Says r (next n (view (without s 1))) → Says r (pop_index marking (view s) next)
-  on-at n e r v = rw (k.same next, e) v
+module _ (p : Slots) (m a : ℕ) (c : Result ℕ Refusal) (k : PopsIn p m a c) where
+  module _ (n : ℕ) (e : c ≡ Ok n) where
+    at_small : (n < 2 ^ 63) × (1 ≤ m)
+    at_small = rw e at k.small
 
-  pub on-refused : Fit s → (x : Refusal) → c ≡ C.Refused x → Says (refusing s x) (pop_index marking (view s) next)
-  on-refused f x e = refuses s f x _ (k.same next ∙ rw e)
+    -- the next number fits
+    pub next_fits : Fits w64 (n + 1)
+    next_fits = let h = at_small.0 in record { fits = omega arith }
+
+    pub on-at : (next : ℕ → S.Stacks Item → S.Outcome Item) → pop_index marking (stacks_in p m a) next ≡ next n (stacks_in p (m - 1) a)
+    on-at next = k.same next ∙ rw e
+
+  pub on-refused : (f : Refusal) → c ≡ Err f → (next : ℕ → S.Stacks Item → S.Outcome Item) → pop_index marking (stacks_in p m a) next ≡ S.refused (refusal_of f)
+  on-refused f e next = k.same next ∙ rw e

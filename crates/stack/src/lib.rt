@@ -1,781 +1,554 @@
-// The two stacks, by value, and what the ordinary opcodes do to them: document 01, section 3.
+// The two stacks, and what the ordinary opcodes do to them.
 
 #![tactic(auto)]
 
-ghost use Rattle.std.specs.Prelude.{◌≡◌, true, false, ℕ, ◌+◌, ◌≤◌, ◌<◌};
-ghost use Rattle.definition.specs.Classes.{DEPTH, SIZE, PICK, ZK};
-ghost use Rattle.definition.specs.Stacks.{push_item, drop_items, copy_items, rotate_items, tuck_top, nip_second, move_to_alt, move_from_alt, pop_index, zk_drop, plain_step};
-ghost use Rattle.definition.specs.Decoding.{index_of};
-ghost use Rattle.definition.specs.Walk.{exact, bytes_known, marking, join_stacks};
-ghost use Rattle.decode.specs.View.{low_bytes, item_of, Held};
-ghost use Rattle.slots.specs.View.{slot_item, code_of, sufficient};
-ghost use Rattle.stack.specs.View.{view, Fit, Fresh, Says, Steps};
-ghost use Rattle.stack.specs.Parts.{count_of, Pops};
+ghost use Rattle.std.specs.Prelude.{◌≡◌, true, false, ℕ, ◌+◌, ◌-◌, ◌≤◌, ◌<◌};
+ghost use Rattle.slots.specs.View.{slots, Sound};
 
 use decode::Value;
-use number_form::{Index, number_value, read_index};
-use slots::{
-    all_suffice, code_length, code_of, common_codes, copy_bytes, copy_codes, join_codes,
-    rotate_bytes, rotate_codes, slot_value, suffices,
-};
+use number_form::{number_value, read_index};
+use refusals::Refusal;
+use slots::{UNKNOWN, code_length, code_of, join_bytes, join_codes, slot_value};
 
-// Both stacks lie in the same 244 slots: main from the bottom, alt from the top end. A slot has a code and bytes, as the
-// crate slots has them. The two heights lie between the arrays: each array is then copied by itself, where it is written.
+/// How many items the two stacks may hold together, as a caller lends it.
+#[derive(Clone, Copy, Debug, PartialEq, Eq)]
+pub struct Limit {
+    items: u32,
+    pub ghost low: { items ≤ 244 },
+}
+
+impl Limit {
+    /// As many as there are slots.
+    pub const BUILT_IN: Limit = Limit { items: 244 };
+
+    pub fn new(items: u32) -> Limit
+        requires { items ≤ 244 }
+        ensures { result.items ≡ items }
+    {
+        Limit { items }
+    }
+
+    pub fn items(self) -> u32
+        ensures { result ≡ self.items }
+    {
+        self.items
+    }
+}
+
+/// Both stacks lie in the same 244 slots: main from the bottom, alt from the top end. A slot has a code and bytes, as the
+/// crate slots has them.
+// Codes and bytes stand in two arrays: in one array of values the stacks take nearly twice the memory, and a join ten times
+// the instructions.
 #[derive(Clone, Copy)]
 pub struct Stacks {
     pub bytes: [u64; 244],
     pub mains: u32,
     pub alts: u32,
     pub codes: [u8; 244],
+    // the two stacks do not overlap
+    pub ghost room: { mains + alts ≤ 244 },
+    // every slot is as the crate slots says, in use or not
+    pub ghost sound: { Sound (slots bytes codes) },
 }
 
-// The refusals of a walk, 5 to 16 of section 7, 24 and 25 of request L2 and 30 of request L7, with those of their figures that are
-// not fixed.
-#[derive(Clone, Copy)]
-pub enum Refusal {
-    Nesting,
-    StacksFull { wanted: u32, limit: u32 },
-    MainDry { needed: u64, had: u32 },
-    AltDry,
-    BadIndex,
-    CrookedNumber,
-    NegativeIndex,
-    BadTag,
-    Unmodelled { opcode: u8 },
-    LongElement { size: usize },
-    ArmsDiffer,
-    StrayElse,
-    SecondElse,
-    StrayEndif,
-    OpenIf,
-}
-
-#[derive(Clone, Copy)]
-pub enum Answer {
-    Done,
-    Refused(Refusal),
-}
-
-// What each method returns: the changed stacks, or a refusal.
+/// What the methods by value return: the changed stacks, and whether the operation was refused.
 #[derive(Clone, Copy)]
 pub struct Stepped {
     pub stacks: Stacks,
-    pub answer: Answer,
+    pub answer: Result<(), Refusal>,
 }
 
-// An index or a count popped from main, or why there is none.
-#[derive(Clone, Copy)]
-pub enum Count {
-    At(u64),
-    Refused(Refusal),
-}
-
-// The index or the count that a value is.
-fn count_of(v: Value) -> Count
-    requires { Held v }
-    ensures { result ≡ count_of (index_of (bytes_known (item_of v))) }
-{
-    let index = read_index(v);
-    match index {
-        Index::At(n) => Count::At(n),
-        Index::Unknown => Count::Refused(Refusal::BadIndex),
-        Index::NoNumber => Count::Refused(Refusal::CrookedNumber),
-        Index::Negative => Count::Refused(Refusal::NegativeIndex),
-    }
-}
-
+/// The operations, each in place. What is refused may have dropped items already, as the definitions drop them before they ask
+/// for room.
 impl Stacks {
+    ghost use Rattle.definition.specs.Classes.{DEPTH, SIZE, PICK, ZK};
+    ghost use Rattle.definition.specs.Stacks.{push_item, drop_items, copy_items, rotate_items, tuck_top, nip_second, move_to_alt, move_from_alt, pop_index, zk_drop, plain_step};
+    ghost use Rattle.definition.specs.Walk.{exact, marking, join_stacks, unknowns};
+    ghost use Rattle.decode.specs.View.{low_bytes, item_of, Held};
+    ghost use Rattle.slots.specs.View.{slot_item, code_of, sufficient, Canon};
+    ghost use Rattle.slots.specs.Parts.{apart, turn};
+    ghost use Rattle.stack.specs.View.{view, Yields, YieldsStep, Says, Steps};
+    ghost use Rattle.stack.specs.Parts.{needed, roomy, Moves, Pops, Sizes, HasCommon};
+
+    /// So many unknown items on each stack.
     pub fn new(main: u32, alt: u32) -> Stacks
         requires { main + alt ≤ 244 }
-        ensures { Fresh main alt result }
+        ensures { view result ≡ unknowns main alt }
     {
         Stacks {
-            bytes: [0u64; 244],
+            bytes: [0; 244],
             mains: main,
             alts: alt,
-            codes: [9u8; 244],
+            codes: [UNKNOWN; 244],
         }
     }
 
-    pub fn push(self, v: Value, limit: u32) -> Stepped
-        requires fit { Fit self }
-        requires held { Held v }
-        requires limit_bound { limit ≤ 244 }
-        ensures { Says result (push_item limit (item_of v) (view self)) }
+    // Whether main has n items.
+    fn needs(&self, n: u64) -> Result<(), Refusal>
+        ensures { result ≡ needed n self.now }
     {
-        if let Value::Exact { len, bytes } = v {
-            let code = code_of(len, bytes);
-            if suffices(code) {
-                return self.push_code(code, limit);
-            }
-            return self.push_exact(len, bytes, limit);
+        if u64::from(self.mains) < n {
+            return Err(Refusal::MainDry {
+                needed: n,
+                had: self.mains,
+            });
         }
-        self.push_code(9, limit)
+        Ok(())
     }
 
-    // Pushes an item that a code says by itself.
-    pub fn push_code(mut self, code: u8, limit: u32) -> Stepped
-        requires fit { Fit self }
-        requires code_value { sufficient code ≡ true }
-        requires limit_bound { limit ≤ 244 }
-        ensures { Says result (push_item limit (slot_item code 0) (view self)) }
+    // Whether so many more items fit.
+    fn room(&self, more: u32, limit: Limit) -> Result<(), Refusal>
+        requires { more ≤ 244 }
+        ensures { result ≡ roomy more limit.items self.now }
     {
-        let m = self.mains;
-        let a = self.alts;
-        if limit < m + a + 1 {
-            return Stepped {
-                stacks: self,
-                answer: Answer::Refused(Refusal::StacksFull {
-                    wanted: m + a + 1,
-                    limit: limit,
-                }),
-            };
+        let wanted = self.mains + self.alts + more;
+        if limit.items < wanted {
+            return Err(Refusal::StacksFull {
+                wanted,
+                limit: limit.items,
+            });
         }
-        self.mains = m + 1;
-        let i = m as usize;
-        let mut codes = self.codes;
-        codes[i] = code;
-        self.codes = codes;
-        Stepped {
-            stacks: self,
-            answer: Answer::Done,
+        Ok(())
+    }
+
+    fn copy_slot(&mut self, from: usize, to: usize)
+        requires { (from < 244) × (to < 244) }
+        ensures { Moves (apart from to) to (to + 1) self.old self.new }
+    {
+        self.codes[to] = self.codes[from];
+        self.bytes[to] = self.bytes[from];
+    }
+
+    // Copies count slots to a place above them.
+    fn copy_slots(&mut self, from: usize, to: usize, count: usize)
+        requires { (from + count ≤ to) × (to + count ≤ 244) }
+        ensures { Moves (apart from to) to (to + count) self.old self.new }
+    {
+        for k in 0..count {
+            self.copy_slot(from + k, to + k);
         }
     }
 
-    // Pushes an exact item whose code does not suffice: it is its length.
-    pub fn push_exact(mut self, len: u8, bytes: u64, limit: u32) -> Stepped
-        requires fit { Fit self }
+    // Puts the lowest shift of the slots from `from` up to `to` on top of the others.
+    fn turn_slots(&mut self, from: usize, to: usize, shift: usize)
+        requires { (from + shift ≤ to) × (to ≤ 244) }
+        ensures { Moves (turn from (to - from - shift) shift) from to self.old self.new }
+    {
+        self.codes[from..to].rotate_left(shift);
+        self.bytes[from..to].rotate_left(shift);
+    }
+
+    // Pushes the item of a slot.
+    fn push_slot(&mut self, code: u8, bytes: u64, limit: Limit) -> Result<(), Refusal>
+        requires { Canon code bytes }
+        ensures { Yields result self.new (push_item limit.items (slot_item code bytes) (view self.old)) }
+    {
+        self.room(1, limit)?;
+        let top = self.mains as usize;
+        self.codes[top] = code;
+        self.bytes[top] = bytes;
+        self.mains += 1;
+        Ok(())
+    }
+
+    /// Pushes a value.
+    pub fn try_push(&mut self, v: Value, limit: Limit) -> Result<(), Refusal>
+        requires { Held v }
+        ensures { Yields result self.new (push_item limit.items (item_of v) (view self.old)) }
+    {
+        match v {
+            Value::Unknown => self.push_slot(UNKNOWN, 0, limit),
+            Value::Exact { len, bytes } => self.push_slot(code_of(len, bytes), bytes, limit),
+        }
+    }
+
+    /// Pushes an item that a code says by itself.
+    pub fn try_push_code(&mut self, code: u8, limit: Limit) -> Result<(), Refusal>
+        requires { sufficient code ≡ true }
+        ensures { Yields result self.new (push_item limit.items (slot_item code 0) (view self.old)) }
+    {
+        self.push_slot(code, 0, limit)
+    }
+
+    /// Pushes an exact item whose code does not suffice: it is its length.
+    pub fn try_push_exact(&mut self, len: u8, bytes: u64, limit: Limit) -> Result<(), Refusal>
         requires held { Held (Value.Exact len bytes) }
         requires bytes_value { sufficient (code_of len bytes) ≡ false }
-        requires limit_bound { limit ≤ 244 }
-        ensures { Says result (push_item limit (exact (low_bytes len bytes)) (view self)) }
+        ensures { Yields result self.new (push_item limit.items (exact (low_bytes len bytes)) (view self.old)) }
     {
-        let m = self.mains;
-        let a = self.alts;
-        if limit < m + a + 1 {
-            return Stepped {
-                stacks: self,
-                answer: Answer::Refused(Refusal::StacksFull {
-                    wanted: m + a + 1,
-                    limit: limit,
-                }),
-            };
+        self.push_slot(len, bytes, limit)
+    }
+
+    /// Drops n items of main.
+    pub fn try_drop_items(&mut self, n: u64) -> Result<(), Refusal>
+        ensures { Yields result self.new (drop_items n (view self.old)) }
+    {
+        self.needs(n)?;
+        self.mains -= n as u32;
+        Ok(())
+    }
+
+    /// A plain class: drops items, and then pushes one unknown item or none.
+    pub fn try_apply_effect(&mut self, pops: u32, pushes: u32, limit: Limit) -> Result<(), Refusal>
+        requires { pushes ≤ 1 }
+        ensures { Yields result self.new (plain_step marking limit.items pops pushes (view self.old)) }
+    {
+        self.try_drop_items(u64::from(pops))?;
+        if pushes == 0 {
+            return Ok(());
         }
-        self.mains = m + 1;
-        let i = m as usize;
+        self.push_slot(UNKNOWN, 0, limit)
+    }
+
+    /// Appends the lowest count of the top depth items.
+    pub fn try_extend_from_within(
+        &mut self,
+        depth: u64,
+        count: u32,
+        limit: Limit,
+    ) -> Result<(), Refusal>
+        requires { (count ≤ depth) × (count ≤ 244) }
+        ensures { Yields result self.new (copy_items limit.items depth count (view self.old)) }
+    {
+        self.needs(depth)?;
+        self.room(count, limit)?;
+        let top = self.mains as usize;
+        self.copy_slots(top - depth as usize, top, count as usize);
+        self.mains += count;
+        Ok(())
+    }
+
+    /// Puts the lowest shift of the top count items on top.
+    pub fn try_rotate_left(&mut self, count: u64, shift: u32) -> Result<(), Refusal>
+        requires { shift ≤ count }
+        ensures { Yields result self.new (rotate_items count shift (view self.old)) }
+    {
+        self.needs(count)?;
+        let top = self.mains as usize;
+        self.turn_slots(top - count as usize, top, shift as usize);
+        Ok(())
+    }
+
+    /// A copy of the top, and then the two that were on top above it.
+    pub fn try_tuck(&mut self, limit: Limit) -> Result<(), Refusal>
+        ensures { Yields result self.new (tuck_top limit.items (view self.old)) }
+    {
+        self.needs(1)?;
+        self.needs(2)?; // missing items are told before room
+        self.room(1, limit)?;
+        let top = self.mains as usize;
+        self.copy_slot(top - 1, top);
+        self.turn_slots(top - 2, top + 1, 2);
+        self.mains += 1;
+        Ok(())
+    }
+
+    /// Drops the item below the top.
+    pub fn try_nip(&mut self) -> Result<(), Refusal>
+        ensures { Yields result self.new (nip_second (view self.old)) }
+    {
+        self.needs(2)?;
+        let top = self.mains as usize - 1;
+        self.copy_slot(top, top - 1);
+        self.mains -= 1;
+        Ok(())
+    }
+
+    /// Moves the top of main to alt. No room is wanted: with 244 items the top of main lies where that of alt comes.
+    pub fn try_move_to_alt(&mut self) -> Result<(), Refusal>
+        ensures { Yields result self.new (move_to_alt (view self.old)) }
+    {
+        self.needs(1)?;
+        let from = self.mains as usize - 1;
+        let to = 243 - self.alts as usize;
+        self.copy_slot(from, to);
+        self.mains -= 1;
+        self.alts += 1;
+        Ok(())
+    }
+
+    /// Moves the top of alt to main.
+    pub fn try_move_from_alt(&mut self) -> Result<(), Refusal>
+        ensures { Yields result self.new (move_from_alt (view self.old)) }
+    {
+        if self.alts == 0 {
+            return Err(Refusal::AltDry);
+        }
+        let from = 244 - self.alts as usize;
+        let to = self.mains as usize;
+        self.copy_slot(from, to);
+        self.mains += 1;
+        self.alts -= 1;
+        Ok(())
+    }
+
+    // The codes with which each slot has what it and the other have in common.
+    fn common_codes(&self, other: &Stacks) -> [u8; 244]
+        ensures { HasCommon self.now other.now result }
+    {
         let mut codes = self.codes;
-        codes[i] = len;
-        self.codes = codes;
-        let mut all = self.bytes;
-        all[i] = bytes;
-        self.bytes = all;
+        if !join_codes(&mut codes, &other.codes) {
+            join_bytes(&mut codes, &self.bytes, &other.bytes);
+        }
+        codes
+    }
+
+    /// Leaves what two stacks of equal heights have in common.
+    pub fn try_join(&mut self, other: &Stacks) -> Result<(), Refusal>
+        ensures { Yields result self.new (join_stacks (view self.old) (view other.now)) }
+    {
+        if self.mains != other.mains || self.alts != other.alts {
+            return Err(Refusal::ArmsDiffer);
+        }
+        self.codes = self.common_codes(other);
+        Ok(())
+    }
+
+    // The index or the count on top of main, which is still there.
+    fn top_count(&self) -> Result<u64, Refusal>
+        ensures { Pops self.now result }
+    {
+        self.needs(1)?; // a missing item is told before any index
+        let top = self.mains as usize - 1;
+        Ok(read_index(slot_value(self.codes[top], self.bytes[top]))?)
+    }
+
+    /// PICK: pops an index, and copies the item so far below the top.
+    pub fn try_pick(&mut self, limit: Limit) -> Result<(), Refusal>
+        ensures { YieldsStep result self.new limit.items PICK (view self.old) }
+    {
+        let n = self.top_count()?;
+        self.mains -= 1;
+        self.try_extend_from_within(n + 1, 1, limit)
+    }
+
+    /// ROLL: pops an index, and moves the item so far below the top onto it.
+    pub fn try_roll(&mut self) -> Result<(), Refusal>
+        ensures { Yields result self.new (pop_index marking (view self.old) (λ n t. rotate_items (n + 1) 1 t)) }
+    {
+        let n = self.top_count()?;
+        self.mains -= 1;
+        self.try_rotate_left(n + 1, 1)
+    }
+
+    /// DEPTH: pushes the height of main.
+    pub fn try_depth(&mut self, limit: Limit) -> Result<(), Refusal>
+        ensures { YieldsStep result self.new limit.items DEPTH (view self.old) }
+    {
+        let height = number_value(u64::from(self.mains));
+        self.try_push(height, limit)
+    }
+
+    // What SIZE pushes over the item of a slot.
+    fn size_value(code: u8) -> Value
+        ensures { Sizes code result }
+    {
+        if code == UNKNOWN {
+            Value::Unknown
+        } else {
+            number_value(u64::from(code_length(code)))
+        }
+    }
+
+    /// SIZE: pushes the length of the top, which stays.
+    pub fn try_size(&mut self, limit: Limit) -> Result<(), Refusal>
+        ensures { YieldsStep result self.new limit.items SIZE (view self.old) }
+    {
+        self.needs(1)?;
+        let length = Stacks::size_value(self.codes[self.mains as usize - 1]);
+        self.try_push(length, limit)
+    }
+
+    // Drops n items and pushes 1.
+    fn zk_drop(&mut self, n: u64, limit: Limit) -> Result<(), Refusal>
+        ensures { Yields result self.new (zk_drop marking limit.items n (view self.old)) }
+    {
+        self.try_drop_items(n)?;
+        self.push_slot(11, 0, limit)
+    }
+
+    /// ZK: the tag 0x20 (Groth16) pops key, proof and a count, and drops that many; 0x21 (R0Succinct) drops 8. Their codes are
+    /// 10 more.
+    pub fn try_zk(&mut self, limit: Limit) -> Result<(), Refusal>
+        ensures { YieldsStep result self.new limit.items ZK (view self.old) }
+    {
+        self.needs(1)?;
+        match self.codes[self.mains as usize - 1] {
+            0x2b => {
+                self.mains -= 1;
+                self.zk_drop(8, limit)
+            }
+            // without a key or a proof, one item is missing
+            0x2a if self.mains < 3 => Err(Refusal::MainDry { needed: 1, had: 0 }),
+            0x2a => {
+                self.mains -= 3;
+                let count = self.top_count()?;
+                self.mains -= 1;
+                self.zk_drop(count, limit)
+            }
+            _ => Err(Refusal::BadTag),
+        }
+    }
+
+    // The same operations by value
+
+    pub fn push(mut self, v: Value, limit: Limit) -> Stepped
+        requires { Held v }
+        ensures { Says result (push_item limit.items (item_of v) (view self)) }
+    {
         Stepped {
+            answer: self.try_push(v, limit),
             stacks: self,
-            answer: Answer::Done,
+        }
+    }
+
+    pub fn push_code(mut self, code: u8, limit: Limit) -> Stepped
+        requires { sufficient code ≡ true }
+        ensures { Says result (push_item limit.items (slot_item code 0) (view self)) }
+    {
+        Stepped {
+            answer: self.try_push_code(code, limit),
+            stacks: self,
+        }
+    }
+
+    pub fn push_exact(mut self, len: u8, bytes: u64, limit: Limit) -> Stepped
+        requires held { Held (Value.Exact len bytes) }
+        requires bytes_value { sufficient (code_of len bytes) ≡ false }
+        ensures { Says result (push_item limit.items (exact (low_bytes len bytes)) (view self)) }
+    {
+        Stepped {
+            answer: self.try_push_exact(len, bytes, limit),
+            stacks: self,
         }
     }
 
     pub fn drop_items(mut self, n: u64) -> Stepped
-        requires { Fit self }
         ensures { Says result (drop_items n (view self)) }
     {
-        let m = self.mains;
-        if (m as u64) < n {
-            return Stepped {
-                stacks: self,
-                answer: Answer::Refused(Refusal::MainDry { needed: n, had: m }),
-            };
-        }
-        self.mains = m - (n as u32);
         Stepped {
+            answer: self.try_drop_items(n),
             stacks: self,
-            answer: Answer::Done,
         }
     }
 
-    // A plain class.
-    pub fn apply_effect(mut self, pops: u32, pushes: u32, limit: u32) -> Stepped
-        requires fit { Fit self }
-        requires pushes_bound { pushes ≤ 1 }
-        requires limit_bound { limit ≤ 244 }
-        ensures { Says result (plain_step marking limit pops pushes (view self)) }
+    pub fn apply_effect(mut self, pops: u32, pushes: u32, limit: Limit) -> Stepped
+        requires { pushes ≤ 1 }
+        ensures { Says result (plain_step marking limit.items pops pushes (view self)) }
     {
-        let m = self.mains;
-        let a = self.alts;
-        if m < pops {
-            return Stepped {
-                stacks: self,
-                answer: Answer::Refused(Refusal::MainDry {
-                    needed: pops as u64,
-                    had: m,
-                }),
-            };
-        }
-        let n = m - pops;
-        self.mains = n;
-        if pushes == 0 {
-            return Stepped {
-                stacks: self,
-                answer: Answer::Done,
-            };
-        }
-        if limit < n + a + 1 {
-            return Stepped {
-                stacks: self,
-                answer: Answer::Refused(Refusal::StacksFull {
-                    wanted: n + a + 1,
-                    limit: limit,
-                }),
-            };
-        }
-        let i = n as usize;
-        self.mains = n + 1;
-        let mut codes = self.codes;
-        if codes[i] == 9 {
-            return Stepped {
-                stacks: self,
-                answer: Answer::Done,
-            };
-        }
-        codes[i] = 9;
-        self.codes = codes;
         Stepped {
+            answer: self.try_apply_effect(pops, pushes, limit),
             stacks: self,
-            answer: Answer::Done,
         }
     }
 
-    // Appends the lowest count of the top depth items.
-    pub fn extend_from_within(mut self, depth: u64, count: u32, limit: u32) -> Stepped
-        requires fit { Fit self }
-        requires count_le_depth { (count ≤ depth) × (count ≤ 244) }
-        requires limit_bound { limit ≤ 244 }
-        ensures { Says result (copy_items limit depth count (view self)) }
+    pub fn extend_from_within(mut self, depth: u64, count: u32, limit: Limit) -> Stepped
+        requires { (count ≤ depth) × (count ≤ 244) }
+        ensures { Says result (copy_items limit.items depth count (view self)) }
     {
-        let m = self.mains;
-        let a = self.alts;
-        if (m as u64) < depth {
-            return Stepped {
-                stacks: self,
-                answer: Answer::Refused(Refusal::MainDry {
-                    needed: depth,
-                    had: m,
-                }),
-            };
-        }
-        if limit < m + a + count {
-            return Stepped {
-                stacks: self,
-                answer: Answer::Refused(Refusal::StacksFull {
-                    wanted: m + a + count,
-                    limit: limit,
-                }),
-            };
-        }
-        let to = m as usize;
-        let from = to - depth as usize;
-        let n = count as usize;
-        self.mains = m + count;
-        let codes = self.codes;
-        let moved = copy_codes(codes, from, to, n);
-        let suffice = all_suffice(moved, to, n);
-        self.codes = moved;
-        if suffice {
-            return Stepped {
-                stacks: self,
-                answer: Answer::Done,
-            };
-        }
-        let bytes = self.bytes;
-        let moved_bytes = copy_bytes(bytes, from, to, n);
-        self.bytes = moved_bytes;
         Stepped {
+            answer: self.try_extend_from_within(depth, count, limit),
             stacks: self,
-            answer: Answer::Done,
         }
     }
 
-    // Puts the lowest shift, 1 or 2, of the top count items on top.
     pub fn rotate_left(mut self, count: u64, shift: u32) -> Stepped
-        requires fit { Fit self }
-        requires le_shift { (1 ≤ shift) × (shift ≤ 2) × (shift ≤ count) }
+        requires { shift ≤ count }
         ensures { Says result (rotate_items count shift (view self)) }
     {
-        let m = self.mains;
-        if (m as u64) < count {
-            return Stepped {
-                stacks: self,
-                answer: Answer::Refused(Refusal::MainDry {
-                    needed: count,
-                    had: m,
-                }),
-            };
-        }
-        let n = count as usize;
-        let k = shift as usize;
-        let b = m as usize - n;
-        let codes = self.codes;
-        let turned = rotate_codes(codes, b, k, n - k);
-        let suffice = all_suffice(turned, b, n);
-        self.codes = turned;
-        if suffice {
-            return Stepped {
-                stacks: self,
-                answer: Answer::Done,
-            };
-        }
-        let bytes = self.bytes;
-        let turned_bytes = rotate_bytes(bytes, b, k, n - k);
-        self.bytes = turned_bytes;
         Stepped {
+            answer: self.try_rotate_left(count, shift),
             stacks: self,
-            answer: Answer::Done,
         }
     }
 
-    // A copy of the top, and then the two that were on top above it.
-    pub fn tuck(mut self, limit: u32) -> Stepped
-        requires fit { Fit self }
-        requires limit_bound { limit ≤ 244 }
-        ensures { Says result (tuck_top limit (view self)) }
+    pub fn tuck(mut self, limit: Limit) -> Stepped
+        ensures { Says result (tuck_top limit.items (view self)) }
     {
-        let m = self.mains;
-        let a = self.alts;
-        let wanted = m + a + 1;
-        if m < 1 {
-            return Stepped {
-                stacks: self,
-                answer: Answer::Refused(Refusal::MainDry { needed: 1, had: m }),
-            };
-        }
-        if m < 2 {
-            return Stepped {
-                stacks: self,
-                answer: Answer::Refused(Refusal::MainDry { needed: 2, had: m }),
-            };
-        }
-        if limit < wanted {
-            return Stepped {
-                stacks: self,
-                answer: Answer::Refused(Refusal::StacksFull { wanted, limit }),
-            };
-        }
-        let b = (m - 2) as usize;
-        self.mains = m + 1;
-        let codes = self.codes;
-        let copied = copy_codes(codes, b + 1, b + 2, 1);
-        let turned = rotate_codes(copied, b, 2, 1);
-        let suffice = all_suffice(turned, b, 3);
-        self.codes = turned;
-        if suffice {
-            return Stepped {
-                stacks: self,
-                answer: Answer::Done,
-            };
-        }
-        let bytes = self.bytes;
-        let copies = copy_bytes(bytes, b + 1, b + 2, 1);
-        let turned_bytes = rotate_bytes(copies, b, 2, 1);
-        self.bytes = turned_bytes;
         Stepped {
+            answer: self.try_tuck(limit),
             stacks: self,
-            answer: Answer::Done,
         }
     }
 
     pub fn nip(mut self) -> Stepped
-        requires { Fit self }
         ensures { Says result (nip_second (view self)) }
     {
-        let m = self.mains;
-        if m < 2 {
-            return Stepped {
-                stacks: self,
-                answer: Answer::Refused(Refusal::MainDry { needed: 2, had: m }),
-            };
-        }
-        let b = (m - 2) as usize;
-        self.mains = m - 1;
-        let codes = self.codes;
-        let moved = copy_codes(codes, b + 1, b, 1);
-        let suffice = all_suffice(moved, b, 1);
-        self.codes = moved;
-        if suffice {
-            return Stepped {
-                stacks: self,
-                answer: Answer::Done,
-            };
-        }
-        let bytes = self.bytes;
-        let moved_bytes = copy_bytes(bytes, b + 1, b, 1);
-        self.bytes = moved_bytes;
         Stepped {
+            answer: self.try_nip(),
             stacks: self,
-            answer: Answer::Done,
         }
     }
 
     pub fn move_to_alt(mut self) -> Stepped
-        requires { Fit self }
         ensures { Says result (move_to_alt (view self)) }
     {
-        let m = self.mains;
-        let a = self.alts;
-        if m < 1 {
-            return Stepped {
-                stacks: self,
-                answer: Answer::Refused(Refusal::MainDry { needed: 1, had: m }),
-            };
-        }
-        let from = (m - 1) as usize;
-        let to = (243 - a) as usize;
-        self.mains = m - 1;
-        self.alts = a + 1;
-        // with 244 items this is the slot that alt takes: the item stays, and no room is wanted
-        if from == to {
-            return Stepped {
-                stacks: self,
-                answer: Answer::Done,
-            };
-        }
-        let codes = self.codes;
-        if codes[from] == 9 {
-            if codes[to] == 9 {
-                return Stepped {
-                    stacks: self,
-                    answer: Answer::Done,
-                };
-            }
-        }
-        let moved = copy_codes(codes, from, to, 1);
-        let suffice = all_suffice(moved, to, 1);
-        self.codes = moved;
-        if suffice {
-            return Stepped {
-                stacks: self,
-                answer: Answer::Done,
-            };
-        }
-        let bytes = self.bytes;
-        let moved_bytes = copy_bytes(bytes, from, to, 1);
-        self.bytes = moved_bytes;
         Stepped {
+            answer: self.try_move_to_alt(),
             stacks: self,
-            answer: Answer::Done,
         }
     }
 
     pub fn move_from_alt(mut self) -> Stepped
-        requires { Fit self }
         ensures { Says result (move_from_alt (view self)) }
     {
-        let m = self.mains;
-        let a = self.alts;
-        if a < 1 {
-            return Stepped {
-                stacks: self,
-                answer: Answer::Refused(Refusal::AltDry),
-            };
-        }
-        let from = (244 - a) as usize;
-        let to = m as usize;
-        self.mains = m + 1;
-        self.alts = a - 1;
-        let codes = self.codes;
-        if codes[from] == 9 {
-            if codes[to] == 9 {
-                return Stepped {
-                    stacks: self,
-                    answer: Answer::Done,
-                };
-            }
-        }
-        let moved = copy_codes(codes, from, to, 1);
-        let suffice = all_suffice(moved, to, 1);
-        self.codes = moved;
-        if suffice {
-            return Stepped {
-                stacks: self,
-                answer: Answer::Done,
-            };
-        }
-        let bytes = self.bytes;
-        let moved_bytes = copy_bytes(bytes, from, to, 1);
-        self.bytes = moved_bytes;
         Stepped {
+            answer: self.try_move_from_alt(),
             stacks: self,
-            answer: Answer::Done,
         }
     }
 
     pub fn join(mut self, other: Stacks) -> Stepped
-        requires fit { Fit self }
-        requires fit_2 { Fit other }
         ensures { Says result (join_stacks (view self) (view other)) }
     {
-        let m = self.mains;
-        let a = self.alts;
-        if m != other.mains {
-            return Stepped {
-                stacks: self,
-                answer: Answer::Refused(Refusal::ArmsDiffer),
-            };
-        }
-        if a != other.alts {
-            return Stepped {
-                stacks: self,
-                answer: Answer::Refused(Refusal::ArmsDiffer),
-            };
-        }
-        let codes = self.codes;
-        let codes1 = other.codes;
-        let low = common_codes(codes, codes1, 0, m as usize);
-        let all = common_codes(low, codes1, (244 - a) as usize, 244);
-        let suffice = all_suffice(all, 0, m as usize);
-        let suffice1 = all_suffice(all, (244 - a) as usize, a as usize);
-        if suffice {
-            if suffice1 {
-                self.codes = all;
-                return Stepped {
-                    stacks: self,
-                    answer: Answer::Done,
-                };
-            }
-        }
-        let bytes = self.bytes;
-        let bytes1 = other.bytes;
-        let main = join_codes(codes, bytes, codes1, bytes1, 0, m as usize);
-        let both = join_codes(main, bytes, codes1, bytes1, (244 - a) as usize, 244);
-        self.codes = both;
         Stepped {
+            answer: self.try_join(&other),
             stacks: self,
-            answer: Answer::Done,
         }
     }
 
-    // The index or the count on top of main, which is still there.
-    fn top_count(self) -> Count
-        requires { Fit self }
-        ensures { Pops self result }
+    pub fn pick(mut self, limit: Limit) -> Stepped
+        ensures { Steps result limit.items PICK (view self) }
     {
-        let m = self.mains;
-        if m < 1 {
-            return Count::Refused(Refusal::MainDry { needed: 1, had: m });
-        }
-        let i = (m - 1) as usize;
-        let codes = self.codes;
-        let code = codes[i];
-        if suffices(code) {
-            return count_of(slot_value(code, 0));
-        }
-        let bytes = self.bytes;
-        let n = bytes[i];
-        count_of(slot_value(code, n))
-    }
-
-    // PICK and ROLL judge everything before they write, and do not call the methods above, which judge again: a copy of both
-    // arrays would be kept across the call.
-    pub fn pick(mut self, limit: u32) -> Stepped
-        requires fit { Fit self }
-        requires limit_bound { limit ≤ 244 }
-        ensures { Steps result limit PICK (view self) }
-    {
-        let count = self.top_count();
-        match count {
-            Count::Refused(refusal) => {
-                return Stepped {
-                    stacks: self,
-                    answer: Answer::Refused(refusal),
-                };
-            }
-            Count::At(n) => {
-                let depth = n + 1;
-                let m = self.mains - 1;
-                let a = self.alts;
-                self.mains = m;
-                if (m as u64) < depth {
-                    return Stepped {
-                        stacks: self,
-                        answer: Answer::Refused(Refusal::MainDry {
-                            needed: depth,
-                            had: m,
-                        }),
-                    };
-                }
-                if limit < m + a + 1 {
-                    return Stepped {
-                        stacks: self,
-                        answer: Answer::Refused(Refusal::StacksFull {
-                            wanted: m + a + 1,
-                            limit: limit,
-                        }),
-                    };
-                }
-                let i = m as usize;
-                let from = i - depth as usize;
-                self.mains = m + 1;
-                let codes = self.codes;
-                let moved = copy_codes(codes, from, i, 1);
-                let suffice = all_suffice(moved, i, 1);
-                self.codes = moved;
-                if suffice {
-                    return Stepped {
-                        stacks: self,
-                        answer: Answer::Done,
-                    };
-                }
-                let bytes = self.bytes;
-                let moved_bytes = copy_bytes(bytes, from, i, 1);
-                self.bytes = moved_bytes;
-                return Stepped {
-                    stacks: self,
-                    answer: Answer::Done,
-                };
-            }
+        Stepped {
+            answer: self.try_pick(limit),
+            stacks: self,
         }
     }
 
     pub fn roll(mut self) -> Stepped
-        requires { Fit self }
         ensures { Says result (pop_index marking (view self) (λ n t. rotate_items (n + 1) 1 t)) }
     {
-        let count = self.top_count();
-        match count {
-            Count::Refused(refusal) => {
-                return Stepped {
-                    stacks: self,
-                    answer: Answer::Refused(refusal),
-                };
-            }
-            Count::At(n) => {
-                let count = n + 1;
-                let m = self.mains - 1;
-                self.mains = m;
-                if (m as u64) < count {
-                    return Stepped {
-                        stacks: self,
-                        answer: Answer::Refused(Refusal::MainDry {
-                            needed: count,
-                            had: m,
-                        }),
-                    };
-                }
-                let k = count as usize;
-                let b = m as usize - k;
-                let codes = self.codes;
-                let turned = rotate_codes(codes, b, 1, k - 1);
-                let suffice = all_suffice(turned, b, k);
-                self.codes = turned;
-                if suffice {
-                    return Stepped {
-                        stacks: self,
-                        answer: Answer::Done,
-                    };
-                }
-                let bytes = self.bytes;
-                let turned_bytes = rotate_bytes(bytes, b, 1, k - 1);
-                self.bytes = turned_bytes;
-                return Stepped {
-                    stacks: self,
-                    answer: Answer::Done,
-                };
-            }
+        Stepped {
+            answer: self.try_roll(),
+            stacks: self,
         }
     }
 
-    pub fn depth(self, limit: u32) -> Stepped
-        requires fit { Fit self }
-        requires limit_bound { limit ≤ 244 }
-        ensures { Steps result limit DEPTH (view self) }
+    pub fn depth(mut self, limit: Limit) -> Stepped
+        ensures { Steps result limit.items DEPTH (view self) }
     {
-        let v = number_value(self.mains as u64);
-        self.push(v, limit)
+        Stepped {
+            answer: self.try_depth(limit),
+            stacks: self,
+        }
     }
 
-    pub fn size(self, limit: u32) -> Stepped
-        requires fit { Fit self }
-        requires limit_bound { limit ≤ 244 }
-        ensures { Steps result limit SIZE (view self) }
+    pub fn size(mut self, limit: Limit) -> Stepped
+        ensures { Steps result limit.items SIZE (view self) }
     {
-        let m = self.mains;
-        if m < 1 {
-            return Stepped {
-                stacks: self,
-                answer: Answer::Refused(Refusal::MainDry { needed: 1, had: m }),
-            };
+        Stepped {
+            answer: self.try_size(limit),
+            stacks: self,
         }
-        let i = (m - 1) as usize;
-        let codes = self.codes;
-        let code = codes[i];
-        if code == 9 {
-            return self.apply_effect(0, 1, limit);
-        }
-        let v = number_value(code_length(code) as u64);
-        self.push(v, limit)
     }
 
-    // Drops n items and pushes 1.
-    fn zk_drop(mut self, n: u64, limit: u32) -> Stepped
-        requires fit { Fit self }
-        requires limit_bound { limit ≤ 244 }
-        ensures { Says result (zk_drop marking limit n (view self)) }
+    pub fn zk(mut self, limit: Limit) -> Stepped
+        ensures { Steps result limit.items ZK (view self) }
     {
-        let m = self.mains;
-        if (m as u64) < n {
-            return Stepped {
-                stacks: self,
-                answer: Answer::Refused(Refusal::MainDry { needed: n, had: m }),
-            };
-        }
-        self.mains = m - (n as u32);
-        self.push_code(11, limit)
-    }
-
-    // The tag 0x20 (Groth16) pops key, proof and a count, and drops that many; 0x21 (R0Succinct) drops 8. Their codes are 10
-    // more.
-    pub fn zk(mut self, limit: u32) -> Stepped
-        requires fit { Fit self }
-        requires limit_bound { limit ≤ 244 }
-        ensures { Steps result limit ZK (view self) }
-    {
-        let m = self.mains;
-        if m < 1 {
-            return Stepped {
-                stacks: self,
-                answer: Answer::Refused(Refusal::MainDry { needed: 1, had: m }),
-            };
-        }
-        let i = (m - 1) as usize;
-        let codes = self.codes;
-        let code = codes[i];
-        if code == 0x2b {
-            self.mains = m - 1;
-            return self.zk_drop(8, limit);
-        }
-        if code != 0x2a {
-            return Stepped {
-                stacks: self,
-                answer: Answer::Refused(Refusal::BadTag),
-            };
-        }
-        // without a key or a proof, one item is missing
-        if m < 3 {
-            return Stepped {
-                stacks: self,
-                answer: Answer::Refused(Refusal::MainDry { needed: 1, had: 0 }),
-            };
-        }
-        self.mains = m - 3;
-        let count = self.top_count();
-        match count {
-            Count::At(n) => {
-                self.mains = m - 4;
-                self.zk_drop(n, limit)
-            }
-            Count::Refused(why) => Stepped {
-                stacks: self,
-                answer: Answer::Refused(why),
-            },
+        Stepped {
+            answer: self.try_zk(limit),
+            stacks: self,
         }
     }
 }

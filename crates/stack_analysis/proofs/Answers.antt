@@ -1,75 +1,40 @@
 -- The verdict that a walk comes to.
 use mathlib.Core.Bool.{true, false}
 use mathlib.Core.List.{List, []}
+use mathlib.Core.Option.{Option, some, none}
 use mathlib.Core.Path.{◌≡◌, refl, ◌∙◌}
 use Prim.Native.Nat.{ℕ}
+use Rattle.std.specs.Prelude.{Result, Ok, Err, Some, None}
 use Rattle.definition.specs.Basics.{Bytes}
 use Rattle.definition.specs.Refusals as D
 use Rattle.definition.specs.Stacks.{Rules}
-use Rattle.definition.specs.Walk.{dead, refused_verdict}
-use Rattle.stack.specs.View.{refusal_of}
-use Rattle.stack.specs.declared.Refusal.{Refusal}
 use Rattle.ends.proofs.Packing.{main-length, alt-length}
-use Rattle.stack_analysis.specs.View.{summarized}
-use Rattle.walk.specs.Runs.{arm, resume, resume_by}
-use Rattle.arms.specs.Walkers.{Ended, concluded, concluded_by}
-use Rattle.walk.specs.declared.Stop.{Stop}
-use Rattle.walk.specs.declared.Stop.TheVariants.{Running, End, Conditional, Else, Endif, Refused}
-use Rattle.stack_analysis.specs.declared.Summary.{Summary}
+use Rattle.refusals.specs.declared.Refusal.{Refusal}
+use Rattle.stack.specs.declared.Stacks.{Stacks}
+use Rattle.walk.specs.Runs.{arm_of, ending, stand, resume}
+use Rattle.walk.specs.declared.ArmEnd.{ArmEnd}
+use Rattle.walk.specs.declared.ArmEnd.TheVariants.{End, Else, Endif}
 use Rattle.walk.specs.declared.Walk.{Walk}
+use Rattle.arms.specs.Walkers.{concluded}
+use Rattle.stack_analysis.specs.View.{summarized}
 
--- a refusal
-pub refused-is : (number offset first second rows : ℕ)
-    → record { number = number; offset = offset; first = first; second = second; rows = rows; peak = 0; ended = false; main = 0; alt = 0 }
-    ≡ summarized (record { answer = D.answer number offset first second; rows = rows; peak = 0; end = dead })
+-- accepted, with the stacks of the end or none
+pub accepts-live : (rows peak : ℕ) (s : Stacks)
+    → record { number = 0; offset = 0; first = 0; second = 0; rows = rows; peak = peak; ended = true; main = s.mains; alt = s.alts }
+    ≡ summarized (record { answer = D.answer 0 0 0 0; rows = rows; peak = peak; end = arm_of (Some s) })
 unfolding summarized
-refused-is number offset first second rows = refl
+accepts-live rows peak s = rw (main-length s, alt-length s)
 
-pub refused-walk-is : (at rows number first second : ℕ) (r : D.Refusal) (v : Summary)
-    → ((offset : ℕ) → D.refused_at offset r ≡ D.answer number offset first second)
-    → v ≡ summarized (record { answer = D.answer number at first second; rows = rows; peak = 0; end = dead }) → v ≡ summarized (refused_verdict at r rows)
-refused-walk-is at rows number first second r v f e = e ∙ rw (← (f at))
+pub accepts-dead : (rows peak : ℕ)
+    → record { number = 0; offset = 0; first = 0; second = 0; rows = rows; peak = peak; ended = false; main = 0; alt = 0 }
+    ≡ summarized (record { answer = D.answer 0 0 0 0; rows = rows; peak = peak; end = arm_of None })
+unfolding summarized
+accepts-dead rows peak = refl
 
-module _ (w : Walk) where
-  pub accepts-live : w.live ≡ true
-      → record { number = 0; offset = 0; first = 0; second = 0; rows = w.rows; peak = w.peak; ended = true; main = w.stacks.mains; alt = w.stacks.alts }
-      ≡ summarized (record { answer = D.answer 0 0 0 0; rows = w.rows; peak = w.peak; end = arm w })
-  unfolding summarized
-  accepts-live l = rw (l, main-length w.stacks, alt-length w.stacks)
-
-  pub accepts-dead : w.live ≡ false
-      → record { number = 0; offset = 0; first = 0; second = 0; rows = w.rows; peak = w.peak; ended = false; main = 0; alt = 0 }
-      ≡ summarized (record { answer = D.answer 0 0 0 0; rows = w.rows; peak = w.peak; end = arm w })
-  unfolding summarized
-  accepts-dead l = rw l
-
-  -- by how it stands
-  pub concludes-end : w.stop ≡ End → (v : Summary) → v ≡ summarized (record { answer = D.answer 0 0 0 0; rows = w.rows; peak = w.peak; end = arm w }) → v ≡ summarized (concluded w)
-  concludes-end e v k = k ∙ rw e
-
-  pub concludes-else : w.stop ≡ Else → (v : Summary) → v ≡ summarized (refused_verdict w.last D.stray_else w.rows) → v ≡ summarized (concluded w)
-  concludes-else e v k = k ∙ rw e
-
-  pub concludes-endif : w.stop ≡ Endif → (v : Summary) → v ≡ summarized (refused_verdict w.last D.stray_endif w.rows) → v ≡ summarized (concluded w)
-  concludes-endif e v k = k ∙ rw e
-
-  pub concludes-refused : (r : Refusal) → w.stop ≡ Refused r → (v : Summary) → v ≡ summarized (refused_verdict w.last (refusal_of r) w.rows) → v ≡ summarized (concluded w)
-  concludes-refused r e v k = k ∙ rw e
-
-  pub never-running : Ended w.stop → w.stop ≡ Running → (v : Summary) → v ≡ summarized (concluded w)
-  never-running n e v = absurd (rw e at n)
-
-  pub never-conditional : Ended w.stop → w.stop ≡ Conditional → (v : Summary) → v ≡ summarized (concluded w)
-  never-conditional n e v = absurd (rw e at n)
-
-  -- and that is what is left of the definition's walk
-  pub concluded-is : (R : Rules) (s : Bytes) (log : List ℕ) → Ended w.stop → resume R s w [] log ≡ record { verdict = concluded w; log = log }
-  concluded-is R s log n = by w.stop n
-    where
-      by : (x : Stop) → Ended x → resume_by R s x w [] log ≡ record { verdict = concluded_by x w; log = log }
-      by Running h = absurd h
-      by Conditional h = absurd h
-      by End h = refl
-      by Else h = refl
-      by Endif h = refl
-      by (Refused r) h = refl
+-- and that is what is left of the definition's walk
+pub concluded-is : (R : Rules) (s : Bytes) (w : Walk) (log : List ℕ) (r : Result ArmEnd Refusal)
+    → resume R s (stand w (ending r)) [] log ≡ record { verdict = concluded r w; log = log }
+concluded-is R s w log (Ok End) = refl
+concluded-is R s w log (Ok Else) = refl
+concluded-is R s w log (Ok Endif) = refl
+concluded-is R s w log (Err r) = refl

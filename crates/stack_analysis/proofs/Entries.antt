@@ -1,37 +1,38 @@
 -- The entry point: its answer is the definition's analysis, and demand 3 holds of it.
 use mathlib.Core.Bool.{Bool, true, false}
 use mathlib.Core.List.{List, []}
-use mathlib.Core.Option.{Option, none, some}
+use mathlib.Core.Option as O
+use mathlib.Core.Option.{none, some}
 use mathlib.Core.Path.{◌≡◌, refl, sym, ap, ap₂, subst, ◌∙◌}
 use Prim.Native.Nat.{ℕ, ◌+◌, ◌*◌, ◌-◌, ◌≤◌, ◌<◌, max}
 use native.Mathlib.Omega.{arith}
 use borrow.Author.Tests.{lt-ltb, le-ltb, le-leb, lt-leb}
 use lib.ListN.{length, replicate, length-replicate}
+use Rattle.std.specs.Prelude.{Option, Some, None, Result, Ok, Err}
 use Rattle.definition.specs.Basics.{Bytes}
 use Rattle.definition.specs.Decoding.{decode, instructions, malformed_at}
 use Rattle.definition.specs.Refusals as D
 use Rattle.definition.specs.Replay.{Demand3}
-use Rattle.definition.specs.Stacks.{Rules, built_in}
-use Rattle.definition_rules.specs.Maps.{Options, rules_by, built_in_options}
-use Rattle.opcodes.specs.View.{BuiltInRows}
+use Rattle.definition.specs.Stacks.{Rules}
 use Rattle.definition.specs.Walk.{Arm, dead, live, Marked, answered, begin, walk, unknowns, analysis_of, analysis, refused_early, refused_verdict, tested}
 use Rattle.definition.specs.Walk as W
 use Rattle.definition.proofs.TrueOfEveryReplay.{true_of_analysis}
 use Rattle.decode.specs.View.{code_at, Count, counted_of, count_by, count_in}
-use Rattle.decode.specs.declared.Counted.TheVariants as C
+use Rattle.decode.specs.declared.Malformed.{Malformed}
 use Rattle.decode.proofs.Codes.{code-start, code-length}
+use Rattle.refusals.specs.declared.Refusal.{Refusal}
 use Rattle.ends.specs.View.{packed_end, no_stacks}
 use Rattle.ends.specs.declared.EndStacks.{EndStacks}
-use Rattle.stack.specs.View.{view, Fit, Fresh}
+use Rattle.stack.specs.View.{view}
 use Rattle.ends.proofs.Ends.{packed-main, packed-alt}
 use Rattle.stack.specs.declared.Stacks.{Stacks}
 use Rattle.ends.proofs.Packing.{main-length, alt-length, ends-back}
 use Rattle.stack_analysis.specs.View.{end_of, verdict_of, has_end, end_stacks, packed_verdict, summarized}
-use Rattle.stack_analysis.specs.Entry.{RefusedEarly, MayWalk, Stops, with_end}
-use Rattle.walk.specs.Runs.{arm_of, resume, Ready}
-use Rattle.arms.specs.Walkers.{Walks, concluded, concluded_by}
-use Rattle.walk.specs.declared.Stop.{Stop}
-use Rattle.walk.specs.declared.Stop.TheVariants.{Running, End, Conditional, Else, Endif, Refused}
+use Rattle.stack_analysis.specs.Entry.{MayWalk, Begins, with_end}
+use Rattle.walk.specs.Runs.{arm_of, running, stand, resume, Ready}
+use Rattle.arms.specs.Walkers.{Walks, concluded}
+use Rattle.walk.specs.declared.ArmEnd.{ArmEnd}
+use Rattle.walk.specs.declared.ArmEnd.TheVariants.{End, Else, Endif}
 use Rattle.stack_analysis.specs.declared.Summary.{Summary}
 use Rattle.stack_analysis.specs.declared.Verdict.{Verdict}
 use Rattle.walk.specs.declared.Walk.{Walk}
@@ -42,67 +43,55 @@ module _ (R : Rules) (s : Bytes) (main alt : ℕ) (log : List ℕ) where
   abbrev pub walked : Marked
   walked = answered (walk R (instructions (decode s)) (begin (unknowns main alt) log))
 
-  started : (v : Walk) → v.stop ≡ Running → v.live ≡ true → v.at ≡ 0 → v.last ≡ 0 → v.rows ≡ 0 → v.peak ≡ main + alt → Fresh main alt v.stacks
-      → resume R s v [] log ≡ walked
-  started v stop alive at last rows peak f =
+  started : (v : Walk) → Begins main alt v → resume R s (stand v running) [] log ≡ walked
+  started v b =
       let total : max (main + alt) (length (replicate main W.unknown) + length (replicate alt W.unknown)) ≡ length (replicate main W.unknown) + length (replicate alt W.unknown)
       = simp length-replicate (omega arith) in
-      rw (stop, at, ← (code-start s), last, rows, peak, alive, f.same, total)
+      rw (b.arm, b.at, ← (code-start s), b.last, b.rows, b.peak, total)
 
--- the walk of a fragment has stopped
-pub walk-stops : (R : Rules) (s : Bytes) (main alt : ℕ) (log new : List ℕ) (v w : Walk) → Walks R s 0 v log w new
-    → v.stop ≡ Running → v.live ≡ true → v.at ≡ 0 → v.last ≡ 0 → v.rows ≡ 0 → v.peak ≡ main + alt → Fresh main alt v.stacks
-    → Stops w new (walked R s main alt log)
-walk-stops R s main alt log new v w g stop alive at last rows peak f = record {
-  fit = g.goes.fit;
-  ended = g.ended;
-  same = sym (started R s main alt log v stop alive at last rows peak f) ∙ g.goes.same [] refl ∙ concluded-is w R s new g.ended;
-}
+-- the walk of a fragment has ended
+pub walk-ends : (R : Rules) (s : Bytes) (main alt : ℕ) (log new : List ℕ) (v w : Walk) (r : Result ArmEnd Refusal) → Walks R s 0 v log w r new
+    → Begins main alt v → walked R s main alt log ≡ record { verdict = concluded r w; log = new }
+walk-ends R s main alt log new v w r g b = sym (started R s main alt log v b) ∙ g.goes.same [] refl ∙ concluded-is R s w new r
 
 -- The tests before the walk
 
-counted-malformed : (m : Option ℕ) (n offset : ℕ) → counted_of (C.Malformed offset) ≡ count_by m n → m ≡ some offset
-counted-malformed none n offset e = absurd (omega (arith, ap (λ (c : Count). c.answer.number) e))
-counted-malformed (some p) n offset e = ap some (sym (ap (λ (c : Count). c.answer.offset) e))
+counted-malformed : (m : O.Option ℕ) (n : ℕ) (e : Malformed) → counted_of (Err e) ≡ count_by m n → m ≡ some e.offset
+counted-malformed none n e q = absurd (omega (arith, ap (λ (c : Count). c.answer.number) q))
+counted-malformed (some p) n e q = ap some (sym (ap (λ (c : Count). c.answer.offset) q))
 
-counted-whole : (m : Option ℕ) (n k : ℕ) → counted_of (C.Whole k) ≡ count_by m n → (m ≡ none) × (k ≡ n)
+counted-whole : (m : O.Option ℕ) (n k : ℕ) → counted_of (Ok k) ≡ count_by m n → (m ≡ none) × (k ≡ n)
 counted-whole none n k e = (refl, ap (λ (c : Count). c.count) e)
 counted-whole (some p) n k e = absurd (omega (arith, ap (λ (c : Count). c.answer.number) e))
 
-counts : (s : Bytes) (n : ℕ) → counted_of (C.Whole n) ≡ count_in (decode s) → n ≡ length (instructions (decode s))
+pub counts : (s : Bytes) (n : ℕ) → counted_of (Ok n) ≡ count_in (decode s) → n ≡ length (instructions (decode s))
 counts s n c = (counted-whole (malformed_at (decode s)) (length (instructions (decode s))) n c).1
 
 module _ (R : Rules) (s : Bytes) (main alt : ℕ) (log : List ℕ) where
-  -- an early refusal
-  refuses-early : (offset : ℕ) (x : D.Refusal) (r : Summary) → analysis R s main alt log ≡ refused_early offset x log → r ≡ summarized (refused_verdict offset x 0)
-      → RefusedEarly r log (analysis R s main alt log)
-  refuses-early offset x r e k = record { same = rw e k; none = rw e; logged = rw e }
-
-  pub too_long_lem : 10000 < length s → (r : Summary) → r ≡ summarized (refused_verdict 0 (D.long_fragment (length s)) 0) → RefusedEarly r log (analysis R s main alt log)
+  pub too_long_lem : 10000 < length s → analysis R s main alt log ≡ refused_early 0 (D.long_fragment (length s)) log
   unfolding analysis
-  too_long_lem h r e = refuses-early 0 (D.long_fragment (length s)) r (rw (lt-ltb 10000 (length s) h)) e
+  too_long_lem h = rw (lt-ltb 10000 (length s) h)
 
   module _ (limit : ℕ) (limited : R.limit ≡ limit) (short : length s ≤ 10000) where
-    pub too-high : limit < main + alt → (r : Summary) → r ≡ summarized (refused_verdict 0 (D.start_too_large (main + alt) limit) 0) → RefusedEarly r log (analysis R s main alt log)
+    pub too-high : limit < main + alt → analysis R s main alt log ≡ refused_early 0 (D.start_too_large (main + alt) limit) log
     unfolding analysis
-    too-high h r e = refuses-early 0 (D.start_too_large (main + alt) limit) r (rw (le-ltb 10000 (length s) short, limited, lt-ltb limit (main + alt) h)) e
+    too-high h = rw (le-ltb 10000 (length s) short, limited, lt-ltb limit (main + alt) h)
 
     module _ (low : main + alt ≤ limit) where
       in_code : analysis R s main alt log ≡ tested R (malformed_at (decode s)) (instructions (decode s)) (unknowns main alt) log
       unfolding analysis analysis_of
       in_code = rw (le-ltb 10000 (length s) short, limited, le-ltb limit (main + alt) low)
 
-      pub not-whole : (offset : ℕ) → counted_of (C.Malformed offset) ≡ count_in (decode s)
-          → (r : Summary) → r ≡ summarized (refused_verdict offset D.malformed_fragment 0) → RefusedEarly r log (analysis R s main alt log)
-      not-whole offset c r e = refuses-early offset D.malformed_fragment r (in_code ∙ rw (counted-malformed (malformed_at (decode s)) (length (instructions (decode s))) offset c)) e
+      pub not-whole : (e : Malformed) → counted_of (Err e) ≡ count_in (decode s) → analysis R s main alt log ≡ refused_early e.offset D.malformed_fragment log
+      not-whole e c = in_code ∙ rw (counted-malformed (malformed_at (decode s)) (length (instructions (decode s))) e c)
 
-      module _ (n : ℕ) (c : counted_of (C.Whole n) ≡ count_in (decode s)) where
+      module _ (n : ℕ) (c : counted_of (Ok n) ≡ count_in (decode s)) where
         in-walk : analysis R s main alt log ≡ tested R none (instructions (decode s)) (unknowns main alt) log
         in-walk = in_code ∙ rw (counted-whole (malformed_at (decode s)) (length (instructions (decode s))) n c).0
 
         module _ (lent : ℕ) (l : length log ≡ lent) where
-          pub short-log : lent < 3 * n → (r : Summary) → r ≡ summarized (refused_verdict 0 (D.short_log (3 * n) lent) 0) → RefusedEarly r log (analysis R s main alt log)
-          short-log h r e = refuses-early 0 (D.short_log (3 * n) lent) r (in-walk ∙ rw (← (counts s n c), l, lt-leb (3 * n) lent h)) e
+          pub short-log : lent < 3 * n → analysis R s main alt log ≡ refused_early 0 (D.short_log (3 * n) lent) log
+          short-log h = in-walk ∙ rw (← (counts s n c), l, lt-leb (3 * n) lent h)
 
           pub may-walk : 3 * n ≤ lent → MayWalk R s main alt log
           may-walk h = record { short = short; low = omega (arith, limited, low); room = omega (arith, counts s n c, l); same = in-walk ∙ rw (← (counts s n c), l, le-leb (3 * n) lent h) }
@@ -121,10 +110,6 @@ abbrev pub Analysed : Rules → Bytes → ℕ → ℕ → List ℕ → Verdict �
 Analysed R s main alt log r new = Shows (Demand3 R (instructions (decode s)) (unknowns main alt)) (analysis R s main alt log) r new
 
 -- the same by equal rules
--- the table and the options beside it are the built-in rules
-pub built-in-rules : {rows : List ℕ} {o : Options} → BuiltInRows rows → o ≡ built_in_options → rules_by rows o ≡ built_in
-built-in-rules {rows = rows} b e = ap (rules_by rows) e ∙ b.same
-
 pub analysed-by : {R Q : Rules} → R ≡ Q → (s : Bytes) (main alt : ℕ) (log : List ℕ) (r : Verdict) (new : List ℕ) → Analysed R s main alt log r new → Analysed Q s main alt log r new
 analysed-by e s main alt log r new a = subst (λ (X : Rules). Analysed X s main alt log r new) e a
 
@@ -139,21 +124,25 @@ abbrev Shown : Arm → Type 0
 Shown c = end_of (has_end c) (end_stacks c) ≡ c
 
 -- the end of a walk: live with its stacks, or none
-live_end : (w : Walk) (x : Stop) → has_end (concluded_by x w).end ≡ true → (concluded_by x w).end ≡ live (view w.stacks)
-live_end w End h = by w.live h
+live_end : (r : Result ArmEnd Refusal) (w : Walk) (t : Stacks) → w.stacks ≡ Some t → has_end (concluded r w).end ≡ true → (concluded r w).end ≡ live (view t)
+live_end (Ok End) w t e h = rw e
+live_end (Ok Else) w t e h = cc
+live_end (Ok Endif) w t e h = cc
+live_end (Err x) w t e h = cc
+
+none_end : (r : Result ArmEnd Refusal) (w : Walk) → ((t : Stacks) → w.stacks ≡ Some t → ⊥) → has_end (concluded r w).end ≡ false
+none_end (Ok End) w h = by w.stacks h
   where
-    by : (b : Bool) → has_end (arm_of b w.stacks) ≡ true → arm_of b w.stacks ≡ live (view w.stacks)
-    by true g = refl
-    by false g = cc
-live_end w Running h = cc
-live_end w Conditional h = cc
-live_end w Else h = cc
-live_end w Endif h = cc
-live_end w (Refused r) h = cc
+    by : (o : Option Stacks) → ((t : Stacks) → o ≡ Some t → ⊥) → has_end (arm_of o) ≡ false
+    by None g = refl
+    by (Some t) g = absurd (g t refl)
+none_end (Ok Else) w h = refl
+none_end (Ok Endif) w h = refl
+none_end (Err x) w h = refl
 
 -- its items have room
-few-items : (t : Stacks) → Fit t → (e : EndStacks) → e ≡ packed_end (view t) → e.main + e.alt ≤ 244
-few-items t f e k = omega (arith, ap (λ (x : EndStacks). x.main) k, ap (λ (x : EndStacks). x.alt) k, packed-main (view t), packed-alt (view t), main-length t, alt-length t, f.room)
+few-items : (t : Stacks) → (e : EndStacks) → e ≡ packed_end (view t) → e.main + e.alt ≤ 244
+few-items t e k = omega (arith, ap (λ (x : EndStacks). x.main) k, ap (λ (x : EndStacks). x.alt) k, packed-main (view t), packed-alt (view t), main-length t, alt-length t, t.room)
 
 no_items : (e : EndStacks) → e ≡ packed_end no_stacks → e.main + e.alt ≤ 244
 no_items e k = omega (arith, ap (λ (x : EndStacks). x.main) k, ap (λ (x : EndStacks). x.alt) k, packed-main no_stacks, packed-alt no_stacks)
@@ -195,49 +184,50 @@ module _ (R : Rules) (small : R.limit ≤ 244) (s : Bytes) (main alt : ℕ) (log
       (true_of_analysis R (omega (arith, small)) s main alt log)
 
   -- refused before the walk
-  pub answers-early : (v : Summary) → RefusedEarly v log (analysis R s main alt log) → (e : EndStacks) → e ≡ packed_end no_stacks → (r : Verdict) → r ≡ with_end v e → Analysed R s main alt log r log
-  answers-early v early e k r is =
-      subst (λ (l : List ℕ). Analysed R s main alt log r l) (sym early.logged)
-      (answers (analysis R s main alt log) refl v early.same e (rw early.none k) (rw early.none) (no_items e k) r is)
+  module _ (offset : ℕ) (x : D.Refusal) (early : analysis R s main alt log ≡ refused_early offset x log) (v : Summary) (same : v ≡ summarized (refused_verdict offset x 0)) where
+    pub answers-early : (e : EndStacks) → e ≡ packed_end no_stacks → (r : Verdict) → r ≡ with_end v e → Analysed R s main alt log r log
+    answers-early e k r is = answers (refused_early offset x log) early v same e k refl (no_items e k) r is
 
-  pub summed-early : (v : Summary) → RefusedEarly v log (analysis R s main alt log)
-      → (v ≡ summarized (analysis R s main alt log).verdict) × (log ≡ (analysis R s main alt log).log)
-  summed-early v r = (r.same, r.logged)
+    pub summed-early : (v ≡ summarized (analysis R s main alt log).verdict) × (log ≡ (analysis R s main alt log).log)
+    summed-early = (rw early same, rw early)
 
-  module _ (may : MayWalk R s main alt log) (w : Walk) (new : List ℕ) (stops : Stops w new (walked R s main alt log)) (v : Summary) (same : v ≡ summarized (concluded w)) where
-    comes-to : analysis R s main alt log ≡ record { verdict = concluded w; log = new }
-    comes-to = may.same ∙ stops.same
+  module _ (may : MayWalk R s main alt log) (w : Walk) (o : Result ArmEnd Refusal) (new : List ℕ)
+      (ends : walked R s main alt log ≡ record { verdict = concluded o w; log = new }) (v : Summary) (same : v ≡ summarized (concluded o w)) where
+    comes-to : analysis R s main alt log ≡ record { verdict = concluded o w; log = new }
+    comes-to = may.same ∙ ends
 
-    ends : v.ended ≡ has_end (concluded w).end
+    ended-is : v.ended ≡ has_end (concluded o w).end
     unfolding summarized
-    ends = ap (λ (x : Summary). x.ended) same
+    ended-is = ap (λ (x : Summary). x.ended) same
 
-    pub answers-live : v.ended ≡ true → (e : EndStacks) → e ≡ packed_end (view w.stacks) → (r : Verdict) → r ≡ with_end v e → Analysed R s main alt log r new
-    answers-live h e k r is =
-        let c : (concluded w).end ≡ live (view w.stacks) = live_end w w.stop (sym ends ∙ h) in
-        answers (record { verdict = concluded w; log = new }) comes-to v same e (rw c k) (rw c (ap live (ends-back w.stacks stops.fit))) (few-items w.stacks stops.fit e k) r is
+    pub answers-live : (t : Stacks) → w.stacks ≡ Some t → v.ended ≡ true → (e : EndStacks) → e ≡ packed_end (view t) → (r : Verdict) → r ≡ with_end v e → Analysed R s main alt log r new
+    answers-live t q h e k r is =
+        let c : (concluded o w).end ≡ live (view t) = live_end o w t q (sym ended-is ∙ h) in
+        answers (record { verdict = concluded o w; log = new }) comes-to v same e (rw c k) (rw c (ap live (ends-back t))) (few-items t e k) r is
 
     pub answers-dead : v.ended ≡ false → (e : EndStacks) → e ≡ packed_end no_stacks → (r : Verdict) → r ≡ with_end v e → Analysed R s main alt log r new
     answers-dead h e k r is =
-        let c : (concluded w).end ≡ dead = dead_end (concluded w).end (sym ends ∙ h) in
-        answers (record { verdict = concluded w; log = new }) comes-to v same e (rw c k) (rw c) (no_items e k) r is
+        let c : (concluded o w).end ≡ dead = dead_end (concluded o w).end (sym ended-is ∙ h) in
+        answers (record { verdict = concluded o w; log = new }) comes-to v same e (rw c k) (rw c) (no_items e k) r is
+
+    pub answers-none : ((t : Stacks) → w.stacks ≡ Some t → ⊥) → (e : EndStacks) → e ≡ packed_end no_stacks → (r : Verdict) → r ≡ with_end v e → Analysed R s main alt log r new
+    answers-none h = answers-dead (ended-is ∙ none_end o w h)
 
     pub summed : (v ≡ summarized (analysis R s main alt log).verdict) × (new ≡ (analysis R s main alt log).log)
     summed = (rw comes-to same, rw comes-to)
 
 -- the walk may start
-pub ready-start : (s : Bytes) (log : List ℕ) (v : Walk) → Fit v.stacks → v.at ≡ 0 → v.rows ≡ 0 → length s ≤ 10000 → 3 * length (instructions (decode s)) ≤ length log → Ready s log v
-ready-start s log v f at rows short room = record {
-  fit = f;
-  high = omega (arith, at);
+pub ready-start : (s : Bytes) (log : List ℕ) (main alt : ℕ) (v : Walk) → Begins main alt v → length s ≤ 10000 → 3 * length (instructions (decode s)) ≤ length log → Ready s log v
+ready-start s log main alt v b short room = record {
+  high = omega (arith, b.at);
   short = short;
   room =
-      let e : v.rows + length (instructions (code_at s v.at)) ≡ length (instructions (decode s)) = rw (at, rows, ← (code-start s)) (omega arith) in
+      let e : v.place.rows + length (instructions (code_at s v.place.at)) ≡ length (instructions (decode s)) = rw (b.at, b.rows, ← (code-start s)) (omega arith) in
       omega (arith, e, room);
 }
 
 -- a fragment has no more instructions than bytes
-pub few : (s : Bytes) (n : ℕ) → counted_of (C.Whole n) ≡ count_in (decode s) → length s ≤ 10000 → n ≤ 10000
+pub few : (s : Bytes) (n : ℕ) → counted_of (Ok n) ≡ count_in (decode s) → length s ≤ 10000 → n ≤ 10000
 few s n c h =
     let e : instructions (decode s) ≡ instructions (code_at s 0) = ap instructions (code-start s) in
     let l : length (instructions (code_at s 0)) ≤ length s - 0 = code-length s 0 in

@@ -6,88 +6,36 @@
 
 #![tactic(auto)]
 
-ghost use Rattle.std.specs.Prelude.{◌≤◌};
-ghost use Rattle.stack.specs.View.{Fit};
-
 use decode::Value;
-use stack::{Answer, Stacks, Stepped};
+use stack::{Limit, Stacks};
 
-const LIMIT: u32 = 244;
-
-// The operations one after another; a refused one leaves stacks that fit, and the next goes on from there.
-fn run(letters: &[u8], start: Stacks) -> Stacks
-    requires { Fit start }
-    ensures { Fit result }
-{
-    let mut t = Stepped {
-        stacks: start,
-        answer: Answer::Done,
-    };
-    let mut k: usize = 0;
-    while k < letters.len() {
-        let letter = letters[k];
-        k += 1;
-        match letter {
-            b'p' => {
-                let s = t.stacks;
-                t = s.push(Value::Exact { len: 1, bytes: 1 }, LIMIT);
-                continue;
-            }
-            b'd' => {
-                let s = t.stacks;
-                t = s.drop_items(1);
-                continue;
-            }
-            b'c' => {
-                let s = t.stacks;
-                t = s.extend_from_within(1, 1, LIMIT);
-                continue;
-            }
-            b'r' => {
-                let s = t.stacks;
-                t = s.rotate_left(3, 1);
-                continue;
-            }
-            b't' => {
-                let s = t.stacks;
-                t = s.move_to_alt();
-                continue;
-            }
-            b'f' => {
-                let s = t.stacks;
-                t = s.move_from_alt();
-                continue;
-            }
-            b'e' => {
-                let s = t.stacks;
-                t = s.apply_effect(2, 1, LIMIT);
-                continue;
-            }
-            b'u' => {
-                let s = t.stacks;
-                t = s.apply_effect(0, 1, LIMIT);
-                continue;
-            }
-            b'j' => {
-                let s = t.stacks;
-                t = s.join(start);
-                continue;
-            }
+// The operations one after another, in place; after a refused one the next goes on from what it left.
+fn run(letters: &[u8], start: Stacks) -> Stacks {
+    let mut s = start;
+    for letter in letters {
+        let _ = match *letter {
+            b'p' => s.try_push(Value::Exact { len: 1, bytes: 1 }, Limit::BUILT_IN),
+            b'd' => s.try_drop_items(1),
+            b'c' => s.try_extend_from_within(1, 1, Limit::BUILT_IN),
+            b'r' => s.try_rotate_left(3, 1),
+            b't' => s.try_move_to_alt(),
+            b'f' => s.try_move_from_alt(),
+            b'e' => s.try_apply_effect(2, 1, Limit::BUILT_IN),
+            b'u' => s.try_apply_effect(0, 1, Limit::BUILT_IN),
+            b'j' => s.try_join(&start),
             _ => continue,
-        }
+        };
     }
-    t.stacks
+    s
 }
 
 // A read or a write that fails is said on standard error.
 fn main(rt: HostRuntime) {
     let mut letters = [0u8; 40000];
-    let i = input::read_input(&mut rt.stdin(), &mut letters);
-    if i.failed {
+    let Ok(n) = input::read_input(&mut rt.stdin(), &mut letters) else {
         let _ = rt.eprintln("stack_bench: cannot read standard input");
         return;
-    }
-    let n = i.size;
+    };
     let start = Stacks::new(200, 0);
     let s = run(&letters[..n], start);
     if println!(rt; "{} {}", s.mains, s.alts).is_err() {

@@ -9,7 +9,6 @@ ghost use Rattle.log_text.specs.LogText.{stacklog};
 
 // The text that is printed of an input, written into the lent bytes where there is room for it; the answer is its size. At most
 // 8,001 bytes of the input are read, and a log of 24,000 numbers is lent.
-#[tactic(auto, using(crate::proofs::Inputs::inputs))]
 fn logged(input: &[u8], text: &mut [u8]) -> usize
     ensures size { result ≡ length (stacklog input.now) }
     ensures written { text.new
@@ -18,13 +17,8 @@ fn logged(input: &[u8], text: &mut [u8]) -> usize
         (stacklog input.now ++ drop (length (stacklog input.now)) text.old)
         text.old }
 {
-    let mut log = [0u16; 24000];
-    if input.len() > 8001 {
-        let l = log_text::write_log(&input[..8001], &mut log, text);
-        return l.size;
-    }
-    let l = log_text::write_log(input, &mut log, text);
-    l.size
+    let mut log = [0; 24000];
+    log_text::write_log(&input[..input.len().min(8001)], &mut log, text).size
 }
 
 // 700,000 bytes, more than the log of any paper has. The contract gives only their number, which lending them needs.
@@ -36,15 +30,13 @@ fn room() -> [u8; 700000]
 
 // A read or a write that fails is said on standard error, and is no verdict.
 fn main(rt: HostRuntime) {
-    let mut paper = [0u8; 8001];
-    let i = input::read_input(&mut rt.stdin(), &mut paper);
-    if i.failed {
+    let mut paper = [0; 8001];
+    let Ok(size) = input::read_input(&mut rt.stdin(), &mut paper) else {
         let _ = rt.eprintln("stacklog: cannot read standard input");
         return;
-    }
-    let n = i.size;
+    };
     let mut text = room();
-    let size = logged(&paper[..n], &mut text);
+    let size = logged(&paper[..size], &mut text);
     if size > 700000 {
         let _ = rt.eprintln("stacklog: the log is too long");
         return;

@@ -1,40 +1,30 @@
-// `stackmark` reads a paper from standard input, marks it and prints the lines of document 01, section 6. No contract can
-// speak of what a program reads or writes: the work is `marked`.
+// `stackmark` reads a paper from standard input, marks it and prints its lines. No contract can speak of what a program reads or
+// writes: the work is `marked`.
 
 #![tactic(auto)]
 
 ghost use Rattle.std.specs.Prelude.{◌≡◌};
 ghost use Rattle.definition.specs.Lines.{stackmark};
-ghost use Rattle.lines.specs.View.{lines_in, Within};
 
 use lines::Lines;
 
 // The lines that are printed of an input: at most 8,001 bytes of it are read, and a log of 24,000 numbers is lent.
-#[tactic(auto, using(crate::proofs::Inputs::inputs))]
 fn marked(input: &[u8]) -> Lines
-    ensures same { result ≡ lines_in result.number (stackmark input.now) }
-    ensures within { Within result }
+    ensures { result.text.items ≡ stackmark input.now }
 {
-    let mut log = [0u16; 24000];
-    if input.len() > 8001 {
-        return lines::mark_lines(&input[..8001], &mut log);
-    }
-    lines::mark_lines(input, &mut log)
+    let mut log = [0; 24000];
+    lines::mark_lines(&input[..input.len().min(8001)], &mut log)
 }
 
 // A read or a write that fails is said on standard error, and is no verdict.
 fn main(rt: HostRuntime) {
-    let mut paper = [0u8; 8001];
-    let i = input::read_input(&mut rt.stdin(), &mut paper);
-    if i.failed {
+    let mut paper = [0; 8001];
+    let Ok(size) = input::read_input(&mut rt.stdin(), &mut paper) else {
         let _ = rt.eprintln("stackmark: cannot read standard input");
         return;
-    }
-    let n = i.size;
-    let l = marked(&paper[..n]);
-    let bytes = l.bytes;
-    let size = l.size;
-    if rt.write_all(&bytes[..size]).is_err() {
+    };
+    let lines = marked(&paper[..size]);
+    if rt.write_all(&lines.text).is_err() {
         let _ = rt.eprintln("stackmark: cannot write to standard output");
     }
 }

@@ -5,16 +5,18 @@ use mathlib.Core.Path.{◌≡◌, refl, sym, ap, ◌∙◌}
 use Prim.Native.Nat.{ℕ, zero, suc, ◌+◌, ◌*◌, ◌%◌, ◌≤◌, ◌<◌}
 use native.Mathlib.Nat.{add-zero, add-suc, suc-add}
 use native.Mathlib.Omega.{arith}
-use borrow.Author.Tests.{le-leb, lt-leb, leb-true, eqb-true, eqb-false}
+use borrow.Author.Tests.{le-leb, lt-leb, ne_eqb, eq-eqb, eqb-true, eqb-false}
 use lib.Dec.{leb, eqb}
-use lib.ListN.{length, drop, get_or, set, replicate, length-set, get_or-replicate, drop_of_length-le}
+use Rattle.std.specs.Prelude.{map, Ok, Err, ◌/◌}
+use Rattle.std.specs.Simd.{first_chunks}
+use Rattle.refusals.specs.declared.Refusal.TheVariants.{BadSitting}
+use Rattle.sums.specs.View.{sums_of}
+use lib.ListN.{length, drop, get_or, set, replicate, length-set, length-map, get_or-map, get_or-replicate, drop_of_length-le}
 use lib.Seq.{drop-cons, get_or-set_same, get_or-set_other, ext_get_or}
 use Rattle.definition.specs.Basics.{pick}
 use Rattle.definition.specs.Refusals.{greatest_number}
-use Rattle.definition_sums.specs.Sums.{Pair, pairs, occurrences, occurrences_from, accepted_peaks, sum_of, in_use, max_sitting, good_sitting, bad_sums, sums}
+use Rattle.definition_sums.specs.Sums.{Pair, pairs, occurrences, occurrences_from, accepted_peaks, sum_of, in_use, max_sitting, good_sitting, sums}
 use Rattle.definition_sums.proofs.Sittings.{peaks-counted}
-use Rattle.definition.proofs.Sound.{and-true}
-use Rattle.sums.specs.View.{good_length}
 
 -- the list of counts, by its places
 length-occurrences : (a n : ℕ) (l : List Pair) → length (occurrences_from a n l) ≡ n
@@ -47,52 +49,47 @@ one-peak : (peak : ℕ) (rest : List ℕ) (b : Bool) → sum_of (pick b (peak �
 one-peak peak rest true = refl
 one-peak peak rest false = omega arith
 
--- the length by the tests of the code
-module _ (n : ℕ) where
-  pub too_many : max_sitting < n → false ≡ good_length n
-  unfolding good_length
-  too_many h = rw (lt-leb n max_sitting h)
+-- Pairs
 
-  pub even-count : n ≤ max_sitting → eqb (n % 2) 0 ≡ good_length n
-  unfolding good_length
-  even-count h = rw (le-leb n max_sitting h)
+-- the pair that a chunk of two numbers is
+abbrev pub pair_of : List ℕ → Pair
+pair_of c = record { number = get_or c 0 0; peak = get_or c 1 0 }
 
-  pub good-bound : good_length n ≡ true → n ≤ max_sitting
-  unfolding good_length
-  good-bound e = leb-true n max_sitting (and-true (leb n max_sitting) (eqb (n % 2) 0) e).0
+-- the pairs of n chunks
+pairs-first_chunks : (n : ℕ) (s : List ℕ) → length s ≡ 2 * n → pairs s ≡ map pair_of (first_chunks 2 n s)
+pairs-first_chunks zero [] h = refl
+pairs-first_chunks zero (a ∷ s) h = absurd (omega arith)
+pairs-first_chunks (suc n) [] h = absurd (omega arith)
+pairs-first_chunks (suc n) (a ∷ []) h = absurd (omega arith)
+pairs-first_chunks (suc n) (a ∷ b ∷ s) h = ap (λ (l : List Pair). record { number = a; peak = b } ∷ l) (pairs-first_chunks n s (omega arith))
 
-  pub good-even : good_length n ≡ true → n % 2 ≡ 0
-  unfolding good_length
-  good-even e = eqb-true (n % 2) 0 (and-true (leb n max_sitting) (eqb (n % 2) 0) e).1
+-- a number in a chunk has 32 bits
+pub chunk-fits : (n k i : ℕ) (s : List ℕ) → ((j : ℕ) → get_or s j 0 < 4294967296) → get_or (get_or (first_chunks 2 n s) k []) i 0 < 4294967296
+chunk-fits zero k i s h = omega arith
+chunk-fits (suc n) zero i [] h = omega arith
+chunk-fits (suc n) zero zero (a ∷ s) h = h 0
+chunk-fits (suc n) zero (suc i) (a ∷ []) h = omega arith
+chunk-fits (suc n) zero (suc zero) (a ∷ b ∷ s) h = h 1
+chunk-fits (suc n) zero (suc (suc i)) (a ∷ b ∷ s) h = omega arith
+chunk-fits (suc n) (suc k) i [] h = chunk-fits n k i [] h
+chunk-fits (suc n) (suc k) i (a ∷ []) h = chunk-fits n k i [] (λ j. omega arith)
+chunk-fits (suc n) (suc k) i (a ∷ b ∷ s) h = chunk-fits n k i s (λ j. h (suc (suc j)))
 
--- 23
-module _ (s : List ℕ) where
-  not_good : good_sitting s ≡ false → bad_sums ≡ sums s
-  unfolding sums
-  not_good e = rw e
+-- The pairs before pair k are counted and summed.
+pub record Summing (chunks : List (List ℕ)) (k : ℕ) (counts : List ℕ) (sum : ℕ) : Type 0 where
+  pub places : length counts ≡ suc greatest_number
+  pub few : (i : ℕ) → i ≤ greatest_number → get_or counts i 0 ≤ k
+  pub counted : (i : ℕ) → i ≤ greatest_number → get_or counts i 0 + occurrences i (drop k (map pair_of chunks)) ≡ occurrences i (map pair_of chunks)
+  pub small : sum ≤ k * 4294967295
+  pub summed : sum + sum_of (accepted_peaks (drop k (map pair_of chunks))) ≡ sum_of (accepted_peaks (map pair_of chunks))
+  pub used : in_use (map pair_of chunks) ≡ in_use (drop k (map pair_of chunks))
 
-  last-false : (a b : Bool) → b ≡ false → (a && b) ≡ false
-  last-false true b e = e
-  last-false false b e = refl
+module _ (chunks : List (List ℕ)) where
+  abbrev ps : List Pair
+  ps = map pair_of chunks
 
-  -- of the length
-  pub bad-length : good_length (length s) ≡ false → bad_sums ≡ sums s
-  unfolding good_length
-  bad-length e = not_good (rw e)
-
-  -- The pairs before place k are counted and summed.
-  pub record Summing (k : ℕ) (counts : List ℕ) (sum : ℕ) : Type 0 where
-    pub even : k % 2 ≡ 0
-    pub places : length counts ≡ suc greatest_number
-    pub few : (i : ℕ) → i ≤ greatest_number → get_or counts i 0 ≤ k
-    pub counted : (i : ℕ) → i ≤ greatest_number → get_or counts i 0 + occurrences i (pairs (drop k s)) ≡ occurrences i (pairs s)
-    pub small : sum ≤ k * 4294967295
-    pub summed : sum + sum_of (accepted_peaks (pairs (drop k s))) ≡ sum_of (accepted_peaks (pairs s))
-    pub used : in_use (pairs s) ≡ in_use (pairs (drop k s))
-
-  pub summing-none : Summing 0 (replicate (suc greatest_number) 0) 0
+  pub summing-none : Summing chunks 0 (replicate (suc greatest_number) 0) 0
   summing-none = record {
-    even = refl;
     places = refl;
     few = λ i h. omega (arith, get_or-replicate {A = ℕ} (suc greatest_number) i 0 0 (omega (arith, h)));
     counted = λ i h. rw (get_or-replicate {A = ℕ} (suc greatest_number) i 0 0 (omega (arith, h))) (omega arith);
@@ -101,71 +98,102 @@ module _ (s : List ℕ) where
     used = refl;
   }
 
-  module _ (k : ℕ) (counts : List ℕ) (sum : ℕ) (c : Summing k counts sum) where
-    abbrev number : ℕ
-    number = get_or s k 0
+  module _ (k : ℕ) (counts : List ℕ) (sum : ℕ) (c : Summing chunks k counts sum) where
+    abbrev pair : Pair
+    pair = pair_of (get_or chunks k [])
 
-    abbrev peak : ℕ
-    peak = get_or s (k + 1) 0
-
-    pub pair-within : length s % 2 ≡ 0 → k < length s → k + 1 < length s
-    pair-within h g = omega (arith, h, g, c.even)
-
-    next-pair : k + 1 < length s → pairs (drop k s) ≡ record { number = number; peak = peak } ∷ pairs (drop (k + 2) s)
+    next-pair : k < length chunks → drop k ps ≡ pair ∷ drop (k + 1) ps
     next-pair h =
+        let e : length ps ≡ length chunks = simp length-map in
         let one : suc k ≡ k + 1 = omega arith in
-        let two : suc (k + 1) ≡ k + 2 = omega arith in
-        let first : drop k s ≡ number ∷ drop (k + 1) s = drop-cons s k 0 (omega (arith, h)) ∙ ap (λ j. number ∷ drop j s) one in
-        let second : drop (k + 1) s ≡ peak ∷ drop (k + 2) s = drop-cons s (k + 1) 0 h ∙ ap (λ j. peak ∷ drop j s) two in
-        ap pairs (first ∙ ap (λ (l : List ℕ). number ∷ l) second)
+        drop-cons ps k (pair_of []) (omega (arith, e)) ∙ ap (λ (p : Pair). p ∷ drop (suc k) ps) (get_or-map pair_of chunks k []) ∙ ap (λ j. pair ∷ drop j ps) one
 
-    pub past-greatest : k + 1 < length s → greatest_number < number → bad_sums ≡ sums s
-    past-greatest h g =
-        let e : in_use (pairs s) ≡ false = c.used ∙ ap in_use (next-pair h) ∙ rw (lt-leb number greatest_number g) in
-        not_good (last-false (leb (length s) max_sitting && eqb (length s % 2) 0) (in_use (pairs s)) e)
+    pub not-used : k < length chunks → greatest_number < pair.number → in_use ps ≡ false
+    not-used h g = c.used ∙ ap in_use (next-pair h) ∙ rw (lt-leb pair.number greatest_number g)
 
-    room : number ≤ greatest_number → number < length counts
+    room : pair.number ≤ greatest_number → pair.number < length counts
     room g = omega (arith, g, c.places)
 
-    pub summing-more : k + 1 < length s → number ≤ greatest_number → peak ≤ 4294967295 → (p : ℕ) → p ≡ pick (eqb number 0) peak 0 → p ≤ peak
-        → Summing (k + 2) (set counts number (get_or counts number 0 + 1)) (sum + p)
-    summing-more h g w p e m = record {
-      even = omega (arith, c.even);
-      places = length-set counts number (get_or counts number 0 + 1) ∙ c.places;
-      few = λ i q. omega (arith, one_more_lem counts number (room g) i, at_most_one (eqb number i), c.few i q);
-      counted = λ i q. omega (arith, one_more_lem counts number (room g) i, c.counted i q, ap (occurrences i) (next-pair h));
-      small = omega (arith, c.small, m, w);
-      summed = omega (arith, c.summed, e, ap (λ (l : List Pair). sum_of (accepted_peaks l)) (next-pair h), one-peak peak (accepted_peaks (pairs (drop (k + 2) s))) (eqb number 0));
-      used = c.used ∙ ap in_use (next-pair h) ∙ rw (le-leb number greatest_number g);
+    summing-more : k < length chunks → pair.number ≤ greatest_number → (p : ℕ) → p ≡ pick (eqb pair.number 0) pair.peak 0 → p ≤ 4294967295
+        → (sum' : ℕ) → sum' ≡ sum + p → Summing chunks (k + 1) (set counts pair.number (get_or counts pair.number 0 + 1)) sum'
+    summing-more h g p e m sum' t = record {
+      places = length-set counts pair.number (get_or counts pair.number 0 + 1) ∙ c.places;
+      few = λ i q. omega (arith, one_more_lem counts pair.number (room g) i, at_most_one (eqb pair.number i), c.few i q);
+      counted = λ i q. omega (arith, one_more_lem counts pair.number (room g) i, c.counted i q, ap (occurrences i) (next-pair h));
+      small = omega (arith, c.small, m, t);
+      summed = omega (arith, c.summed, e, t, ap (λ (l : List Pair). sum_of (accepted_peaks l)) (next-pair h), one-peak pair.peak (accepted_peaks (drop (k + 1) ps)) (eqb pair.number 0));
+      used = c.used ∙ ap in_use (next-pair h) ∙ rw (le-leb pair.number greatest_number g);
     }
 
-    -- all pairs are counted
-    pub all-summed : good_length (length s) ≡ true → length s ≤ k
-        → record { number = 0; counts = counts; sum = sum; count = get_or counts 0 0 } ≡ sums s
-    unfolding sums good_length
-    all-summed h w = rw (good, ← counts-are, ← sum_is, ← count-is)
+    pub summing-accepted : k < length chunks → pair.number ≡ 0 → pair.peak < 4294967296 → (p sum' : ℕ) → p ≡ pair.peak → sum' ≡ sum + p
+        → Summing chunks (k + 1) (set counts pair.number (get_or counts pair.number 0 + 1)) sum'
+    summing-accepted h z m p sum' e t = summing-more h (omega (arith, z)) p (rw (eq-eqb pair.number 0 z) e) (omega arith) sum' t
+
+    pub summing-refused : k < length chunks → pair.number ≤ greatest_number → (pair.number ≡ 0 → ⊥) → (sum' : ℕ) → sum' ≡ sum
+        → Summing chunks (k + 1) (set counts pair.number (get_or counts pair.number 0 + 1)) sum'
+    summing-refused h g z sum' t = summing-more h g 0 (rw (ne_eqb pair.number 0 z)) (omega arith) sum' (omega arith)
+
+-- The answers
+
+module _ (s : List ℕ) where
+  not_good : good_sitting s ≡ false → sums_of (Err BadSitting) ≡ sums s
+  unfolding sums
+  not_good e = rw e
+
+  pub too_long : max_sitting < length s → sums_of (Err BadSitting) ≡ sums s
+  too_long h = not_good (rw (lt-leb (length s) max_sitting h))
+
+  module _ (rest : List ℕ) (l : length rest ≡ length s % 2) (b : Bool) (e : b ≡ eqb (length rest) 0) where
+    pub even-count : b ≡ true → length s % 2 ≡ 0
+    even-count h = omega (arith, eqb-true (length rest) 0 (sym e ∙ h), l)
+
+    pub odd_count : b ≡ false → sums_of (Err BadSitting) ≡ sums s
+    odd_count h = not_good (rw (ne_eqb (length s % 2) 0 (λ z. eqb-false (length rest) 0 (sym e ∙ h) (l ∙ z))) (either (leb (length s) max_sitting)))
       where
-        none : pairs (drop k s) ≡ []
-        none = ap pairs (drop_of_length-le s w)
+        either : (a : Bool) → (a && false && in_use (pairs s)) ≡ false
+        either true = refl
+        either false = refl
 
-        all-used : in_use (pairs s) ≡ true
-        all-used = c.used ∙ ap in_use none
+  -- an even count of numbers, in chunks
+  module _ (even : length s % 2 ≡ 0) (chunks : List (List ℕ)) (are : chunks ≡ first_chunks 2 (length s / 2) s) where
+    pairs-are : pairs s ≡ map pair_of chunks
+    pairs-are = pairs-first_chunks (length s / 2) s (omega (arith, even)) ∙ ap (map pair_of) (sym are)
 
-        good : good_sitting s ≡ true
-        good = rw h all-used
+    module _ (k : ℕ) (counts : List ℕ) (sum : ℕ) (c : Summing chunks k counts sum) where
+      pub past-greatest : k < length chunks → greatest_number < (pair_of (get_or chunks k [])).number → sums_of (Err BadSitting) ≡ sums s
+      past-greatest h g = not_good (rw (ap in_use pairs-are ∙ not-used chunks k counts sum c h g) (last-false (leb (length s) max_sitting) (eqb (length s % 2) 0)))
+        where
+          last-false : (a b : Bool) → (a && b && false) ≡ false
+          last-false true true = refl
+          last-false true false = refl
+          last-false false b = refl
 
-        sum_is : sum ≡ sum_of (accepted_peaks (pairs s))
-        sum_is = omega (arith, c.summed, ap (λ (l : List Pair). sum_of (accepted_peaks l)) none)
+      -- all pairs are counted
+      pub all-summed : length s ≤ max_sitting → length chunks ≤ k → sums_of (Ok (record { counts = counts; sum = sum; count = get_or counts 0 0 })) ≡ sums s
+      unfolding sums
+      all-summed h w = rw (good, ← counts-are, ← sum_is, ← count-is)
+        where
+          none : drop k (map pair_of chunks) ≡ []
+          none = drop_of_length-le (map pair_of chunks) (simp length-map w)
 
-        count_at : (i : ℕ) → i ≤ greatest_number → get_or counts i 0 ≡ occurrences i (pairs s)
-        count_at i q = omega (arith, c.counted i q, ap (occurrences i) none)
+          all-used : in_use (pairs s) ≡ true
+          all-used = ap in_use pairs-are ∙ c.used ∙ ap in_use none
 
-        count-is : get_or counts 0 0 ≡ length (accepted_peaks (pairs s))
-        count-is = count_at 0 (omega arith) ∙ sym (peaks-counted (pairs s))
+          good : good_sitting s ≡ true
+          good = rw (le-leb (length s) max_sitting h, even, all-used)
 
-        counts-are : counts ≡ occurrences_from 0 (suc greatest_number) (pairs s)
-        counts-are =
-            ext_get_or 0 counts (occurrences_from 0 (suc greatest_number) (pairs s)) (c.places ∙ sym (length-occurrences 0 (suc greatest_number) (pairs s)))
-            (λ i q.
-            let r : i ≤ greatest_number = omega (arith, q, c.places) in
-            count_at i r ∙ sym (get_d-occurrences 0 (suc greatest_number) (pairs s) i (omega (arith, r)) ∙ ap (λ j. occurrences j (pairs s)) (omega arith)))
+          sum_is : sum ≡ sum_of (accepted_peaks (pairs s))
+          sum_is = omega (arith, c.summed, ap (λ (l : List Pair). sum_of (accepted_peaks l)) none) ∙ ap (λ (l : List Pair). sum_of (accepted_peaks l)) (sym pairs-are)
+
+          count_at : (i : ℕ) → i ≤ greatest_number → get_or counts i 0 ≡ occurrences i (pairs s)
+          count_at i q = omega (arith, c.counted i q, ap (occurrences i) none, ap (occurrences i) pairs-are)
+
+          count-is : get_or counts 0 0 ≡ length (accepted_peaks (pairs s))
+          count-is = count_at 0 (omega arith) ∙ sym (peaks-counted (pairs s))
+
+          counts-are : counts ≡ occurrences_from 0 (suc greatest_number) (pairs s)
+          counts-are =
+              ext_get_or 0 counts (occurrences_from 0 (suc greatest_number) (pairs s)) (c.places ∙ sym (length-occurrences 0 (suc greatest_number) (pairs s)))
+              (λ i q.
+              let r : i ≤ greatest_number = omega (arith, q, c.places) in
+              count_at i r ∙ sym (get_d-occurrences 0 (suc greatest_number) (pairs s) i (omega (arith, r)) ∙ ap (λ j. occurrences j (pairs s)) (omega arith)))

@@ -1,13 +1,12 @@
--- What the struct `SittingSums` stands for in the definitions of request L1.
-use Rattle.std.specs.Prelude.{Bool, ◌&&◌, ℕ, ◌%◌, leb, eqb}
-use Rattle.definition_sums.specs.Sums.{max_sitting}
+-- What the answer stands for in the definitions.
+use Rattle.std.specs.Prelude.{Result, Ok, Err, suc, replicate}
+use Rattle.definition.specs.Refusals.{accepted, refused_at, greatest_number}
 use Rattle.definition_sums.specs.Sums as D
+use Rattle.refusals.specs.View.{refusal_of}
+use Rattle.refusals.specs.declared.Refusal.{Refusal}
 use Rattle.sums.specs.declared.SittingSums.{SittingSums}
 
--- the sums of the definitions, field for field
-abbrev pub sums_of : SittingSums → D.SittingSums
-sums_of r = record { number = r.number; counts = r.counts; sum = r.sum; count = r.count }
-
--- what `good_sitting` asks of the length: at most 8,192, an even count
-unfoldable pub good_length : ℕ → Bool
-good_length n = leb n max_sitting && eqb (n % 2) 0
+-- the sums of the definitions, field for field; the number of a refusal, and zeros
+abbrev pub sums_of : Result SittingSums Refusal → D.SittingSums
+sums_of (Ok r) = record { number = accepted.number; counts = r.counts; sum = r.sum; count = r.count }
+sums_of (Err r) = record { number = (refused_at 0 (refusal_of r)).number; counts = replicate (suc greatest_number) 0; sum = 0; count = 0 }

@@ -1,15 +1,18 @@
-// The bench tally: document 01, section 4.
+// The bench tally.
 
 #![tactic(auto)]
 
-ghost use Rattle.std.specs.Prelude.{◌≡◌, max, eqb};
+ghost use Rattle.std.specs.Prelude.{◌≡◌, true, eqb, OnErr};
+ghost use Rattle.std.specs.Option.{SomeIff};
 ghost use Rattle.definition.specs.Basics.{pick};
 ghost use Rattle.definition.specs.Walk as Walk;
-ghost use Rattle.definition.specs.Walk.{Verdict};
-ghost use Rattle.tally.specs.View.{tally_of, tallied, tallied_of, Gives};
+ghost use Rattle.definition.specs.Walk.{Verdict, fits, one_more};
+ghost use Rattle.tally.specs.View.{tally_of, packed, answer_of, gained_of, Gives};
 
-// Fragments, accepted ones, rows, and the greatest peak.
-#[derive(Clone, Copy)]
+use refusals::Refusal;
+
+/// Fragments, accepted ones, rows, and the greatest peak.
+#[derive(Clone, Copy, Debug, PartialEq, Eq)]
 pub struct Tally {
     pub fragments: u32,
     pub accepts: u32,
@@ -17,86 +20,34 @@ pub struct Tally {
     pub peak: u32,
 }
 
-// The tally afterwards, and the answer, 0 or 22.
-#[derive(Clone, Copy)]
-pub struct Tallied {
-    pub tally: Tally,
-    pub answer: u32,
-}
+impl Tally {
+    // The tally with one verdict more, if its counts fit 32 bits.
+    fn counted(self, number: u32, rows: usize, peak: u32) -> Option<Tally>
+        ensures { SomeIff result
+            (fits (one_more (tally_of self) (pick (eqb number 0) 1 0) rows peak) ≡ true)
+            (packed (one_more (tally_of self) (pick (eqb number 0) 1 0) rows peak)) }
+    {
+        Some(Tally {
+            fragments: self.fragments.checked_add(1)?,
+            accepts: self.accepts.checked_add(u32::from(number == 0))?,
+            rows: self.rows.checked_add(u32::try_from(rows).ok()?)?,
+            peak: self.peak.max(peak),
+        })
+    }
 
-// 1 for an accepted verdict, 0 for a refusal.
-fn accepted(number: u32) -> u32
-    ensures { result ≡ pick (eqb number 0) 1 0 }
-{
-    if number == 0 {
-        return 1;
+    /// The tally with one verdict more, of this number, rows and peak. It is full where a count would pass 4,294,967,295.
+    pub fn gained(self, number: u32, rows: usize, peak: u32) -> Result<Tally, Refusal>
+        ensures { (v : Verdict) → Gives v number rows peak → gained_of (tally_of self) result ≡ Walk.gain (tally_of self) v }
+    {
+        self.counted(number, rows, peak).ok_or(Refusal::TallyFull)
     }
-    0
-}
 
-// The greater of two peaks.
-fn greatest(a: u32, b: u32) -> u32
-    ensures { result ≡ max a b }
-{
-    if a < b {
-        return b;
+    /// The tally gains one verdict, of this number, rows and peak.
+    pub fn gain(&mut self, number: u32, rows: usize, peak: u32) -> Result<(), Refusal>
+        ensures same { (v : Verdict) → Gives v number rows peak → answer_of (tally_of self.new) result ≡ Walk.gain (tally_of self.old) v }
+        ensures unchanged { OnErr result (self.new ≡ self.old) }
+    {
+        *self = self.gained(number, rows, peak)?;
+        Ok(())
     }
-    a
-}
-
-// 22, with the tally as it was.
-fn full(t: Tally) -> Tallied
-    ensures { result ≡ tallied t 22 }
-{
-    Tallied {
-        tally: t,
-        answer: 22,
-    }
-}
-
-// `gained` of rows that fit 32 bits.
-fn counted(t: Tally, number: u32, rows: u32, peak: u32) -> Tallied
-    ensures { (v : Verdict) → Gives v number rows peak → result ≡ tallied_of (Walk.gain (tally_of t) v) }
-{
-    let accepts = accepted(number);
-    let most = greatest(t.peak, peak);
-    if t.fragments == 0xffffffff {
-        return full(t);
-    }
-    if 0xffffffff - t.accepts < accepts {
-        return full(t);
-    }
-    if 0xffffffff - t.rows < rows {
-        return full(t);
-    }
-    Tallied {
-        tally: Tally {
-            fragments: t.fragments + 1,
-            accepts: t.accepts + accepts,
-            rows: t.rows + rows,
-            peak: most,
-        },
-        answer: 0,
-    }
-}
-
-// The tally with one verdict more, of this number, rows and peak, or 22 with the tally as it was. The work of `gain`. Rows
-// over 4,294,967,295 pass it alone.
-pub fn gained(t: Tally, number: u32, rows: usize, peak: u32) -> Tallied
-    ensures { (v : Verdict) → Gives v number rows peak → result ≡ tallied_of (Walk.gain (tally_of t) v) }
-{
-    if rows > 0xffffffff {
-        return full(t);
-    }
-    counted(t, number, rows as u32, peak)
-}
-
-// The tally lent by the caller gains one verdict, of this number, rows and peak. The answer is 0 or 22; 22 leaves the tally
-// unchanged.
-pub fn gain(t: &mut Tally, number: u32, rows: usize, peak: u32) -> u32
-    ensures { (v : Verdict) → Gives v number rows peak → tallied t.new result ≡ tallied_of (Walk.gain (tally_of t.old) v) }
-{
-    let r = gained(*t, number, rows, peak);
-    *t = r.tally;
-    r.answer
 }

@@ -8,9 +8,10 @@ use borrow.Author.Tests.{lt-ltb, le-ltb, ltb-true, ltb-false}
 use lib.Dec.{ltb}
 use lib.ListN.{length, take, drop, set, get_or, length-append}
 use lib.Seq.{paste, paste-suc, take_at, drop-append-add, drop-drop, take-length, set_split, length-take-le}
+use Rattle.std.specs.Fmt as Fmt
+use Rattle.std.proofs.lemmas.Fmt.{decimal_by_steps}
 use Rattle.definition.specs.Basics.{Bytes, pick}
 use Rattle.definition.specs.Lines.{decimal_within, decimal}
-use Rattle.definition_listings.specs.Hex.{hex_digit, hex_byte}
 use Rattle.text.specs.View.{placed, Written}
 
 -- a text by another name
@@ -109,31 +110,14 @@ decimal-length (suc k) n h = by (λ l. decimal-length k (n / 10) l) (ltb n 10) r
 pub decimal-20 : (n : ℕ) → n < 2 ^ 64 → length (decimal n) ≤ 20
 decimal-20 n h = decimal-length 19 n (omega arith)
 
--- the code of `write_number`
+-- what prints a number writes this decimal
+pub decimal-printed : (n : ℕ) → n < 2 ^ 64 → Fmt.decimal n ≡ decimal n
+decimal-printed n h = decimal_by_steps (λ m ds. ds ≡ decimal m) one more n h
+  where
+    one : (m : ℕ) → m < 10 → (48 + m) ∷ [] ≡ decimal m
+    one m l = sym (decimal-one m l)
 
-module _ (n : ℕ) where
-  pub room-one : (at m : ℕ) → n < 10 → at + length (decimal n) ≤ m → at < m
-  room-one at m h r = omega (arith, r, ap length (decimal-one n h))
+    more : (m : ℕ) (ds : Bytes) → 10 ≤ m → ds ≡ decimal (m / 10) → ds ++ ((48 + m % 10) ∷ []) ≡ decimal m
+    more m ds l e = ap (λ (x : Bytes). x ++ ((48 + m % 10) ∷ [])) e ∙ sym (decimal-more m l)
 
-  pub room-more : (at m : ℕ) → 10 ≤ n → at + length (decimal n) ≤ m → at + length (decimal (n / 10)) < m
-  room-more at m h r = omega (arith, r, ap length (decimal-more n h), length-append (decimal (n / 10)) ((48 + n % 10) ∷ []))
-
-  pub number-one : {lent : Bytes} {at : ℕ} {new : Bytes} {next : ℕ} → n < 10 → Written lent at ((48 + n) ∷ []) new next → Written lent at (decimal n) new next
-  number-one {lent} {at} {new} {next} h w = subst (λ (t : Bytes). Written lent at t new next) (sym (decimal-one n h)) w
-
-  pub number_more : {lent : Bytes} {at : ℕ} {mid : Bytes} {between : ℕ} {new : Bytes} {next : ℕ} → 10 ≤ n → at ≤ length lent
-      → Written lent at (decimal (n / 10)) mid between → Written mid between ((48 + n % 10) ∷ []) new next → Written lent at (decimal n) new next
-  number_more {lent} {at} {mid} {between} {new} {next} h l w v = subst (λ (t : Bytes). Written lent at t new next) (sym (decimal-more n h)) (then-written l w v)
-
--- Bytes in hexadecimal
-
-pub digit_low : (d : ℕ) → d < 10 → 48 + d ≡ hex_digit d
-digit_low d h = rw (lt-ltb d 10 h)
-
-pub digit-high : (d : ℕ) → 10 ≤ d → 87 + d ≡ hex_digit d
-digit-high d h = rw (le-ltb d 10 h)
-
-pub hex-written : {lent : Bytes} {at : ℕ} {new : Bytes} {next : ℕ} {d e : ℕ} (n : ℕ) → d ≡ hex_digit (n / 16 % 16)
-    → e ≡ hex_digit (n % 16) → Written lent at ((d ∷ []) ++ (e ∷ [])) new next → Written lent at (hex_byte n) new next
-hex-written {lent} {at} {new} {next} {d} {e} n p q w =
-    written_as (ap (λ x. x ∷ e ∷ []) p ∙ ap (λ x. hex_digit (n / 16 % 16) ∷ x ∷ []) q) w
+pub ruleset printed = (decimal-printed, decimal-20)

@@ -1,57 +1,78 @@
-// Words and numbers written into lent bytes: each from an index on; the answer is the index after it.
+// Words and numbers as text: appended to a line, or written into lent bytes from an index on, where the answer is the index after.
 
 #![tactic(auto)]
 
 ghost use Rattle.std.specs.Prelude.{[], ◌∷◌, ◌++◌, ◌≡◌, ◌+◌, ◌≤◌, ◌<◌, length};
+ghost use Rattle.arrayvec.specs.ArrayVec.{array_vec_len};
 ghost use Rattle.definition.specs.Lines.{decimal};
 ghost use Rattle.definition_listings.specs.Hex.{hex_digit, hex_byte};
 ghost use Rattle.text.specs.View.{Written};
 
-// A word, byte by byte.
+use arrayvec::ArrayVec;
+
+/// A line of at most `N` bytes, which grows at its end.
+pub type Line<const N: usize> = ArrayVec<u8, N>;
+
+/// Appends a word.
+pub fn push_word<const N: usize>(line: &mut Line<N>, word: &[u8])
+    requires { array_vec_len line.old + length word.now ≤ N }
+    ensures items { line.new.items ≡ line.old.items ++ word.now }
+    ensures len { array_vec_len line.new ≡ array_vec_len line.old + length word.now }
+{
+    line.try_extend_from_slice(word).unwrap();
+}
+
+/// Appends a number in decimal.
+#[tactic(auto, using(crate::proofs::Texts::printed))]
+pub fn push_number<const N: usize>(line: &mut Line<N>, n: u64)
+    requires { array_vec_len line.old + length (decimal n) ≤ N }
+    ensures items { line.new.items ≡ line.old.items ++ decimal n }
+    ensures len { array_vec_len line.new ≡ array_vec_len line.old + length (decimal n) }
+{
+    push_word(line, itoa::Buffer::new().format(n).as_bytes());
+}
+
+/// Appends a word and the number behind it, of at most 20 digits.
+#[tactic(auto, using(crate::proofs::Texts::printed))]
+pub fn push_labelled<const N: usize>(line: &mut Line<N>, word: &[u8], n: u64)
+    requires { array_vec_len line.old + length word.now + 20 ≤ N }
+    ensures items { line.new.items ≡ line.old.items ++ (word.now ++ decimal n) }
+    ensures short { array_vec_len line.new ≤ array_vec_len line.old + length word.now + 20 }
+{
+    push_word(line, word);
+    push_number(line, n);
+}
+
+/// Appends a byte in hexadecimal.
+pub fn push_hex<const N: usize>(line: &mut Line<N>, byte: u8)
+    requires { array_vec_len line.old + 2 ≤ N }
+    ensures items { line.new.items ≡ line.old.items ++ hex_byte byte }
+    ensures len { array_vec_len line.new ≡ array_vec_len line.old + 2 }
+{
+    line.push(hex_digit(byte / 16));
+    line.push(hex_digit(byte % 16));
+}
+
+/// Writes a word.
 pub fn write_word(out: &mut [u8], at: usize, word: &[u8]) -> usize
     requires { at + length word.now ≤ length out.old }
     ensures { Written out.old at word.now out.new result }
 {
-    let mut j = 0;
-    while j < word.len() {
-        out[at + j] = word[j];
-        j += 1;
-    }
-    at + j
+    let next = at + word.len();
+    out[at..next].copy_from_slice(word);
+    next
 }
 
-// A digit.
-fn write_digit(out: &mut [u8], at: usize, d: u64) -> usize
-    requires { (at < length out.old) × (d < 10) }
-    ensures { Written out.old at ((48 + d) ∷ []) out.new result }
-{
-    out[at] = 48 + d as u8;
-    at + 1
-}
-
-// A number in decimal: all digits but the last, and the last.
+/// Writes a number in decimal.
+#[tactic(auto, using(crate::proofs::Texts::printed))]
 pub fn write_number(out: &mut [u8], at: usize, n: u64) -> usize
     requires { at + length (decimal n) ≤ length out.old }
     ensures { Written out.old at (decimal n) out.new result }
 {
-    if n < 10 {
-        return write_digit(out, at, n);
-    }
-    let next = write_number(out, at, n / 10);
-    write_digit(out, next, n % 10)
+    write_word(out, at, itoa::Buffer::new().format(n).as_bytes())
 }
 
-// A word and the number behind it, of at most 20 digits.
-pub fn write_labelled(out: &mut [u8], at: usize, word: &[u8], n: u64) -> usize
-    requires { at + length word.now + 20 ≤ length out.old }
-    ensures same { Written out.old at (word.now ++ decimal n) out.new result }
-    ensures short { result ≤ at + length word.now + 20 }
-{
-    let next = write_word(out, at, word);
-    write_number(out, next, n)
-}
-
-// One byte.
+/// Writes one byte.
 pub fn write_byte(out: &mut [u8], at: usize, byte: u8) -> usize
     requires { at < length out.old }
     ensures { Written out.old at (byte ∷ []) out.new result }
@@ -60,23 +81,20 @@ pub fn write_byte(out: &mut [u8], at: usize, byte: u8) -> usize
     at + 1
 }
 
+/// Writes a byte in hexadecimal.
+pub fn write_hex(out: &mut [u8], at: usize, byte: u8) -> usize
+    requires { at + 2 ≤ length out.old }
+    ensures same { Written out.old at (hex_byte byte) out.new result }
+    ensures ends { result ≡ at + 2 }
+{
+    let next = write_byte(out, at, hex_digit(byte / 16));
+    write_byte(out, next, hex_digit(byte % 16))
+}
+
 // A hexadecimal digit.
-fn hex_digit(d: u64) -> u8
+fn hex_digit(d: u8) -> u8
     requires { d < 16 }
     ensures { result ≡ hex_digit d }
 {
-    if d < 10 {
-        return 48 + d as u8;
-    }
-    87 + d as u8
-}
-
-// A byte in hexadecimal.
-pub fn write_hex(out: &mut [u8], at: usize, n: u64) -> usize
-    requires { at + 2 ≤ length out.old }
-    ensures same { Written out.old at (hex_byte n) out.new result }
-    ensures ends { result ≡ at + 2 }
-{
-    let next = write_byte(out, at, hex_digit(n / 16 % 16));
-    write_byte(out, next, hex_digit(n % 16))
+    if d < 10 { b'0' + d } else { b'a' - 10 + d }
 }

@@ -1,258 +1,252 @@
 -- The loop over plain instructions.
-use mathlib.Core.Bool.{Bool, true, false, ◌&&◌}
-use mathlib.Core.List.{List, [], ◌∷◌}
-use mathlib.Core.Logic.{⊎_elim}
-use mathlib.Core.Path.{◌≡◌, refl, sym, ap, ◌∙◌, subst}
-use Prim.Native.Nat.{ℕ, ◌+◌, ◌*◌, ◌-◌, ◌≤◌, ◌<◌, max}
-use native.Mathlib.Omega.{arith}
+use Rattle.std.proofs.Common.{Bool, true, false, ◌&&◌, List, [], ◌∷◌, ◌≡◌, refl, sym, ap, ◌∙◌, subst, ℕ, ◌+◌, ◌*◌, ◌-◌, ◌^◌, ◌≤◌, ◌<◌, max, arith, length, Option, Some, None, Result, Ok, Err}
+use mathlib.Core.Logic.{◌⊎◌, ⊎_elim}
 use lib.Dec.{ltb}
-use lib.ListN.{length}
+use lib.ListN.{set}
 use Rattle.definition.specs.Basics.{Bytes}
 use Rattle.definition.specs.Decoding.{instructions}
 use Rattle.definition.specs.Decoding as Decoding
-use Rattle.definition.specs.Classes.{Class, Ordinary, ordinary, unmodelled, push, nothing, TOALT, FROMALT, NIP, TUCK, ROLL, copies, rotates, plain, class_at}
+use Rattle.definition.specs.Classes.{Class, Ordinary, IF, NOTIF, ELSE, ENDIF, RETURN, ordinary, plain, class_at}
 use Rattle.definition.specs.Refusals.{max_element}
 use Rattle.definition.specs.Replay.{AreBytes}
-use Rattle.definition.specs.Stacks.{Rules, step, push_item, copy_items, rotate_items, tuck_top, nip_second, move_to_alt, move_from_alt, pop_index, plain_step}
-use Rattle.definition.specs.Walk.{Item, dead, Frame, moves, effect, marking, total_of, log_row}
-use types.Run.{OneOf}
-use denote.Enum.Declared.{tag_of}
-use Rattle.decode.specs.contracts.Decoded.{the_type}
-use Rattle.decode.specs.declared.Decoded.{Decoded}
-use Rattle.decode.specs.declared.Decoded.TheVariants as D
-use Rattle.decode.specs.View.{code_at, decoded_at, data_start, item_of}
-use Rattle.decode.proofs.Codes.{InstructionAt, code-ends, code-malformed}
+use Rattle.definition.specs.Stacks.{Rules, Outcome, done, step, push_item, push_literal, plain_step}
+use Rattle.definition.specs.Stacks as S
+use Rattle.definition.specs.Walk.{Item, unknown, dead, Frame, moves, effect, marking, total_of, log_row}
+use Rattle.decode.specs.View.{code_at, Decoded, decoded_at, data_start, item_of}
+use Rattle.decode.proofs.Codes.{InstructionAt, code-instruction, code-ends, code-malformed}
 use Rattle.decode.specs.declared.Instruction.{Instruction}
-use Rattle.opcodes.proofs.Match.{Rest, below}
+use Rattle.decode.specs.declared.Malformed.{Malformed}
+use Rattle.decode.specs.declared.Value.{Value}
 use Rattle.decode.specs.declared.Value.TheVariants.{Unknown, Exact}
-use Rattle.stack.specs.View.{view, Fit, Says, Steps}
+use Rattle.opcodes.specs.Class.{number_of}
+use Rattle.opcodes.specs.declared.Class as Opcodes
+use Rattle.opcodes.specs.declared.Class.TheVariants as C
+use Rattle.refusals.specs.declared.Refusal.{Refusal}
+use Rattle.refusals.specs.declared.Refusal.TheVariants as F
+use Rattle.stack.specs.View.{view, Yields, YieldsStep}
 use Rattle.stack.specs.declared.Stacks.{Stacks}
-use Rattle.stack.specs.declared.Stepped.{Stepped}
-use Rattle.stack.specs.declared.Answer.TheVariants as A
-use Rattle.stack.specs.declared.Refusal.{Refusal}
-use Rattle.stack.specs.declared.Refusal.TheVariants as F
-use Rattle.walk.specs.Runs.{arm, Goes, Any, stop_of, Stopped, Ready, Runs}
+use Rattle.walk.specs.Runs.{running, finished, met_conditional, met_else, met_endif, going, stopping, Stand, stand, arm, Goes, Any, Room, Runs}
+use Rattle.walk.specs.declared.Place.{Place}
 use Rattle.walk.specs.declared.Stop.{Stop}
-use Rattle.walk.specs.declared.Stop.TheVariants.{Running, End, Conditional, Else, Endif, Refused}
 use Rattle.walk.specs.declared.Walk.{Walk}
+use Rattle.walk.proofs.Rows.{row-live, total-live}
 use Rattle.walk.proofs.Literals.{unknown-long, exact-pushed, long-pushed, short-pushed}
 use Rattle.walk.proofs.Goings.{stays, goes_on_lem}
 use Rattle.walk.proofs.Steps.{past, at-if, at-notif, at-else, at-endif, at_return, skipped, stepped, at-end}
 
--- the walk that the loop's variables stand for
-abbrev pub walk_of : Stepped → ℕ → ℕ → ℕ → ℕ → Walk
-walk_of t at last rows peak = record { stacks = t.stacks; live = true; at = at; last = last; rows = rows; peak = peak; stop = stop_of t.answer }
-
 -- the loop's invariant
-pub record Walking (R : Rules) (s : Bytes) (before : List ℕ) (v : Walk) (now : List ℕ) (w : Walk) : Type 0 where
+pub record Walking (R : Rules) (s : Bytes) (before : List ℕ) (v : Stand) (now : List ℕ) (w : Stand) : Type 0 where
   pub bytes : AreBytes s
-  pub ready : Ready s before v
+  pub ready : Room s before v.at v.rows
   pub len : length now ≡ length before
   pub goes : Goes R s Any v before w now
 
-pub walking-none : {R : Rules} {s : Bytes} {log : List ℕ} {v : Walk} → AreBytes s → Ready s log v → Walking R s log v log v
-walking-none b r = record { bytes = b; ready = r; len = refl; goes = stays r.fit r.high }
-
--- the walk from v is the walk from its record, where v runs
-pub runs-from : {R : Rules} {s : Bytes} {before now : List ℕ} (v : Walk) {alive : Bool} {w : Walk} → v.live ≡ alive → v.stop ≡ Running
-    → Runs R s (record { stacks = v.stacks; live = alive; at = v.at; last = v.last; rows = v.rows; peak = v.peak; stop = Running }) before w now → Runs R s v before w now
-runs-from {R} {s} {before} {now} v {alive} {w} l e r = subst (λ (u : Walk). Runs R s u before w now) same r
-  where
-    same : record { stacks = v.stacks; live = alive; at = v.at; last = v.last; rows = v.rows; peak = v.peak; stop = Running } ≡ v
-    same = λ i. record { stacks = v.stacks; live = sym l i; at = v.at; last = v.last; rows = v.rows; peak = v.peak; stop = sym e i }
+pub walking-none : {R : Rules} {s : Bytes} {log : List ℕ} {v : Stand} → AreBytes s → Room s log v.at v.rows → Walking R s log v log v
+walking-none b r = record { bytes = b; ready = r; len = refl; goes = stays r.high }
 
 -- in a dead arm an instruction of this class is skipped
 abbrev pub Skips : Rules → Class → Type 0
 Skips R k = (i : Decoding.Instruction) (fs : List Frame) → effect R i k dead fs ≡ moves dead fs
 
--- What is known once the instruction i is met by w, its row is written, and its class number is read.
-pub record Met (R : Rules) (s : Bytes) (before : List ℕ) (v : Walk) (old : List ℕ) (w : Walk) (new : List ℕ) (i : Instruction) (peak class : ℕ) : Type 0 where
+-- What is known once the instruction i is met by w, its row is written, and its class is read.
+pub record Met (R : Rules) (s : Bytes) (before : List ℕ) (v : Stand) (old : List ℕ) (w : Stand) (new : List ℕ) (i : Instruction) (peak : ℕ) (class : Opcodes.Class) : Type 0 where
   pub walking : Walking R s before v old w
-  pub run : w.stop ≡ Running
+  pub run : w.halt ≡ running
   pub stands : InstructionAt s w.at i
   pub len : length new ≡ length old
   pub row : new ≡ log_row w.rows w.at (arm w) old
   pub high : peak ≡ max w.peak (total_of (arm w))
-  pub kind : R.class_for i.opcode ≡ class_at class
-  pub small : class < 32
+  pub kind : R.class_for i.opcode ≡ class_at (number_of class)
 
-module _ {R : Rules} {s : Bytes} {before : List ℕ} {v : Walk} {old : List ℕ} {w : Walk} {new : List ℕ} {i : Instruction} {peak class : ℕ} (m : Met R s before v old w new i peak class) where
-  -- the class of the instruction, where its number is n
-  kind : (n : ℕ) → class ≡ n → R.class_for i.opcode ≡ class_at n
-  kind n e = m.kind ∙ ap class_at e
+-- a walk whose arm has these stacks
+abbrev pub living : Stacks → Place → ℕ → Stand
+living x p peak = record { stacks = Some x; at = p.at; last = p.last; rows = p.rows; peak = peak; halt = running }
 
-  fits : Fit w.stacks
-  fits = m.walking.goes.fit
+pub live-met : {R : Rules} {s : Bytes} {before : List ℕ} {v : Stand} {old new : List ℕ} {x : Stacks} {i : Instruction} {peak : ℕ} {class : Opcodes.Class} (p : Place) (least : ℕ)
+    → Walking R s before v old (living x p least) → InstructionAt s p.at i → length new ≡ length old → new ≡ set (set (set old (3 * p.rows) p.at) (3 * p.rows + 1) x.mains) (3 * p.rows + 2) x.alts
+    → peak ≡ max least (x.mains + x.alts) → R.class_for i.opcode ≡ class_at (number_of class) → Met R s before v old (living x p least) new i peak class
+live-met {old = old} {new} {x} p least k at len row high kind =
+    record { walking = k; run = refl; stands = at; len = len; row = row-live p.rows p.at x old new row; high = rw total-live high; kind = kind }
 
-  -- the loop goes on
-  on : {u : Walk} → Goes R s Any w old u new → Walking R s before v new u
+-- what an instruction of this class makes of live stacks
+abbrev pub operated : Rules → Decoding.Instruction → Class → S.Stacks Item → Outcome Item
+operated R i (ordinary o) x = step marking R i o x
+operated R i (plain pops pushes) x = plain_step marking R.limit pops pushes x
+operated R i IF x = done x
+operated R i NOTIF x = done x
+operated R i ELSE x = done x
+operated R i ENDIF x = done x
+operated R i RETURN x = done x
+
+-- a class that an instruction of a live arm does so by
+abbrev pub Operates : Class → Type 0
+Operates (ordinary o) = Unit {0}
+Operates (plain pops pushes) = Unit {0}
+Operates IF = ⊥
+Operates NOTIF = ⊥
+Operates ELSE = ⊥
+Operates ENDIF = ⊥
+Operates RETURN = ⊥
+
+module _ {R : Rules} {s : Bytes} {before : List ℕ} {v : Stand} {old : List ℕ} {w : Stand} {new : List ℕ} {i : Instruction} {peak : ℕ} {class : Opcodes.Class} (m : Met R s before v old w new i peak class) where
+  -- the loop goes on, or the walk has stopped
+  on : {u : Stand} → Goes R s Any w old u new → Walking R s before v new u
   on g = record { bytes = m.walking.bytes; ready = m.walking.ready; len = m.len ∙ m.walking.len; goes = goes_on_lem m.walking.goes g }
 
-  -- or the walk has stopped
-  stop : {u : Walk} → Goes R s Any w old u new → Stopped v.at u.at u.stop → Runs R s v before u new
-  stop g h = record { goes = goes_on_lem m.walking.goes g; stopped = h }
+  -- the class of the instruction, by its number
+  kind : {k : Opcodes.Class} → class ≡ k → R.class_for i.opcode ≡ class_at (number_of k)
+  kind e = m.kind ∙ ap (λ k. class_at (number_of k)) e
 
-  pub met-if : class ≡ 3 → Runs R s v before (past w i peak w.stacks w.live Conditional) new
-  met-if e = stop (at-if R s m.stands w m.run refl old m.row m.high (kind 3 e) fits) (omega (arith, m.walking.goes.low, m.stands.onward))
+  met-if : class ≡ C.If → Walking R s before v new (past w i peak w.stacks met_conditional)
+  met-if e = on (at-if R s m.stands w m.run refl old m.row m.high (kind e))
 
-  pub met-notif : class ≡ 4 → Runs R s v before (past w i peak w.stacks w.live Conditional) new
-  met-notif e = stop (at-notif R s m.stands w m.run refl old m.row m.high (kind 4 e) fits) (omega (arith, m.walking.goes.low, m.stands.onward))
+  met-notif : class ≡ C.NotIf → Walking R s before v new (past w i peak w.stacks met_conditional)
+  met-notif e = on (at-notif R s m.stands w m.run refl old m.row m.high (kind e))
 
-  pub met-else : class ≡ 5 → Runs R s v before (past w i peak w.stacks w.live Else) new
-  met-else e = stop (at-else R s m.stands w m.run refl old m.row m.high (kind 5 e) fits) tt
+  pub met-if-or-notif : (class ≡ C.If) ⊎ (class ≡ C.NotIf) → Walking R s before v new (past w i peak w.stacks met_conditional)
+  met-if-or-notif = ⊎_elim met-if met-notif
 
-  pub met-endif : class ≡ 6 → Runs R s v before (past w i peak w.stacks w.live Endif) new
-  met-endif e = stop (at-endif R s m.stands w m.run refl old m.row m.high (kind 6 e) fits) tt
+  pub met-else : class ≡ C.Else → Walking R s before v new (past w i peak w.stacks met_else)
+  met-else e = on (at-else R s m.stands w m.run refl old m.row m.high (kind e))
 
-  -- the variables that the loop does not change
-  kept : {t : Stacks} {alive other : Bool} {x y : Stop} → alive ≡ other → x ≡ y → Walking R s before v new (past w i peak t alive x) → Walking R s before v new (past w i peak t other y)
-  kept {t} {alive} {other} {x} {y} e f k = subst (λ (z : Stop). Walking R s before v new (past w i peak t other z)) f (subst (λ (z : Bool). Walking R s before v new (past w i peak t z x)) e k)
+  pub met-endif : class ≡ C.EndIf → Walking R s before v new (past w i peak w.stacks met_endif)
+  met-endif e = on (at-endif R s m.stands w m.run refl old m.row m.high (kind e))
 
-  pub met-return : class ≡ 7 → Walking R s before v new (past w i peak w.stacks false Running)
-  met-return e = on (at_return R s m.stands w m.run refl old m.row m.high (kind 7 e) fits)
+  pub met-return : class ≡ C.Return → Walking R s before v new (past w i peak None running)
+  met-return e = on (at_return R s m.stands w m.run refl old m.row m.high (kind e))
 
   -- an ordinary instruction in a dead arm
-  pub met-dead : Skips R (class_at class) → w.live ≡ false → Walking R s before v new (past w i peak w.stacks false Running)
-  met-dead k l = on (skipped R s m.stands w m.run refl old m.row m.high (class_at class) (kind class refl) (k _) l fits)
+  pub met-dead : Skips R (class_at (number_of class)) → w.stacks ≡ None → Walking R s before v new (past w i peak w.stacks running)
+  met-dead k l = rw l (on (skipped R s m.stands w m.run refl old m.row m.high (class_at (number_of class)) m.kind (k _) l))
 
-  -- an ordinary instruction in a live arm
-  pub met-live : (n : ℕ) (o : Ordinary) → class ≡ n → class_at n ≡ ordinary o → w.live ≡ true → (r : Stepped)
-      → Says r (step marking R (record { opcode = i.opcode; offset = w.at; literal = m.stands.literal }) o (view w.stacks))
-      → Walking R s before v new (past w i peak r.stacks w.live (stop_of r.answer))
-  met-live n o e k l r says = kept (sym l) refl (on (stepped R s m.stands w m.run refl old m.row m.high (ordinary o) _ (kind n e ∙ k) (λ fs. refl) l r says))
+  -- the instruction as the definition has it
+  abbrev pub there : Decoding.Instruction
+  there = record { opcode = i.opcode; offset = w.at; literal = m.stands.literal }
 
-  -- and one of a plain class
-  pub met-plain : (n pops pushes : ℕ) → class ≡ n → class_at n ≡ plain pops pushes → w.live ≡ true → (r : Stepped) → Says r (plain_step marking R.limit pops pushes (view w.stacks))
-      → Walking R s before v new (past w i peak r.stacks w.live (stop_of r.answer))
-  met-plain n pops pushes e k l r says = kept (sym l) refl (on (stepped R s m.stands w m.run refl old m.row m.high (plain pops pushes) _ (kind n e ∙ k) (λ fs. refl) l r says))
+  -- one that is no conditional and no RETURN, in a live arm
+  module _ (x : Stacks) (l : w.stacks ≡ Some x) (a : Result Unit Refusal) (y : Stacks) where
+    met-ordinary : (o : Ordinary) → class_at (number_of class) ≡ ordinary o → Yields a y (step marking R there o (view x)) → Walking R s before v new (past w i peak (Some y) (going a))
+    met-ordinary o k says = on (stepped R s m.stands w m.run refl old m.row m.high (ordinary o) _ x (m.kind ∙ k) (λ fs. refl) l a y says)
 
-  pub met-nothing : class ≡ 2 → w.live ≡ true → Walking R s before v new (past w i peak w.stacks w.live w.stop)
+    met-plain : (pops pushes : ℕ) → class_at (number_of class) ≡ plain pops pushes → Yields a y (plain_step marking R.limit pops pushes (view x)) → Walking R s before v new (past w i peak (Some y) (going a))
+    met-plain pops pushes k says = on (stepped R s m.stands w m.run refl old m.row m.high (plain pops pushes) _ x (m.kind ∙ k) (λ fs. refl) l a y says)
+
+    pub met-operated : Operates (class_at (number_of class)) × Yields a y (operated R there (class_at (number_of class)) (view x)) → Walking R s before v new (past w i peak (Some y) (going a))
+    met-operated did = by (class_at (number_of class)) refl did.0 did.1
+      where
+        by : (k : Class) → class_at (number_of class) ≡ k → Operates k → Yields a y (operated R there k (view x)) → Walking R s before v new (past w i peak (Some y) (going a))
+        by (ordinary o) e f says = met-ordinary o e says
+        by (plain pops pushes) e f says = met-plain pops pushes e says
+        by IF e f says = absurd f
+        by NOTIF e f says = absurd f
+        by ELSE e f says = absurd f
+        by ENDIF e f says = absurd f
+        by RETURN e f says = absurd f
+
+  -- the loop's measure falls
+  pub nearer : length s - i.next < length s - w.at
+  nearer = omega (arith, m.stands.onward, m.stands.within)
+
+  -- what an operation did, by the class k that the match has told
+  abbrev pub Did : Opcodes.Class → Result Unit Refusal → Stacks → Stacks → Type 0
+  Did k a y x = Operates (class_at (number_of k)) × Yields a y (operated R there (class_at (number_of k)) (view x))
+
+  pub did-by : (k : Opcodes.Class) → class ≡ k → (x : Stacks) (a : Result Unit Refusal) (y : Stacks) {b : Result Unit Refusal} {z : Stacks} → a ≡ b → y ≡ z → Did k b z x → Did class a y x
+  did-by k e x a y f g did = rw (e, f, g) did
+
+  -- one that is a step by its own contract
+  pub steps-by : (o : Ordinary) (x : Stacks) {a : Result Unit Refusal} {y : Stacks} → YieldsStep a y R.limit o (view x) → Yields a y (step marking R there o (view x))
+  steps-by o x says = record { same = says.same R there refl }
+
+  pub does-nothing : (x : Stacks) → Did C.Nothing (Ok tt) x x
   unfolding step
-  met-nothing e l = kept refl (sym m.run) (met-live 2 nothing e refl l (record { stacks = w.stacks; answer = A.Done }) (record { fit = fits; same = refl }))
+  does-nothing x = (tt, record { same = refl })
 
--- The other needs of the loop.
-module _ {R : Rules} {s : Bytes} {before : List ℕ} {v : Walk} {now : List ℕ} where
-  -- the operation before was refused
-  pub was-refused : (t : Stepped) (at last rows peak : ℕ) (r : Refusal) → Walking R s before v now (walk_of t at last rows peak) → t.answer ≡ A.Refused r
-      → Runs R s v before (record { stacks = t.stacks; live = true; at = at; last = last; rows = rows; peak = peak; stop = Refused r }) now
-  was-refused t at last rows peak r w e = record {
-    goes = subst (λ (x : Stop). Goes R s Any v before (record { stacks = t.stacks; live = true; at = at; last = last; rows = rows; peak = peak; stop = x }) now) (ap stop_of e) w.goes;
-    stopped = tt;
-  }
+  pub unmodelled-refused : class ≡ C.Unmodelled → (x : Stacks) → Did class (Err (F.Unmodelled i.opcode)) x x
+  unfolding step
+  unmodelled-refused e x = rw e (tt, record { same = refl })
 
+  -- an unknown literal ends where the next instruction stands
+  module _ (u : i.literal ≡ Unknown) where
+    data-long : 8 < length m.stands.literal
+    data-long = unknown-long m.stands.literal (m.stands.value ∙ u)
+
+    data_is : i.next - data_start s w.at ≡ length m.stands.literal
+    data_is = omega (arith, m.stands.long data-long)
+
+    -- what `too_long` and `data_size` ask
+    pub data-within : (w.at < length s) × (data_start s w.at ≤ i.next)
+    data-within = (omega (arith, m.stands.onward, m.stands.within), omega (arith, m.stands.long data-long))
+
+    module _ (b : Bool) (t : b ≡ (R.examined && ltb max_element (i.next - data_start s w.at))) where
+      -- one that is too long is refused
+      pub pushes-long : class ≡ C.Push → (x : Stacks) → b ≡ true → (size : ℕ) → size ≡ i.next - data_start s w.at → Did class (Err (F.LongElement size)) x x
+      unfolding step
+      pushes-long e x f size z = rw e (tt, record { same = rw z (sym (long-pushed R m.stands.literal (view x) _ data_is b t f)) })
+
+      -- another is pushed
+      pub pushes-unknown : b ≡ false → (x : Stacks) {a : Result Unit Refusal} {y : Stacks} → Yields a y (push_item R.limit unknown (view x)) → Did C.Push a y x
+      unfolding step
+      pushes-unknown f x {a} {y} says = (
+        tt,
+        subst (λ o. Yields a y o) (sym (short-pushed R m.stands.literal (view x) _ data_is b t f))
+            (subst (λ (z : Item). Yields a y (push_item R.limit z (view x))) (ap item_of (sym u) ∙ m.stands.item) says),
+      )
+
+  -- a literal that is known is no long one
+  pub pushes-known : (i.literal ≡ Unknown → ⊥) → (x : Stacks) {a : Result Unit Refusal} {y : Stacks} → Yields a y (push_item R.limit (item_of i.literal) (view x)) → Did C.Push a y x
+  unfolding step
+  pushes-known n x {a} {y} says = by i.literal refl
+    where
+      by : (l : Value) → i.literal ≡ l → Did C.Push a y x
+      by Unknown q = absurd (n q)
+      by (Exact len bytes) q = (
+        tt,
+        subst (λ o. Yields a y o) (sym (exact-pushed R m.stands.literal (view x) len bytes (m.stands.value ∙ q)))
+            (subst (λ (z : Item). Yields a y (push_item R.limit z (view x))) m.stands.item says),
+      )
+
+-- The other needs of the loops
+module _ {R : Rules} {s : Bytes} {before : List ℕ} {v : Stand} {now : List ℕ} where
   -- no instruction stands at the offset
-  pub none_left : {w : Walk} → Walking R s before v now w → w.stop ≡ Running → {peak : ℕ} → peak ≡ max w.peak (total_of (arm w)) → instructions (code_at s w.at) ≡ []
-      → Runs R s v before (record { stacks = w.stacks; live = w.live; at = w.at; last = w.last; rows = w.rows; peak = peak; stop = End }) now
-  none_left {w} k run h n = record { goes = goes_on_lem k.goes (at-end R s w run n h k.goes.fit k.goes.high); stopped = tt }
+  pub none_left : {w : Stand} → Walking R s before v now w → w.halt ≡ running → {peak : ℕ} → peak ≡ max w.peak (total_of (arm w)) → instructions (code_at s w.at) ≡ []
+      → Walking R s before v now (record { stacks = w.stacks; at = w.at; last = w.last; rows = w.rows; peak = peak; halt = finished })
+  none_left {w} k run h n = record { bytes = k.bytes; ready = k.ready; len = k.len; goes = goes_on_lem k.goes (at-end R s w run n h k.goes.high) }
 
-  -- the log has room for one more row
-  pub row_room : {w : Walk} {i : Instruction} → Walking R s before v now w → InstructionAt s w.at i → 3 * w.rows + 2 < length now
+  -- the log has room for one more row, and the offset fits it
+  pub row_room : {w : Stand} {i : Instruction} → Walking R s before v now w → InstructionAt s w.at i → 3 * w.rows + 2 < length now
   row_room {w} {i} k at =
       let e : instructions (code_at s w.at) ≡ record { opcode = i.opcode; offset = w.at; literal = at.literal } ∷ instructions (code_at s i.next) = ap instructions at.code in
       omega (arith, k.ready.room, k.goes.fewer, k.len, ap length e)
 
--- what the match tells of a Decoded that is no instruction
-pub no-instruction : (s : Bytes) (p : ℕ) (d : Decoded) → d ≡ decoded_at s p → OneOf (1 ∷ 2 ∷ []) (tag_of the_type d) → instructions (code_at s p) ≡ []
-no-instruction s p (D.At i) e h = absurd (⊎_elim (λ k. omega arith) (λ k. omega arith) h)
-no-instruction s p D.End e h = ap instructions (code-ends s p (sym e)).0
-no-instruction s p (D.Malformed at) e h = ap instructions (code-malformed s p (sym e)).0
+  pub short_at : {w : Stand} {i : Instruction} → Walking R s before v now w → InstructionAt s w.at i → w.at < 2 ^ 16
+  short_at k at = omega (arith, k.ready.short, at.onward, at.within)
 
-pub ready-running : {s : Bytes} {log : List ℕ} (v : Walk) {alive : Bool} → Ready s log v
-    → Ready s log (record { stacks = v.stacks; live = alive; at = v.at; last = v.last; rows = v.rows; peak = v.peak; stop = Running })
-ready-running v r = record { fit = r.fit; high = r.high; short = r.short; room = r.room }
+  -- room for the rows that are left
+  pub room-on : {w : Stand} → Walking R s before v now w → Room s now w.at w.rows
+  room-on k = record { high = k.goes.high; short = k.ready.short; room = omega (arith, k.ready.room, k.goes.fewer, k.len) }
 
--- the loop's measure falls
-pub nearer : {R : Rules} {s : Bytes} {before : List ℕ} {v : Walk} {old : List ℕ} {w : Walk} {new : List ℕ} {i : Instruction} {peak class : ℕ} → Met R s before v old w new i peak class
-    → length s - i.next < length s - w.at
-nearer m = omega (arith, m.stands.onward, m.stands.within)
+-- the walk has stopped
+pub walk-runs : {R : Rules} {s : Bytes} {before : List ℕ} {v : Walk} {now : List ℕ} {w : Walk} {r : Result Stop Refusal} → Walking R s before (stand v running) now (stand w (stopping r))
+    → (r ≡ Ok Stop.Conditional → v.place.at < w.place.at) → Runs R s v before w r now
+walk-runs k h = record { goes = k.goes; onward = h }
 
--- an unknown literal ends where the next instruction stands
-module _ {R : Rules} {s : Bytes} {before : List ℕ} {v : Walk} {old : List ℕ} {w : Walk} {new : List ℕ} {i : Instruction} {peak class : ℕ} (m : Met R s before v old w new i peak class)
-    (x : i.literal ≡ Unknown) where
-  data-long : 8 < length m.stands.literal
-  data-long = unknown-long m.stands.literal (m.stands.value ∙ x)
+-- a step was refused
+pub refused-runs : {R : Rules} {s : Bytes} {before : List ℕ} {v : Walk} {now : List ℕ} (w : Walk) {a : Result Unit Refusal} {r : Result Stop Refusal} {z : Refusal} → a ≡ Err z → r ≡ Err z
+    → Walking R s before (stand v running) now (stand w (going a)) → Runs R s v before w r now
+refused-runs w e f k = rw f (walk-runs (rw e at k) (λ g. cc))
 
-  data_is : i.next - data_start s w.at ≡ length m.stands.literal
-  data_is = omega (arith, m.stands.long data-long)
+-- by way of another walk
+pub then-runs : {R : Rules} {s : Bytes} {before : List ℕ} {v u : Walk} {mid : List ℕ} {w : Walk} {r : Result Stop Refusal} {now : List ℕ} → Walking R s before (stand v running) mid (stand u running)
+    → Runs R s u mid w r now → Runs R s v before w r now
+then-runs k r = record { goes = goes_on_lem k.goes r.goes; onward = λ e. omega (arith, k.goes.low, r.onward e) }
 
-  -- what `too_long_lem` and `data_size` ask
-  pub data-within : (w.at < length s) × (data_start s w.at ≤ i.next)
-  data-within = (omega (arith, m.stands.onward, m.stands.within), omega (arith, m.stands.long data-long))
+-- what stands where `decode_at` has answered
+pub instruction-there : {s : Bytes} {p : ℕ} → AreBytes s → {d : Decoded} → d ≡ decoded_at s p → {o : Option Instruction} → d ≡ Ok o → {i : Instruction} → o ≡ Some i → InstructionAt s p i
+instruction-there {s} {p} b e f {i} g = code-instruction s p b i (sym e ∙ f ∙ rw g)
 
--- Each method of the stacks is the step of its class.
-module _ {R : Rules} {s : Bytes} {before : List ℕ} {v : Walk} {old : List ℕ} {w : Walk} {new : List ℕ} {i : Instruction} {peak class : ℕ} (m : Met R s before v old w new i peak class)
-    (alive : w.live ≡ true) (r : Stepped) where
-  abbrev On : Type 0
-  On = Walking R s before v new (past w i peak r.stacks w.live (stop_of r.answer))
+pub end-there : (s : Bytes) (p : ℕ) {d : Decoded} → d ≡ decoded_at s p → d ≡ Ok None → instructions (code_at s p) ≡ []
+end-there s p e h = ap instructions (code-ends s p (sym e ∙ h)).0
 
-  -- an exact literal is no long one
-  pub met-push : (len bytes : ℕ) → i.literal ≡ Exact len bytes → class ≡ 1 → Says r (push_item R.limit (item_of i.literal) (view w.stacks)) → On
-  unfolding step
-  met-push len bytes x e h = met-live m 1 push e refl alive r
-      (subst (λ o. Says r o) (sym (exact-pushed R m.stands.literal (view w.stacks) len bytes (m.stands.value ∙ x)))
-      (subst (λ (x : Item). Says r (push_item R.limit x (view w.stacks))) m.stands.item h))
-
-  -- nor is an unknown one that is tested
-  pub met-unknown : i.literal ≡ Unknown → (b : Bool) → b ≡ (R.examined && ltb max_element (i.next - data_start s w.at)) → b ≡ false
-      → class ≡ 1 → Says r (push_item R.limit (item_of i.literal) (view w.stacks)) → On
-  unfolding step
-  met-unknown x b t f e h = met-live m 1 push e refl alive r
-      (subst (λ o. Says r o) (sym (short-pushed R m.stands.literal (view w.stacks) _ (data_is m x) b t f))
-      (subst (λ (x : Item). Says r (push_item R.limit x (view w.stacks))) m.stands.item h))
-
-  pub met-to-alt : class ≡ 8 → Says r (move_to_alt (view w.stacks)) → On
-  unfolding step
-  met-to-alt e h = met-live m 8 TOALT e refl alive r h
-
-  pub met-from-alt : class ≡ 9 → Says r (move_from_alt (view w.stacks)) → On
-  unfolding step
-  met-from-alt e h = met-live m 9 FROMALT e refl alive r h
-
-  pub met-nip : class ≡ 12 → Says r (nip_second (view w.stacks)) → On
-  unfolding step
-  met-nip e h = met-live m 12 NIP e refl alive r h
-
-  pub met-tuck : class ≡ 13 → Says r (tuck_top R.limit (view w.stacks)) → On
-  unfolding step
-  met-tuck e h = met-live m 13 TUCK e refl alive r h
-
-  pub met-roll : class ≡ 15 → Says r (pop_index marking (view w.stacks) (λ n t. rotate_items (n + 1) 1 t)) → On
-  unfolding step
-  met-roll e h = met-live m 15 ROLL e refl alive r h
-
-  pub met-steps : (n : ℕ) (o : Ordinary) → class ≡ n → class_at n ≡ ordinary o → Steps r R.limit o (view w.stacks) → On
-  met-steps n o e k h = met-live m n o e k alive r (record { fit = h.fit; same = h.same R _ refl })
-
-  pub met-copies : (n depth count : ℕ) → class ≡ n → class_at n ≡ ordinary (copies depth count) → Says r (copy_items R.limit depth count (view w.stacks)) → On
-  unfolding step
-  met-copies n depth count e k h = met-live m n (copies depth count) e k alive r h
-
-  pub met-rotates : (n count shift : ℕ) → class ≡ n → class_at n ≡ ordinary (rotates count shift) → Says r (rotate_items count shift (view w.stacks)) → On
-  unfolding step
-  met-rotates n count shift e k h = met-live m n (rotates count shift) e k alive r h
-
--- a literal that is too long is refused, and the walk stops
-pub met-long : {R : Rules} {s : Bytes} {before : List ℕ} {v : Walk} {old : List ℕ} {w : Walk} {new : List ℕ} {i : Instruction} {peak class : ℕ} (m : Met R s before v old w new i peak class)
-    → w.live ≡ true → i.literal ≡ Unknown → (b : Bool) → b ≡ (R.examined && ltb max_element (i.next - data_start s w.at)) → b ≡ true
-    → class ≡ 1 → (size : ℕ) → size ≡ i.next - data_start s w.at → Runs R s v before (past w i peak w.stacks w.live (Refused (F.LongElement size))) new
-unfolding step
-met-long {R = R} {s = s} {before = before} {v = v} {w = w} {new = new} {i = i} {peak = peak} m l x b t f e size z = record { goes = long.goes; stopped = tt }
-  where
-    long : Walking R s before v new (past w i peak w.stacks w.live (Refused (F.LongElement size)))
-    long = met-live m 1 push e refl l (record { stacks = w.stacks; answer = A.Refused (F.LongElement size) })
-        (record { fit = m.walking.goes.fit; same = rw z (sym (long-pushed R m.stands.literal (view w.stacks) _ (data_is m x) b t f)) })
-
--- an unmodelled opcode is refused
-pub met-unmodelled : {R : Rules} {s : Bytes} {before : List ℕ} {v : Walk} {old : List ℕ} {w : Walk} {new : List ℕ} {i : Instruction} {peak class : ℕ} → Met R s before v old w new i peak class
-    → w.live ≡ true → class ≡ 0 → Walking R s before v new (past w i peak w.stacks w.live (Refused (F.Unmodelled i.opcode)))
-unfolding step
-met-unmodelled {w = w} {i = i} m l e =
-    met-live m 0 unmodelled e refl l (record { stacks = w.stacks; answer = A.Refused (F.Unmodelled i.opcode) }) (record { fit = m.walking.goes.fit; same = refl })
-
--- What the match leaves: the numbers of the classes with an arm of their own.
-abbrev pub handled : List (List ℕ)
-handled = (31 ∷ []) ∷ (30 ∷ []) ∷ (29 ∷ []) ∷ (28 ∷ []) ∷ (27 ∷ []) ∷ (26 ∷ []) ∷ (25 ∷ []) ∷ (24 ∷ []) ∷ (23 ∷ []) ∷ (22 ∷ []) ∷ (21 ∷ []) ∷ (20 ∷ []) ∷ (19 ∷ []) ∷ (18 ∷ []) ∷ (17 ∷ []) ∷ (16 ∷ []) ∷ (15 ∷ []) ∷ (14 ∷ []) ∷ (13 ∷ []) ∷ (12 ∷ []) ∷ (11 ∷ []) ∷ (10 ∷ []) ∷ (9 ∷ []) ∷ (8 ∷ []) ∷ (1 ∷ []) ∷ (2 ∷ []) ∷ (7 ∷ []) ∷ (6 ∷ []) ∷ (5 ∷ []) ∷ (4 ∷ []) ∷ (3 ∷ []) ∷ []
-
-pub class-left : {R : Rules} {s : Bytes} {before : List ℕ} {v : Walk} {old : List ℕ} {w : Walk} {new : List ℕ} {i : Instruction} {peak class : ℕ} → Met R s before v old w new i peak class
-    → Rest handled class → class ≡ 0
-class-left {i = i} {class = class} m k = sym (below (λ n. n) handled class 0 32 k m.small tt)
+pub malformed-there : (s : Bytes) (p : ℕ) {d : Decoded} {m : Malformed} → d ≡ decoded_at s p → d ≡ Err m → instructions (code_at s p) ≡ []
+malformed-there s p e h = ap instructions (code-malformed s p (sym e ∙ h)).0

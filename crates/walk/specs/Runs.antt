@@ -1,36 +1,77 @@
 -- What a `Walk` stands for, and what `plain` promises: it goes a part of the definition's walk, and what is left of it is
 -- the same whatever conditionals are open around that part.
-use Rattle.std.specs.Prelude.{Bool, true, false, List, [], ◌∷◌, ◌≡◌, ℕ, ◌+◌, ◌*◌, ◌≤◌, ◌<◌, max, length}
+use Rattle.std.specs.Prelude.{List, [], ◌∷◌, ◌≡◌, ℕ, ◌+◌, ◌*◌, ◌≤◌, ◌<◌, max, length, Option, Some, None, Result, Ok, Err}
 use Rattle.definition.specs.Basics.{Bytes}
 use Rattle.definition.specs.Decoding.{instructions}
 use Rattle.definition.specs.Refusals as D
-use Rattle.definition.specs.Stacks.{Rules}
+use Rattle.definition.specs.Stacks as S
 use Rattle.definition_rules.specs.Maps as Maps
 use Rattle.definition.specs.Walk.{Arm, dead, live, Frame, Move, refuses, on_else, on_endif, conditional, State, total_of, WalkEnd, follow, at_end, walk, Marked, answered, refused_verdict}
 use Rattle.decode.specs.View.{code_at}
-use Rattle.stack.specs.View.{view, refusal_of, Fit}
+use Rattle.opcodes.specs.Classes.{rows_of}
+use Rattle.refusals.specs.View.{refusal_of}
+use Rattle.refusals.specs.declared.Refusal.{Refusal}
+use Rattle.stack.specs.View.{view}
 use Rattle.stack.specs.declared.Stacks.{Stacks}
-use Rattle.stack.specs.declared.Answer.{Answer}
-use Rattle.stack.specs.declared.Answer.TheVariants as A
+use Rattle.walk.specs.declared.ArmEnd.{ArmEnd}
+use Rattle.walk.specs.declared.ArmEnd.TheVariants.{End, Else, Endif}
 use Rattle.walk.specs.declared.Options.{Options}
+use Rattle.walk.specs.declared.Rules.{Rules}
 use Rattle.walk.specs.declared.Stop.{Stop}
-use Rattle.walk.specs.declared.Stop.TheVariants.{Running, End, Conditional, Else, Endif, Refused}
 use Rattle.walk.specs.declared.Walk.{Walk}
 
 -- what is lent beside the classes
 abbrev pub options_of : Options → Maps.Options
 options_of o = record { limit = o.limit; examined = o.examined }
 
--- the arm of a walk
-abbrev pub arm_of : Bool → Stacks → Arm
-arm_of true s = live (view s)
-arm_of false s = dead
+-- what a walk goes by
+abbrev pub rules_in : Rules → S.Rules
+rules_in r = Maps.rules_by (rows_of r.classes) (record { limit = r.limit.items; examined = r.examined })
 
-abbrev pub arm : Walk → Arm
-arm w = arm_of w.live w.stacks
+-- the arm of these stacks
+abbrev pub arm_of : Option Stacks → Arm
+arm_of (Some s) = live (view s)
+arm_of None = dead
+
+-- how a walk stands: it runs, or has stopped at the end, at an instruction of a conditional, whose row is written, or with a refusal
+pub data Halt : Type 0 where
+  running finished met_conditional met_else met_endif : Halt
+  halted : Refusal → Halt
+
+-- where it stands, and how
+pub record Stand : Type 0 where
+  pub stacks : Option Stacks
+  pub at : ℕ
+  pub last : ℕ
+  pub rows : ℕ
+  pub peak : ℕ
+  pub halt : Halt
+
+abbrev pub stand : Walk → Halt → Stand
+stand w h = record { stacks = w.stacks; at = w.place.at; last = w.place.last; rows = w.place.rows; peak = w.peak; halt = h }
+
+-- how it stands after what a walker answers: where it ends an arm, where it stops, and where it is to go on
+abbrev pub ending : Result ArmEnd Refusal → Halt
+ending (Ok End) = finished
+ending (Ok Else) = met_else
+ending (Ok Endif) = met_endif
+ending (Err r) = halted r
+
+abbrev pub stopping : Result Stop Refusal → Halt
+stopping (Ok Stop.Conditional) = met_conditional
+stopping (Ok (Stop.Arm e)) = ending (Ok e)
+stopping (Err r) = halted r
+
+abbrev pub going : Result Unit Refusal → Halt
+going (Ok u) = running
+going (Err r) = halted r
+
+-- the arm of a walk
+abbrev pub arm : Stand → Arm
+arm w = arm_of w.stacks
 
 -- the definition's state, with these conditionals open around the arm and this log
-abbrev pub state_of : Walk → ℕ → List Frame → List ℕ → State
+abbrev pub state_of : Stand → ℕ → List Frame → List ℕ → State
 state_of w peak fs log =
     record { arm = arm w; frames = fs; offset = w.last; rows = w.rows; peak = peak; log = log }
 
@@ -44,33 +85,35 @@ endif_move c [] = refuses D.stray_endif
 endif_move c (f ∷ fs) = on_endif c f.start f.first fs
 
 -- the rows that stand, and one for each instruction that is left
-abbrev pub rows_in : Bytes → Walk → ℕ
-rows_in s w = w.rows + length (instructions (code_at s w.at))
+abbrev pub rows_at : Bytes → ℕ → ℕ → ℕ
+rows_at s at rows = rows + length (instructions (code_at s at))
 
-module _ (R : Rules) (s : Bytes) where
+abbrev pub rows_in : Bytes → Stand → ℕ
+rows_in s w = rows_at s w.at w.rows
+
+module _ (R : S.Rules) (s : Bytes) where
   -- the walk from offset p on
   abbrev pub from : ℕ → State → WalkEnd
   from p t = walk R (instructions (code_at s p)) t
 
   -- after this move of the instruction met last
-  abbrev pub after : Walk → List Frame → List ℕ → Move → Marked
+  abbrev pub after : Stand → List Frame → List ℕ → Move → Marked
   after w fs log m = answered (follow m (state_of w w.peak fs log) (λ t. from w.at t))
 
   -- What is left to do where a walk stands. One that is running has yet to take its arm's total into the peak.
-  abbrev pub resume_by : Stop → Walk → List Frame → List ℕ → Marked
-  resume_by Running w fs log = answered (from w.at (state_of w (max w.peak (total_of (arm w))) fs log))
-  resume_by End w fs log = answered (at_end fs (state_of w w.peak fs log))
-  resume_by Conditional w fs log = after w fs log (conditional (arm w) fs)
-  resume_by Else w fs log = after w fs log (else_move (arm w) fs)
-  resume_by Endif w fs log = after w fs log (endif_move (arm w) fs)
-  resume_by (Refused r) w fs log = record { verdict = refused_verdict w.last (refusal_of r) w.rows; log = log }
+  abbrev pub resume_by : Halt → Stand → List Frame → List ℕ → Marked
+  resume_by running w fs log = answered (from w.at (state_of w (max w.peak (total_of (arm w))) fs log))
+  resume_by finished w fs log = answered (at_end fs (state_of w w.peak fs log))
+  resume_by met_conditional w fs log = after w fs log (conditional (arm w) fs)
+  resume_by met_else w fs log = after w fs log (else_move (arm w) fs)
+  resume_by met_endif w fs log = after w fs log (endif_move (arm w) fs)
+  resume_by (halted r) w fs log = record { verdict = refused_verdict w.last (refusal_of r) w.rows; log = log }
 
-  abbrev pub resume : Walk → List Frame → List ℕ → Marked
-  resume w fs log = resume_by w.stop w fs log
+  abbrev pub resume : Stand → List Frame → List ℕ → Marked
+  resume w fs log = resume_by w.halt w fs log
 
   -- a walk went from v to w, over the same fragment, whatever conditionals of which P holds are open around it
-  pub record Goes (P : List Frame → Type 0) (v : Walk) (before : List ℕ) (w : Walk) (now : List ℕ) : Type 0 where
-    pub fit : Fit w.stacks
+  pub record Goes (P : List Frame → Type 0) (v : Stand) (before : List ℕ) (w : Stand) (now : List ℕ) : Type 0 where
     pub low : v.at ≤ w.at
     pub high : w.at ≤ length s
     pub fewer : rows_in s w ≤ rows_in s v
@@ -80,39 +123,17 @@ module _ (R : Rules) (s : Bytes) where
 abbrev pub Any : List Frame → Type 0
 Any fs = Unit {0}
 
--- how a walk stands after a stack operation
-abbrev pub stop_of : Answer → Stop
-stop_of A.Done = Running
-stop_of (A.Refused r) = Refused r
-
--- a walk that runs no more; one that stands at a conditional has met its IF or NOTIF
-abbrev pub Stopped : ℕ → ℕ → Stop → Type 0
-Stopped from to Running = ⊥
-Stopped from to Conditional = from < to
-Stopped from to End = Unit {0}
-Stopped from to Else = Unit {0}
-Stopped from to Endif = Unit {0}
-Stopped from to (Refused r) = Unit {0}
-
--- the walk over a dead arm, with these stacks left aside
-abbrev pub dead_walk : Stacks → ℕ → ℕ → ℕ → ℕ → Stop → Walk
-dead_walk s at last rows peak stop =
-    record { stacks = s; live = false; at = at; last = last; rows = rows; peak = peak; stop = stop }
-
 -- room in the log for the rows that are left, and offsets that fit it
 pub record Room (s : Bytes) (log : List ℕ) (at rows : ℕ) : Type 0 where
   pub high : at ≤ length s
   pub short : length s ≤ 10000
-  pub room : 3 * (rows + length (instructions (code_at s at))) ≤ length log
+  pub room : 3 * rows_at s at rows ≤ length log
 
--- what each of the walkers asks: room in the log for the rows that are left, and offsets that fit it
-pub record Ready (s : Bytes) (log : List ℕ) (w : Walk) : Type 0 where
-  pub fit : Fit w.stacks
-  pub high : w.at ≤ length s
-  pub short : length s ≤ 10000
-  pub room : 3 * rows_in s w ≤ length log
+-- what each of the walkers asks
+abbrev pub Ready : Bytes → List ℕ → Walk → Type 0
+Ready s log w = Room s log w.place.at w.place.rows
 
 -- the instructions up to the next IF, NOTIF, ELSE or ENDIF
-pub record Runs (R : Rules) (s : Bytes) (v : Walk) (before : List ℕ) (w : Walk) (now : List ℕ) : Type 0 where
-  pub goes : Goes R s Any v before w now
-  pub stopped : Stopped v.at w.at w.stop
+pub record Runs (R : S.Rules) (s : Bytes) (v : Walk) (before : List ℕ) (w : Walk) (r : Result Stop Refusal) (now : List ℕ) : Type 0 where
+  pub goes : Goes R s Any (stand v running) before (stand w (stopping r)) now
+  pub onward : r ≡ Ok Stop.Conditional → v.place.at < w.place.at

@@ -1,99 +1,75 @@
-// The bytes of a word of a listing, a push in its shortest length form (document 02, L4).
+// The bytes of a word of a listing, a push in its shortest length form.
 
 #![tactic(auto)]
 
-ghost use Rattle.std.specs.Prelude.{true, ◌≡◌, ◌+◌, ◌≤◌, T, length};
+ghost use Rattle.std.specs.Prelude.{true, ◌≡◌, ◌+◌, ◌/◌, ◌≤◌, length};
 ghost use Rattle.std.proofs.Math.Option.{some};
-ghost use Rattle.definition_listings.specs.Assembling as Assembling;
-ghost use Rattle.definition_listings.specs.Shortest as Shortest;
-ghost use Rattle.names.specs.Tables.{all_letters, starts_right, codes_right};
+ghost use Rattle.definition_listings.specs.Assembling.{hex_read, word_read};
+ghost use Rattle.definition_listings.specs.Shortest.{in_form};
 ghost use Rattle.text.specs.View.{Written};
-ghost use Rattle.words.specs.View.{opens, data_letters, DataWord, head_of, bytes_of};
+ghost use Rattle.words.specs.View.{opens, head_of, bytes_of};
 
-// A number in so many bytes, lowest first.
-fn write_lowest(out: &mut [u8], at: usize, count: usize, n: usize) -> usize
-    requires { at + count ≤ length out.old }
-    ensures { Written out.old at (Shortest.lowest_first count n) out.new result }
-{
-    let mut left = n;
-    let mut j = 0;
-    while j < count {
-        out[at + j] = (left % 256) as u8;
-        left /= 256;
-        j += 1;
-    }
-    at + j
-}
+use names::Names;
+use text::{Line, push_word, write_byte, write_word};
 
 // The opcode and the length bytes in front of so many bytes of data.
-fn write_head(out: &mut [u8], at: usize, n: usize) -> usize
-    requires { at + length (head_of n) ≤ length out.old }
-    ensures { Written out.old at (head_of n) out.new result }
+fn head(n: usize) -> Line<5>
+    requires { n ≤ 4294967295 }
+    ensures { result.items ≡ head_of n }
 {
-    if n <= 0x4b {
-        return text::write_byte(out, at, n as u8);
+    let mut head = Line::new();
+    match n {
+        0..=0x4b => head.push(n as u8),
+        0x4c..=255 => {
+            head.push(0x4c);
+            head.push(n as u8);
+        }
+        256..=65535 => {
+            head.push(0x4d);
+            push_word(&mut head, &(n as u16).to_le_bytes());
+        }
+        _ => {
+            head.push(0x4e);
+            push_word(&mut head, &(n as u32).to_le_bytes());
+        }
     }
-    if n <= 255 {
-        let next = text::write_byte(out, at, 0x4c);
-        return write_lowest(out, next, 1, n);
-    }
-    if n <= 65535 {
-        let next = text::write_byte(out, at, 0x4d);
-        return write_lowest(out, next, 2, n);
-    }
-    let next = text::write_byte(out, at, 0x4e);
-    write_lowest(out, next, 4, n)
+    head
 }
 
-// The bytes of a word of data.
-fn write_data(out: &mut [u8], at: usize, word: &[u8], n: usize) -> usize
-    requires data_word { DataWord word.now n }
-    requires n_in_bounds { at + n ≤ length out.old }
-    ensures { Written out.old at (Shortest.in_form (Assembling.hex_read (data_letters word.now n))) out.new result }
+// Writes the bytes of letters in hexadecimal.
+fn write_data(out: &mut [u8], at: usize, letters: &[u8]) -> usize
+    requires digits { hex_read letters.now ≡ some (in_form (hex_read letters.now)) }
+    requires room { at + length letters.now / 2 ≤ length out.old }
+    ensures { Written out.old at (in_form (hex_read letters.now)) out.new result }
 {
-    let mut j = 0;
-    while j < n {
-        let high = words::digit(word[2 * j + 1]);
-        let low = words::digit(word[2 * j + 2]);
-        out[at + j] = 16 * high + low;
-        j += 1;
-    }
-    at + j
+    let end = at + letters.len() / 2;
+    hex::decode_to_slice(letters, &mut out[at..end]).unwrap();
+    end
 }
 
-// The push of a word of data.
+// Writes the push of a word of data, which has two digits to a byte between its first and its last letter.
 fn write_push(out: &mut [u8], at: usize, word: &[u8]) -> usize
-    requires word_value { opens word.now ≡ true }
-    requires word_value_2 { Assembling.word_read word.now ≡ some (bytes_of word.now) }
-    requires word_in_bounds { at + length (bytes_of word.now) ≤ length out.old }
+    requires opens { opens word.now ≡ true }
+    requires good { word_read word.now ≡ some (bytes_of word.now) }
+    requires room { at + length (bytes_of word.now) ≤ length out.old }
     ensures { Written out.old at (bytes_of word.now) out.new result }
 {
-    let n = word.len() / 2 - 1;
-    let next = write_head(out, at, n);
-    write_data(out, next, word, n)
+    let letters = &word[1..word.len() - 1];
+    let next = write_word(out, at, head(letters.len() / 2).as_slice());
+    write_data(out, next, letters)
 }
 
-// The bytes of a word that is not strange. One that begins with `<` has two digits to a byte, which are not judged again.
-pub fn write_bytes(
-    out: &mut [u8],
-    at: usize,
-    word: &[u8],
-    letters: &[u8],
-    starts: &[u16],
-    codes: &[u8],
-) -> usize
-    requires letters_value { letters.now ≡ all_letters }
-    requires t { T (starts_right starts.now) }
-    requires t_2 { T (codes_right codes.now) }
-    requires word_value { Assembling.word_read word.now ≡ some (bytes_of word.now) }
-    requires word_in_bounds { at + length (bytes_of word.now) ≤ length out.old }
+/// Writes the bytes of a word that is not strange, as a text is written: from an index on, with the index after it for an answer.
+pub fn write_bytes(out: &mut [u8], at: usize, word: &[u8], names: &Names) -> usize
+    requires good { word_read word.now ≡ some (bytes_of word.now) }
+    requires room { at + length (bytes_of word.now) ≤ length out.old }
     ensures { Written out.old at (bytes_of word.now) out.new result }
 {
     if words::is_data(word) {
         return write_push(out, at, word);
     }
-    match words::code_read(word, letters, starts, codes) {
-        names::Word::Strange => at,
-        names::Word::Code(code) => text::write_byte(out, at, code),
+    match words::code_read(word, names) {
+        None => at,
+        Some(code) => write_byte(out, at, code),
     }
 }

@@ -12,11 +12,10 @@ use Rattle.definition.specs.Basics.{Bytes, pick}
 use Rattle.definition_listings.specs.Assembling.{hex_read, word_read}
 use Rattle.definition_listings.specs.Shortest.{push_of, in_form, lowest_first}
 use Rattle.definition_listings.specs.OpcodeNames.{name_table}
-use Rattle.names.specs.declared.Word.{Word}
-use Rattle.names.specs.declared.Word.TheVariants.{Strange, Code}
-use Rattle.words.specs.View.{opens, all_digits, data_letters, DataWord, Reads, head_of, bytes_of, Sized}
-use Rattle.names.proofs.Names.{never}
-use Rattle.words.proofs.Words.{hex-length, sized-none, data-good}
+use Rattle.std.specs.Prelude as R
+use Rattle.words.specs.View.{opens, all_digits, data_letters, DataWord, Reads, head_of, bytes_of, Counted, Sized}
+use Rattle.names.proofs.Tables.{never}
+use Rattle.words.proofs.Words.{hex-length, data-good}
 
 -- The head of a push
 
@@ -32,18 +31,6 @@ module _ (n : ℕ) where
 
   pub head-4e : 65535 < n → head_of n ≡ 0x4e ∷ lowest_first 4 n
   head-4e g = rw (lt-leb n 0x4b (omega arith), lt-leb n 255 (omega arith), lt-leb n 65535 g)
-
-  pub size-4b : n ≤ 0x4b → 1 + n ≡ length (head_of n) + n
-  size-4b h = rw (head-4b h) refl
-
-  pub size-4c : 0x4b < n → n ≤ 255 → 2 + n ≡ length (head_of n) + n
-  size-4c g h = rw (head-4c g h) refl
-
-  pub size-4d : 255 < n → n ≤ 65535 → 3 + n ≡ length (head_of n) + n
-  size-4d g h = rw (head-4d g h) refl
-
-  pub size-4e : 65535 < n → 5 + n ≡ length (head_of n) + n
-  size-4e g = rw (head-4e g) refl
 
 -- a push is its head and its data
 pub push-is : (b : Bytes) → length b ≤ 4294967295 → push_of b ≡ some (head_of (length b) ++ b)
@@ -104,28 +91,24 @@ word-least : (w b : Bytes) → word_read w ≡ some b → 1 ≤ length w
 word-least [] b e = never (cc (no_word))
 word-least (c ∷ w) b e = omega arith
 
-sized-by : (w b : Bytes) → word_read w ≡ some b → 1 ≤ length b → length b ≤ length w → Sized w (length b)
+sized-by : (w b : Bytes) → word_read w ≡ some b → 1 ≤ length b → length b ≤ length w → Counted w (length b)
 sized-by w b e g h =
     let i : bytes_of w ≡ b = ap in_form e in
-    record { size = ap length (sym i); good = λ p. e ∙ ap some (sym i); strange = λ p. absurd (omega arith); most = h }
+    record { size = ap length (sym i); good = e ∙ ap some (sym i); least = g; most = h }
 
-module _ (w : Bytes) (r : Word) (is : Reads r w) where
-  pub sized-strange : r ≡ Strange → Sized w 0
-  sized-strange e = sized-none w (subst (λ (x : Word). Reads x w) e is)
+-- a code is one byte
+pub sized-read : (w : Bytes) (r : R.Option ℕ) → Reads r w → (s : R.Option ℕ) → (r ≡ R.None → s ≡ R.None) → ((c : ℕ) → r ≡ R.Some c → s ≡ R.Some 1) → Sized w s
+sized-read w R.None is s n c = subst (Sized w) (sym (n refl)) is
+sized-read w (R.Some c) is s n m = subst (Sized w) (sym (m c refl)) (sized-by w (c ∷ []) is (omega arith) (word-least w (c ∷ []) is))
 
-  pub sized-code : (c : ℕ) → r ≡ Code c → Sized w 1
-  sized-code c e =
-      let s : word_read w ≡ some (c ∷ []) = subst (λ (x : Word). Reads x w) e is in
-      sized-by w (c ∷ []) s (omega arith) (word-least w (c ∷ []) s)
-
-sized-push : (w : Bytes) (n : ℕ) → DataWord w n → (k : ℕ) → k ≡ length (head_of n) + n → Sized w k
+sized-push : (w : Bytes) (n : ℕ) → DataWord w n → (k : ℕ) → k ≡ length (head_of n) + n → Counted w k
 sized-push w n d k h =
     let l : length (head_of n ++ data_of w n d) ≡ k = length-append (head_of n) (data_of w n d) ∙ omega (arith, data-size w n d) in
-    subst (Sized w) l (sized-by w (head_of n ++ data_of w n d) (data-read w n d) (omega (arith, head-least n)) (omega (arith, head-most n, d.letters)))
+    subst (Counted w) l (sized-by w (head_of n ++ data_of w n d) (data-read w n d) (omega (arith, head-least n)) (omega (arith, head-most n, d.letters)))
 
 -- a word of data that is in the form
 pub sized-data : (w : Bytes) (k : ℕ) → opens w ≡ true → length w % 2 ≡ 0 → 4 ≤ length w → get_or w (length w - 1) 0 ≡ 62
     → (r : Bool) → r ≡ all_digits (take (length w - 1 - 1) (drop 1 w)) → not r ≡ false → length w / 2 - 1 ≤ 4294967295
-    → k ≡ length (head_of (length w / 2 - 1)) + (length w / 2 - 1) → Sized w k
+    → k ≡ length (head_of (length w / 2 - 1)) + (length w / 2 - 1) → Counted w k
 sized-data w k begins even least last r digits so most h =
     sized-push w (length w / 2 - 1) (data-good w begins even least last r digits so most) k h

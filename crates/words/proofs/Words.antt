@@ -5,20 +5,20 @@ use mathlib.Core.Option.{Option, none, some}
 use mathlib.Core.Path.{◌≡◌, refl, sym, ap, subst, ◌∙◌}
 use Prim.Native.Nat.{ℕ, suc, ◌+◌, ◌-◌, ◌*◌, ◌/◌, ◌%◌, ◌≤◌, ◌<◌}
 use native.Mathlib.Omega.{arith}
-use borrow.Author.Tests.{le-leb, lt-leb, eq-eqb, ne_eqb, eqb-true, leb-true, leb-false, not-true, not-false}
-use lib.Dec.{leb, eqb, leb→le}
+use borrow.Author.Tests.{lt-leb, eq-eqb, ne_eqb, eqb-true, leb-true, leb-false, not-true, not-false}
+use lib.Dec.{leb, eqb}
 use lib.ListN.{length, take, drop, get_or, length-append, length-take, length-drop, drop_of_length-le}
-use mir.Facts.{and_yes}
 use lib.Seq.{drop-cons, take-suc, take_all, take_at, get_or-drop, get_or-append_seam}
 use Rattle.definition.specs.Basics.{Bytes, pick}
 use Rattle.definition.specs.Classes.{class_number}
 use Rattle.definition_listings.specs.Assembling.{same, on_read, digit_read, hex_read, before_end, push_read, unmodelled_read, code_in, word_read}
 use Rattle.definition_listings.specs.Shortest.{push_of, in_form}
 use Rattle.definition_listings.specs.OpcodeNames.{Named, name_table}
-use Rattle.names.specs.declared.Word.{Word}
-use Rattle.names.specs.View.{name_word}
-use Rattle.words.specs.View.{opens, hex_code, digit_or, is_digit, all_digits, data_letters, DataWord, Reads, Sized}
-use Rattle.names.proofs.Names.{never, holds, true-or-false}
+use Rattle.std.specs.Prelude as R
+use Rattle.std.specs.Prelude.{is_some}
+use Rattle.names.specs.View.{code_option}
+use Rattle.words.specs.View.{opens, hex_code, digit_option, all_digits, data_letters, DataWord, Reads}
+use Rattle.names.proofs.Tables.{never}
 
 -- Hexadecimal
 
@@ -31,7 +31,7 @@ hex-strange [] e = cc
 hex-strange (c ∷ []) e = refl
 hex-strange (c ∷ d ∷ l) e = by (digit_read c) (digit_read d) (all_digits l) (hex_read l) e (hex-strange l)
   where
-    by : (x y : Option ℕ) (b : Bool) (r : Option Bytes) → is_digit x && (is_digit y && b) ≡ false → (b ≡ false → r ≡ none) → hex_of x y r ≡ none
+    by : (x y : Option ℕ) (b : Bool) (r : Option Bytes) → is_some (digit_option x) && (is_some (digit_option y) && b) ≡ false → (b ≡ false → r ≡ none) → hex_of x y r ≡ none
     by none y b r e f = refl
     by (some x) none b r e f = refl
     by (some x) (some y) b r e f = rw (f e)
@@ -42,7 +42,7 @@ hex-bytes [] n e h = refl
 hex-bytes (c ∷ []) n e h = absurd (omega arith)
 hex-bytes (c ∷ d ∷ l) n e h = by (digit_read c) (digit_read d) (all_digits l) (hex_read l) e (λ f. hex-bytes l (n - 1) f (omega arith))
   where
-    by : (x y : Option ℕ) (b : Bool) (r : Option Bytes) → is_digit x && (is_digit y && b) ≡ true → (b ≡ true → r ≡ some (in_form r)) → hex_of x y r ≡ some (in_form (hex_of x y r))
+    by : (x y : Option ℕ) (b : Bool) (r : Option Bytes) → is_some (digit_option x) && (is_some (digit_option y) && b) ≡ true → (b ≡ true → r ≡ some (in_form r)) → hex_of x y r ≡ some (in_form (hex_of x y r))
     by none y b r e f = cc
     by (some x) none b r e f = cc
     by (some x) (some y) b none e f = let z : none ≡ some [] = f e in cc
@@ -131,10 +131,6 @@ opens-least : (w : Bytes) → opens w ≡ true → 1 ≤ length w
 opens-least [] e = never (cc)
 opens-least (c ∷ w) e = omega arith
 
--- a word outside the form has no bytes
-pub sized-none : (w : Bytes) → word_read w ≡ none → Sized w 0
-sized-none w e = record { size = ap length (sym (ap in_form e)); good = λ p. absurd (omega arith); strange = λ p. e; most = omega arith }
-
 some-push : (b : Bytes) → 1 ≤ length b → push_read b ≡ push_of b
 some-push [] h = absurd (omega arith)
 some-push (c ∷ b) h = refl
@@ -145,8 +141,8 @@ module _ (w : Bytes) (begins : opens w ≡ true) where
   word-data =
       ap (λ b. pick b (data_read (drop 1 w)) (pick (same (take 2 w) (48 ∷ 120 ∷ [])) (on_read (hex_read (drop 2 w)) unmodelled_read) (code_in name_table w))) begins
 
-  unless : (DataIn (drop 1 w) → ⊥) → Sized w 0
-  unless n = sized-none w (word-data ∙ by (data_read (drop 1 w)) refl)
+  unless : (DataIn (drop 1 w) → ⊥) → word_read w ≡ none
+  unless n = word-data ∙ by (data_read (drop 1 w)) refl
     where
       by : (r : Option Bytes) → data_read (drop 1 w) ≡ r → r ≡ none
       by none e = refl
@@ -156,13 +152,13 @@ module _ (w : Bytes) (begins : opens w ≡ true) where
   data-length d =
       omega (arith, length-drop 1 w, opens-least w begins, ap length d.ends, length-append d.letters (62 ∷ []), hex-length d.letters d.bytes d.hex)
 
-  pub data-odd : (length w % 2 ≡ 0 → ⊥) → Sized w 0
+  pub data-odd : (length w % 2 ≡ 0 → ⊥) → word_read w ≡ none
   data-odd n = unless (λ d. n (omega (arith, data-length d)))
 
-  pub data-short : length w < 4 → Sized w 0
+  pub data-short : length w < 4 → word_read w ≡ none
   data-short h = unless (λ d. omega (arith, data-length d, d.least))
 
-  pub data-unended : (get_or w (length w - 1) 0 ≡ 62 → ⊥) → Sized w 0
+  pub data-unended : (get_or w (length w - 1) 0 ≡ 62 → ⊥) → word_read w ≡ none
   data-unended n = unless λ d.
       let k : length w - 1 ≡ 1 + length d.letters = omega (arith, data-length d, hex-length d.letters d.bytes d.hex) in
       n (rw (k, ← (get_or-drop 1 w (length d.letters) 0), d.ends, get_or-append_seam d.letters 62 [] 0))
@@ -171,12 +167,12 @@ module _ (w : Bytes) (begins : opens w ≡ true) where
   letters-are d =
       rw d.ends (take_at d.letters (62 ∷ []) (length w - 1 - 1) (omega (arith, data-length d, hex-length d.letters d.bytes d.hex)))
 
-  pub data-crooked : (r : Bool) → r ≡ all_digits (take (length w - 1 - 1) (drop 1 w)) → not r ≡ true → Sized w 0
+  pub data-crooked : (r : Bool) → r ≡ all_digits (take (length w - 1 - 1) (drop 1 w)) → not r ≡ true → word_read w ≡ none
   data-crooked r e n = unless λ d.
       let z : ◌≡◌ {A = ℕ} 0 1 = cc (hex-strange d.letters (ap all_digits (sym (letters-are d)) ∙ sym e ∙ not-true r n), d.hex) in
       omega arith
 
-  pub data-long : 4294967295 < length w / 2 - 1 → Sized w 0
+  pub data-long : 4294967295 < length w / 2 - 1 → word_read w ≡ none
   data-long h = unless (λ d. omega (arith, data-length d, d.most))
 
   -- the letters of n bytes and `>`
@@ -225,127 +221,31 @@ module _ (w : Bytes) (begins : opens w ≡ true) where
 
 -- Digits
 
-module _ (c : ℕ) where
-  pub digit-below : c < 48 → 16 ≡ digit_or (digit_read c)
-  digit-below h = rw (lt-leb 48 c h, lt-leb 97 c (omega arith))
-
-  pub digit-number : 48 ≤ c → c ≤ 57 → c - 48 ≡ digit_or (digit_read c)
-  digit-number h g = rw (le-leb 48 c h, le-leb c 57 g)
-
-  pub digit-between : 57 < c → c < 97 → 16 ≡ digit_or (digit_read c)
-  digit-between h g = rw (le-leb 48 c (omega arith), lt-leb c 57 h, lt-leb 97 c g)
-
-  pub digit-letter : 97 ≤ c → c ≤ 102 → c - 87 ≡ digit_or (digit_read c)
-  digit-letter h g = rw (le-leb 48 c (omega arith), lt-leb c 57 (omega arith), le-leb 97 c h, le-leb c 102 g)
-
-  pub digit-above : 102 < c → 16 ≡ digit_or (digit_read c)
-  digit-above h = rw (le-leb 48 c (omega arith), lt-leb c 57 (omega arith), le-leb 97 c (omega arith), lt-leb c 102 h)
-
-  pub digit-bound : (d : ℕ) → digit_read c ≡ some d → d < 16
-  digit-bound d e = number (leb 48 c && leb c 57) refl e
+module _ (c : ℕ) (r : R.Option ℕ) (is : r ≡ digit_option (digit_read c)) where
+  pub digit-none : r ≡ R.None → digit_read c ≡ none
+  digit-none e = by (digit_read c) (sym is ∙ e)
     where
-      letter : (b : Bool) → leb 97 c && leb c 102 ≡ b → pick b (some (c - 87)) none ≡ some d → d < 16
-      letter true q e =
-          let t = and_yes (leb 97 c) (leb c 102) (holds (leb 97 c && leb c 102) q) in
-          let i : c - 87 ≡ d = cc in
-          omega (arith, leb→le c 102 t.1)
-      letter false q e = never (cc)
+      by : (o : Option ℕ) → digit_option o ≡ R.None → o ≡ none
+      by none e = refl
+      by (some d) e = cc
 
-      number : (b : Bool) → leb 48 c && leb c 57 ≡ b → pick b (some (c - 48)) (pick (leb 97 c && leb c 102) (some (c - 87)) none) ≡ some d → d < 16
-      number true q e =
-          let t = and_yes (leb 48 c) (leb c 57) (holds (leb 48 c && leb c 57) q) in
-          let i : c - 48 ≡ d = cc in
-          omega (arith, leb→le c 57 t.1)
-      number false q e = letter (leb 97 c && leb c 102) refl e
-
-  -- what `digit` answers
-  pub digit-none : (r : ℕ) → r ≡ digit_or (digit_read c) → 15 < r → digit_read c ≡ none
-  digit-none r e h = by (digit_read c) refl e
+  pub digit-some : (d : ℕ) → r ≡ R.Some d → digit_read c ≡ some d
+  digit-some d e = by (digit_read c) (sym is ∙ e)
     where
-      by : (o : Option ℕ) → digit_read c ≡ o → r ≡ digit_or o → o ≡ none
-      by none q e = refl
-      by (some d) q e = absurd (omega (arith, digit-bound d q))
-
-  pub digit-some : (r : ℕ) → r ≡ digit_or (digit_read c) → r ≤ 15 → digit_read c ≡ some r
-  digit-some r e h = by (digit_read c) e
-    where
-      by : (o : Option ℕ) → r ≡ digit_or o → o ≡ some r
-      by none e = absurd (omega arith)
-      by (some d) e = ap some (sym e)
-
--- The letters up to j are digits.
-pub record DigitsTo (l : Bytes) (j : ℕ) : Type 0 where
-  pub within : j ≤ length l
-  pub is : all_digits l ≡ all_digits (drop j l)
-
-pub digits-start : (l : Bytes) → DigitsTo l 0
-digits-start l = record { within = omega arith; is = refl }
-
-module _ (l : Bytes) (j : ℕ) (d : DigitsTo l j) where
-  digits-at : j < length l → all_digits l ≡ is_digit (digit_read (get_or l j 0)) && all_digits (drop (suc j) l)
-  digits-at h = d.is ∙ ap all_digits (drop-cons l j 0 h)
-
-  pub digits-other : (r : ℕ) → j < length l → r ≡ digit_or (digit_read (get_or l j 0)) → 15 < r → false ≡ all_digits l
-  digits-other r h e g =
-      sym (digits-at h ∙ ap (λ (o : Option ℕ). is_digit o && all_digits (drop (suc j) l)) (digit-none (get_or l j 0) r e g))
-
-  pub digits_more : (r : ℕ) → j < length l → r ≡ digit_or (digit_read (get_or l j 0)) → r ≤ 15 → DigitsTo l (j + 1)
-  digits_more r h e g =
-      let n : suc j ≡ j + 1 = omega arith in
-      record {
-        within = omega arith;
-        is = digits-at h ∙ ap (λ (o : Option ℕ). is_digit o && all_digits (drop (suc j) l)) (digit-some (get_or l j 0) r e g) ∙ ap (λ k. all_digits (drop k l)) n;
-      }
-
-  pub digits-all : length l ≤ j → true ≡ all_digits l
-  digits-all h = sym (d.is ∙ ap all_digits (drop_of_length-le l h))
-
--- How a word begins
-
-pub opens-none : (w : Bytes) → length w ≡ 0 → false ≡ opens w
-opens-none [] e = refl
-opens-none (c ∷ w) e = absurd (omega arith)
-
-pub opens-yes : (w : Bytes) → (length w ≡ 0 → ⊥) → get_or w 0 0 ≡ 60 → true ≡ opens w
-opens-yes [] n e = absurd (n refl)
-opens-yes (c ∷ w) n e = rw (eq-eqb c 60 e)
-
-pub opens-no : (w : Bytes) → (length w ≡ 0 → ⊥) → (get_or w 0 0 ≡ 60 → ⊥) → false ≡ opens w
-opens-no [] n e = absurd (n refl)
-opens-no (c ∷ w) n e = rw (ne_eqb c 60 e)
-
-pub code-short : (w : Bytes) → length w < 2 → false ≡ hex_code w
-code-short [] h = refl
-code-short (c ∷ []) h = by (eqb c 48)
-  where
-    by : (b : Bool) → false ≡ b && false
-    by true = refl
-    by false = refl
-code-short (c ∷ d ∷ w) h = absurd (omega arith)
-
-pub code-first : (w : Bytes) → 2 ≤ length w → (get_or w 0 0 ≡ 48 → ⊥) → false ≡ hex_code w
-code-first [] h n = absurd (omega arith)
-code-first (c ∷ []) h n = absurd (omega arith)
-code-first (c ∷ d ∷ w) h n = rw (ne_eqb c 48 n)
-
-pub code-second : (w : Bytes) → 2 ≤ length w → get_or w 0 0 ≡ 48 → (get_or w 1 0 ≡ 120 → ⊥) → false ≡ hex_code w
-code-second [] h e n = absurd (omega arith)
-code-second (c ∷ []) h e n = absurd (omega arith)
-code-second (c ∷ d ∷ w) h e n = rw (eq-eqb c 48 e, ne_eqb d 120 n)
-
-pub code-begins : (w : Bytes) → 2 ≤ length w → get_or w 0 0 ≡ 48 → get_or w 1 0 ≡ 120 → true ≡ hex_code w
-code-begins [] h e n = absurd (omega arith)
-code-begins (c ∷ []) h e n = absurd (omega arith)
-code-begins (c ∷ d ∷ w) h e n = rw (eq-eqb c 48 e, eq-eqb d 120 n)
+      by : (o : Option ℕ) → digit_option o ≡ R.Some d → o ≡ some d
+      by none e = cc
+      by (some f) e = let i : f ≡ d = cc in ap some i
 
 -- A word that begins with `0x`
 
 hex_code-least : (w : Bytes) → hex_code w ≡ true → 2 ≤ length w
-hex_code-least w e = by (leb 2 (length w)) refl
+hex_code-least [] e = never (cc)
+hex_code-least (c ∷ []) e = by (eqb c 48) e
   where
-    by : (b : Bool) → leb 2 (length w) ≡ b → 2 ≤ length w
-    by true q = leb-true 2 (length w) q
-    by false q = absurd (true-or-false (hex_code w) e (sym (code-short w (leb-false 2 (length w) q))))
+    by : (b : Bool) → b && false ≡ true → 2 ≤ 1
+    by true e = never (cc)
+    by false e = never (cc)
+hex_code-least (c ∷ d ∷ w) e = omega arith
 
 module _ (w : Bytes) (other : opens w ≡ false) (begins : hex_code w ≡ true) where
   word-code : word_read w ≡ on_read (hex_read (drop 2 w)) unmodelled_read
@@ -370,20 +270,19 @@ module _ (w : Bytes) (other : opens w ≡ false) (begins : hex_code w ≡ true) 
     word_two : word_read w ≡ on_read (hex_of (digit_read (get_or w 2 0)) (digit_read (get_or w 3 0)) (some [])) unmodelled_read
     word_two = word-code ∙ ap (λ (l : Bytes). on_read (hex_read l) unmodelled_read) digits-two
 
-    pub code-high : (r : ℕ) → r ≡ digit_or (digit_read (get_or w 2 0)) → 15 < r → word_read w ≡ none
-    code-high r e h =
-        word_two ∙ ap (λ (o : Option ℕ). on_read (hex_of o (digit_read (get_or w 3 0)) (some [])) unmodelled_read) (digit-none (get_or w 2 0) r e h)
+    pub code-high : digit_read (get_or w 2 0) ≡ none → word_read w ≡ none
+    code-high e = word_two ∙ ap (λ (o : Option ℕ). on_read (hex_of o (digit_read (get_or w 3 0)) (some [])) unmodelled_read) e
 
-    module _ (x : ℕ) (high : x ≡ digit_or (digit_read (get_or w 2 0))) (h : x ≤ 15) where
+    module _ (x : ℕ) (high : digit_read (get_or w 2 0) ≡ some x) where
       word-one : word_read w ≡ on_read (hex_of (some x) (digit_read (get_or w 3 0)) (some [])) unmodelled_read
-      word-one = word_two ∙ ap (λ (o : Option ℕ). on_read (hex_of o (digit_read (get_or w 3 0)) (some [])) unmodelled_read) (digit-some (get_or w 2 0) x high h)
+      word-one = word_two ∙ ap (λ (o : Option ℕ). on_read (hex_of o (digit_read (get_or w 3 0)) (some [])) unmodelled_read) high
 
-      pub code-low : (r : ℕ) → r ≡ digit_or (digit_read (get_or w 3 0)) → 15 < r → word_read w ≡ none
-      code-low r e g = word-one ∙ ap (λ (o : Option ℕ). on_read (hex_of (some x) o (some [])) unmodelled_read) (digit-none (get_or w 3 0) r e g)
+      pub code-low : digit_read (get_or w 3 0) ≡ none → word_read w ≡ none
+      code-low e = word-one ∙ ap (λ (o : Option ℕ). on_read (hex_of (some x) o (some [])) unmodelled_read) e
 
-      module _ (y : ℕ) (low : y ≡ digit_or (digit_read (get_or w 3 0))) (g : y ≤ 15) where
+      module _ (y : ℕ) (low : digit_read (get_or w 3 0) ≡ some y) where
         word-class : word_read w ≡ pick (eqb (class_number (16 * x + y)) 0) (some ((16 * x + y) ∷ [])) none
-        word-class = word-one ∙ ap (λ (o : Option ℕ). on_read (hex_of (some x) o (some [])) unmodelled_read) (digit-some (get_or w 3 0) y low g)
+        word-class = word-one ∙ ap (λ (o : Option ℕ). on_read (hex_of (some x) o (some [])) unmodelled_read) low
 
         pub code-modelled : (r : ℕ) → r ≡ class_number (16 * x + y) → (r ≡ 0 → ⊥) → word_read w ≡ none
         code-modelled r e n =
@@ -415,11 +314,11 @@ read_name w o h =
     ap (λ b. pick b (data_read (drop 1 w)) (pick (hex_code w) (on_read (hex_read (drop 2 w)) unmodelled_read) (code_in name_table w))) o
     ∙ ap (λ b. pick b (on_read (hex_read (drop 2 w)) unmodelled_read) (code_in name_table w)) h
 
-pub word-name : (w : Bytes) (r : Word) (h : Bool) → opens w ≡ false → h ≡ hex_code w → h ≡ false → r ≡ name_word (code_in name_table w) → Reads r w
+pub word-name : (w : Bytes) (r : R.Option ℕ) (h : Bool) → opens w ≡ false → h ≡ hex_code w → h ≡ false → r ≡ code_option (code_in name_table w) → Reads r w
 word-name w r h o q k e =
-    subst (λ (x : Word). Reads x w) (sym e) (by (code_in name_table w) (read_name w o (sym q ∙ k)) (code-single name_table w))
+    subst (λ (x : R.Option ℕ). Reads x w) (sym e) (by (code_in name_table w) (read_name w o (sym q ∙ k)) (code-single name_table w))
   where
-    by : (o : Option Bytes) → word_read w ≡ o → Single o → Reads (name_word o) w
+    by : (o : Option Bytes) → word_read w ≡ o → Single o → Reads (code_option o) w
     by none e s = e
     by (some []) e s = absurd s
     by (some (c ∷ [])) e s = e

@@ -5,8 +5,9 @@ use Rattle.definition.specs.Basics.{Bytes, pick}
 use Rattle.definition.specs.Lines.{text}
 use Rattle.definition_listings.specs.Assembling.{same, digit_read, hex_read, word_read}
 use Rattle.definition_listings.specs.Shortest.{lowest_first, push_of, in_form}
-use Rattle.names.specs.declared.Word.{Word}
-use Rattle.names.specs.declared.Word.TheVariants.{Strange, Code}
+use Rattle.std.specs.Prelude as R
+use Rattle.std.specs.Prelude.{is_some}
+use Rattle.std.specs.List.{list_all}
 
 -- the two ways in which a word that is no name begins
 abbrev pub opens : Bytes → Bool
@@ -15,19 +16,14 @@ opens w = same (take 1 w) (text "<")
 abbrev pub hex_code : Bytes → Bool
 hex_code w = same (take 2 w) (text "0x")
 
--- a digit, 16 for what is none
-abbrev pub digit_or : Option ℕ → ℕ
-digit_or none = 16
-digit_or (some d) = d
+-- the value of a digit, if there is one
+abbrev pub digit_option : Option ℕ → R.Option ℕ
+digit_option none = R.None
+digit_option (some d) = R.Some d
 
 -- letters that are all digits
-abbrev pub is_digit : Option ℕ → Bool
-is_digit none = false
-is_digit (some d) = true
-
 abbrev pub all_digits : Bytes → Bool
-all_digits [] = true
-all_digits (c ∷ l) = is_digit (digit_read c) && all_digits l
+all_digits l = list_all (λ c. is_some (digit_option (digit_read c))) l
 
 -- the letters of n bytes behind the `<` of a word
 abbrev pub data_letters : Bytes → ℕ → Bytes
@@ -42,9 +38,9 @@ pub record DataWord (w : Bytes) (n : ℕ) : Type 0 where
   pub word : word_read w ≡ push_of (in_form (hex_read (data_letters w n)))
 
 -- what was read of a word that is no data is what the definition reads
-abbrev pub Reads : Word → Bytes → Type 0
-Reads Strange w = word_read w ≡ none
-Reads (Code c) w = word_read w ≡ some (c ∷ [])
+abbrev pub Reads : R.Option ℕ → Bytes → Type 0
+Reads R.None w = word_read w ≡ none
+Reads (R.Some c) w = word_read w ≡ some (c ∷ [])
 
 -- the opcode and the length bytes in front of n bytes of data
 abbrev pub head_of : ℕ → Bytes
@@ -57,9 +53,14 @@ head_of n =
 abbrev pub bytes_of : Bytes → Bytes
 bytes_of w = in_form (word_read w)
 
--- r is how many bytes a word has, 0 for a strange one
-pub record Sized (w : Bytes) (r : ℕ) : Type 0 where
-  pub size : r ≡ length (bytes_of w)
-  pub good : 0 < r → word_read w ≡ some (bytes_of w)
-  pub strange : r ≡ 0 → word_read w ≡ none
-  pub most : r ≤ length w
+-- w is a word of n bytes, of one at least, and no longer than itself
+pub record Counted (w : Bytes) (n : ℕ) : Type 0 where
+  pub size : n ≡ length (bytes_of w)
+  pub good : word_read w ≡ some (bytes_of w)
+  pub least : 1 ≤ n
+  pub most : n ≤ length w
+
+-- how many bytes a word has, none of a strange one
+abbrev pub Sized : Bytes → R.Option ℕ → Type 0
+Sized w R.None = word_read w ≡ none
+Sized w (R.Some n) = Counted w n

@@ -1,41 +1,45 @@
-use borrow.Enum.Refused.{opened}
-use Rattle.std.proofs.Common.{arith}
+use Rattle.std.proofs.Common.{rules, arith, ◌≡◌, Ok, Err}
 use Rattle.definition.specs.Stacks.{built_in}
-use Rattle.arms.proofs.Cycle.{ready_on, ready-there, one_deeper, not_entered, one_arm, two-arms, closed-running, not-else}
+use Rattle.walk.specs.Runs.{rules_in}
+use Rattle.walk.specs.declared.ArmEnd.TheVariants.{Else}
+use Rattle.arms.proofs.Cycle.{ready_on, ready-there, at-there, one_deeper, not_entered, first_refused, one_arm, second_refused, two-arms}
 use Rattle.arms.proofs.+arm_conditional.Goals as goal
 
-pub conditional-returns-in-Refused : goal.conditional-returns-in-Refused
-conditional-returns-in-Refused t c = not_entered c.requires.ready.0 (c.enter-v.ensures _ c.args.code.now) _ c.in-Refused.is
+pub conditional-returns-in_err-enter : goal.conditional-returns-in_err-enter
+conditional-returns-in_err-enter t c =
+    let e : c.from_residual.result ≡ Err c.in_err-enter.field-0.0 = search rules in
+    rw e (not_entered c.requires.ready (c.enter.ensures _ _) _ c.in_err-enter.was)
 
-pub conditional-arm-first-requires : goal.conditional-arm-first-requires
-conditional-arm-first-requires t c =
-    let e = c.enter-v.ensures built_in c.args.code.now in
-    let run = closed-running _ e.closed (opened c.in_default.in_default-own.keys2) in (
-      omega (arith, c.decreases, e.place.at),
-      ((ready-there c.requires.ready.0 e.fit e.place, run), (c.requires.class_rows.0, c.requires.class_rows.1, one_deeper c.requires.ready.0 e run)),
-    )
+pub conditional-arm-requires : goal.conditional-arm-requires
+conditional-arm-requires t c =
+    let e = c.enter.ensures built_in c.args.code.now in
+    (omega (arith, c.decreases, at-there e.stays), (ready-there c.requires.ready e.stays, one_deeper c.requires.ready e c.in_ok-enter.was))
 
-pub conditional-arm-v-requires : goal.conditional-arm-v-requires
-conditional-arm-v-requires t c =
-    let e = c.enter-v.ensures built_in c.args.code.now in
-    let f = c.arm-first in
-    let run = closed-running _ e.closed (opened c.in_default.in_default-own.keys2) in
-    let r = ready_on (ready-there c.requires.ready.0 e.fit e.place) f.ensures.goes f.auto.log in (
-      omega (arith, c.decreases, e.place.at, f.ensures.goes.low),
-      ((record { fit = search (e.fit, f.ensures.goes.fit); high = r.high; short = r.short; room = r.room }, run), (c.requires.class_rows.0, c.requires.class_rows.1, one_deeper c.requires.ready.0 e run)),
-    )
+pub conditional-returns-in_err-end : goal.conditional-returns-in_err-end
+conditional-returns-in_err-end t c =
+    let e : c.from_residual-in_err-end.result ≡ Err c.in_err-end.field-0.0 = search rules in
+    rw e (first_refused c.requires.ready (c.enter.ensures _ _) c.in_ok-enter.was c.arm.ensures _ c.in_err-end.was)
 
-pub conditional-returns-in-Else : goal.conditional-returns-in-Else
-conditional-returns-in-Else t c =
-    let e = c.enter-v.ensures _ c.args.code.now in
-    let run = closed-running _ e.closed (opened c.in_default.in_default-own.keys2) in
-    two-arms c.requires.ready.0 e run c.arm-first.ensures c.in-Else.is c.arm-v.ensures (c.finish.ensures _ c.args.code.now)
+pub conditional-arm-requires-in-Else : goal.conditional-arm-requires-in-Else
+conditional-arm-requires-in-Else t c =
+    let e = c.enter.ensures built_in c.args.code.now in
+    let r = ready-there c.requires.ready e.stays in
+    (omega (arith, c.decreases, at-there e.stays, c.arm.ensures.goes.low), (ready_on r c.arm.ensures.goes c.arm.auto.log, one_deeper c.requires.ready e c.in_ok-enter.was))
 
-pub conditional-finish-requires-2-clause-fit : goal.conditional-finish-requires-2-clause-fit
-conditional-finish-requires-2-clause-fit t c = (c.arm-first.ensures.goes.fit, (c.enter-v.ensures built_in c.args.code.now).fit)
+pub conditional-returns-in_err-end-in-Else : goal.conditional-returns-in_err-end-in-Else
+conditional-returns-in_err-end-in-Else t c =
+    let e : c.from_residual-in_err-end-in-Else.result ≡ Err c.in_err-end-in-Else.field-0.0 = search rules in
+    let else : c.arm.result ≡ Ok Else = rw c.in-Else.is at c.in_ok-end.was in
+    let other = rw c.swap.ensures.x_after at c.arm-in-Else.ensures in
+    rw e (second_refused c.requires.ready (c.enter.ensures _ _) c.in_ok-enter.was c.arm.ensures else other _ c.in_err-end-in-Else.was)
 
-pub conditional-returns : goal.conditional-returns
-conditional-returns t c =
-    let e = c.enter-v.ensures _ c.args.code.now in
-    let run = closed-running _ e.closed (opened c.in_default.in_default-own.keys2) in
-    one_arm c.requires.ready.0 e run c.arm-first.ensures (not-else c.arm-first.result.stop (opened c.in_default-stop.in_default-stop-own.keys2)) (c.finish-2.ensures _ c.args.code.now)
+pub conditional-returns-in_ok-end-in-Else : goal.conditional-returns-in_ok-end-in-Else
+conditional-returns-in_ok-end-in-Else t c =
+    let else : c.arm.result ≡ Ok Else = rw c.in-Else.is at c.in_ok-end.was in
+    let other = rw c.swap.ensures.x_after at c.arm-in-Else.ensures in
+    let last = rw c.swap.ensures.y_after at (c.finish.ensures (rules_in c.args.rules) c.args.code.now) in
+    two-arms c.requires.ready (c.enter.ensures _ _) c.in_ok-enter.was c.arm.ensures else other _ c.in_ok-end-in-Else.was last
+
+pub conditional-returns-in_default : goal.conditional-returns-in_default
+conditional-returns-in_default t c =
+    one_arm c.requires.ready (c.enter.ensures _ _) c.in_ok-enter.was c.arm.ensures _ c.in_ok-end.was c.in_default.not-Else (c.finish-in_default.ensures _ _)

@@ -2,30 +2,19 @@ use Rattle.assembling.proofs.Assembling.{words-empty, words-start, word_good, wo
 use borrow.Author.Rules.{rules}
 use Rattle.assembling.proofs.write_words.Goals as goal
 
-pub returns-then-listing-eq0 : goal.returns-then-listing-eq0
-returns-then-listing-eq0 c = search (words-empty)
+pub returns-then-is_empty : goal.returns-then-is_empty
+returns-then-is_empty c = search (words-empty, rules)
 
 pub loop-at-init : goal.loop-at-init
 loop-at-init c = search (words-start, rules)
 
-pub write_bytes-next-requires-clause-letters_value : goal.write_bytes-next-requires-clause-letters_value
-write_bytes-next-requires-clause-letters_value c = c.requires.letters_value
+pub write_bytes-next-requires-clause-good : goal.write_bytes-next-requires-clause-good
+write_bytes-next-requires-clause-good c =
+    word_good c.args.out.now c.args.listing.now c.loop-at.out c.loop-at.at c.loop-at.next c.loop-at.invariant c.requires.good c.word_end-end.result c.word_end-end.ensures.same c.word_end-end.ensures.within.1
 
-pub write_bytes-next-requires-clause-t : goal.write_bytes-next-requires-clause-t
-write_bytes-next-requires-clause-t c = c.requires.t
-
-pub write_bytes-next-requires-clause-t_2 : goal.write_bytes-next-requires-clause-t_2
-write_bytes-next-requires-clause-t_2 c = c.requires.t_2
-
-pub write_bytes-next-requires-clause-word_value : goal.write_bytes-next-requires-clause-word_value
-write_bytes-next-requires-clause-word_value c =
-    let good = word_good c.args.out.now c.args.listing.now c.loop-at.out c.loop-at.at c.loop-at.next c.loop-at.invariant c.requires.good c.word_end-end.result c.word_end-end.ensures.same c.word_end-end.ensures.within.1 in
-    good
-
-pub write_bytes-next-requires-clause-word_in_bounds : goal.write_bytes-next-requires-clause-word_in_bounds
-write_bytes-next-requires-clause-word_in_bounds c =
-    let room = words-room c.args.out.now c.args.listing.now c.loop-at.out c.loop-at.at c.loop-at.next c.loop-at.invariant c.requires.good c.word_end-end.result c.word_end-end.ensures.same c.word_end-end.ensures.within.1 c.requires.listing_in_bounds in
-    room
+pub write_bytes-next-requires-clause-room : goal.write_bytes-next-requires-clause-room
+write_bytes-next-requires-clause-room c =
+    words-room c.args.out.now c.args.listing.now c.loop-at.out c.loop-at.at c.loop-at.next c.loop-at.invariant c.requires.good c.word_end-end.result c.word_end-end.ensures.same c.word_end-end.ensures.within.1 c.requires.room
 
 pub returns-then-end-listing : goal.returns-then-end-listing
 returns-then-end-listing c = search (words_last)

@@ -1,8 +1,7 @@
-use Rattle.decode.proofs.Fronts.{Reading}
+use Rattle.std.proofs.Common.{◌≡◌}
+use Rattle.definition.specs.Decoding as Decoding
+use Rattle.decode.proofs.Numbers.{below}
 use Rattle.decode.proofs.number.Given as goal
 
-abbrev pub invariant-loop-k : goal.invariant-loop-k
-invariant-loop-k l = Reading l.fragment l.start l.n l.v l.k
-
-abbrev pub decreases-loop-k : goal.decreases-loop-k
-decreases-loop-k l = l.k
+abbrev pub invariant-loop-byte : goal.invariant-loop-byte
+invariant-loop-byte l = below l.byte-iterator.iter.rest.now l.number ≡ Decoding.number l.bytes

@@ -1,9 +1,8 @@
-use Prim.Native.Nat.{◌-◌, ◌≤◌}
-use Rattle.faults.proofs.Parts.{Sound}
+use Rattle.std.proofs.Common.{◌≡◌, ◌-◌, length}
+use Rattle.faults.specs.Faults.{part_fault}
+use Rattle.good_header.specs.View.{parts_from}
 use Rattle.faults.proofs.fault_in.Given as goal
 
 abbrev pub invariant-loop-k : goal.invariant-loop-k
-invariant-loop-k l = (Sound l.paper l.header l.count l.k) × (l.k ≤ l.count)
-
-abbrev pub decreases-loop-k : goal.decreases-loop-k
-decreases-loop-k l = l.count - l.k
+invariant-loop-k l =
+    part_fault l.header (length l.paper) 0 (parts_from l.paper 0 l.count) ≡ part_fault l.header (length l.paper) l.k (parts_from l.paper l.k (l.count - l.k))

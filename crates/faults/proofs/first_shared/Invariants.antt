@@ -1,9 +1,9 @@
-use Prim.Native.Nat.{◌-◌, ◌≤◌}
-use Rattle.faults.proofs.Parts.{Apart}
+use Rattle.std.proofs.Common.{◌≡◌, ◌-◌, ℕ}
+use Rattle.faults.specs.Faults.{shared_with}
+use Rattle.good_header.specs.View.{parts_from}
+use Rattle.header.specs.View.{part_of}
 use Rattle.faults.proofs.first_shared.Given as goal
 
-abbrev pub invariant-loop-n : goal.invariant-loop-n
-invariant-loop-n l = (Apart l.paper l.at l.from l.count l.n) × (l.n ≤ l.count)
-
-abbrev pub decreases-loop-n : goal.decreases-loop-n
-decreases-loop-n l = l.count - l.n
+abbrev pub invariant-loop-k : goal.invariant-loop-k
+invariant-loop-k l =
+    (j : ℕ) → shared_with (part_of l.part) j l.from (parts_from l.paper l.from (l.count - l.from)) ≡ shared_with (part_of l.part) j l.k (parts_from l.paper l.k (l.count - l.k))

@@ -1,8 +1,8 @@
-use Rattle.good_header.proofs.Headers.{Testing}
+use Rattle.std.proofs.Common.{◌≡◌, ◌-◌, length}
+use Rattle.definition.specs.Papers.{good_parts}
+use Rattle.good_header.specs.View.{parts_from}
 use Rattle.good_header.proofs.parts_ok.Given as goal
 
-abbrev pub invariant-loop-left : goal.invariant-loop-left
-invariant-loop-left l = Testing l.paper l.header l.from l.count l.at l.left
-
-abbrev pub decreases-loop-left : goal.decreases-loop-left
-decreases-loop-left l = l.left
+abbrev pub invariant-loop-k : goal.invariant-loop-k
+invariant-loop-k l =
+    good_parts l.header (length l.paper) (parts_from l.paper 0 l.count) ≡ good_parts l.header (length l.paper) (parts_from l.paper l.k (l.count - l.k))

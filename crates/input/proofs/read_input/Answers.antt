@@ -20,9 +20,9 @@ take-put_mid_further at room n xs ys within fits =
 
 pub loop-n-preserved : goal.loop-n-preserved
 loop-n-preserved g c = record {
-  within = omega (arith, c.in-Ok.ensures.bound.0);
+  within = omega (arith, c.in_ok-more.ensures.bound.0);
   bytes =
       subst (Consumes _ _)
-      (sym (take-put_mid_further _ _ _ _ _ c.loop-n.invariant.within c.in-Ok.ensures.bound.0))
-      (Consumes-trans _ _ _ _ _ c.loop-n.invariant.bytes c.in-Ok.ensures.bytes.0);
+      (sym (take-put_mid_further _ _ _ _ _ c.loop-n.invariant.within c.in_ok-more.ensures.bound.0))
+      (Consumes-trans _ _ _ _ _ c.loop-n.invariant.bytes c.in_ok-more.ensures.bytes.0);
 }

@@ -1,9 +1,6 @@
-use Prim.Native.Nat.{◌-◌}
+use Rattle.opcodes.specs.Classes.{rows_of}
 use Rattle.log_blocks.proofs.Rows.{Rowing}
 use Rattle.log_blocks.proofs.put_rows.Given as goal
 
 abbrev pub invariant-loop-j : goal.invariant-loop-j
-invariant-loop-j l = Rowing l.go l.initial.text l.at l.classes l.fragment l.log l.scale l.from l.count l.text l.next l.depth l.j
-
-abbrev pub decreases-loop-j : goal.decreases-loop-j
-decreases-loop-j l = l.count - l.j
+invariant-loop-j l = Rowing l.go l.initial.text l.at (rows_of l.classes) l.fragment l.log l.scale l.from l.count l.text l.next l.depth l.j

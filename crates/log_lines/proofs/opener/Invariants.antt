@@ -1,9 +1,7 @@
 use Prim.Native.Nat.{◌+◌, ◌≤◌}
+use Rattle.opcodes.specs.Classes.{rows_of}
 use Rattle.log_lines.proofs.Arms.{Opening}
 use Rattle.log_lines.proofs.opener.Given as goal
 
 abbrev pub invariant-loop-n : goal.invariant-loop-n
-invariant-loop-n l = (Opening l.classes l.fragment l.log l.from l.count l.n l.inner) × (l.n + l.inner ≤ l.count)
-
-abbrev pub decreases-loop-n : goal.decreases-loop-n
-decreases-loop-n l = l.n
+invariant-loop-n l = Opening (rows_of l.classes) l.fragment l.log l.from l.count l.n l.inner × (l.n + l.inner ≤ l.count)

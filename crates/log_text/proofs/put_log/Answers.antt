@@ -9,12 +9,9 @@ put_blocks-p-requires-clause-count_bound c = (c.requires.count_bound.0, omega (a
 pub put_blocks-p-requires-clause-told_in_bounds : goal.put_blocks-p-requires-clause-told_in_bounds
 put_blocks-p-requires-clause-told_in_bounds c = omega (arith, c.requires.rows_in_bounds)
 
-pub put_blocks-p-requires-clause-class_rows : goal.put_blocks-p-requires-clause-class_rows
-put_blocks-p-requires-clause-class_rows c = c.requires.class_rows
-
 pub returns-then-t-eq0 : goal.returns-then-t-eq0
-returns-then-t-eq0 c = λ options. log-accepted (rules_by c.args.classes.now options) c.args.paper.now c.args.log.now c.args.m c.if-t-eq0.true (c.put_blocks-p.ensures.same options) c.put.ensures.same
+returns-then-t-eq0 c = λ options. log-accepted (rules_by c.args.classes.rows.now options) c.args.paper.now c.args.log.now c.args.m c.if-t-eq0.true (c.put_blocks-p.ensures.same options) c.put.ensures.same
 
 pub returns : goal.returns
-returns c = λ options. log-refused (rules_by c.args.classes.now options) c.args.paper.now c.args.log.now c.args.m _ c.if-t-eq0.false c.put_blocks-p.ensures.rows (c.put_blocks-p.ensures.same options)
+returns c = λ options. log-refused (rules_by c.args.classes.rows.now options) c.args.paper.now c.args.log.now c.args.m _ c.if-t-eq0.false c.put_blocks-p.ensures.rows (c.put_blocks-p.ensures.same options)
     (c.put_refused-b.ensures.same options) c.put-c.ensures.same c.put_last.ensures.same

@@ -1,35 +1,19 @@
-use Prim.Native.Nat.{◌<◌}
-use lib.ListN.{length}
+use Rattle.std.proofs.Common.{arith, ◌≤◌, ◌<◌, ◌≡◌, Bool, true, false, length, refl}
 use Rattle.definition.specs.Papers.{fragments}
-use Rattle.paper.proofs.Fragments.{no-fragment, marks-body, marks-state}
-use native.Mathlib.Omega.{arith}
+use Rattle.fragments.specs.View.{fragment_of}
+use Rattle.walk.specs.Runs.{rules_in}
+use Rattle.paper.proofs.Fragments.{no-fragment, marks-fragment}
 use Rattle.paper.proofs.mark_fragment_rows.Goals as goal
 
-pub returns-then-k-fragment_count : goal.returns-then-k-fragment_count
-returns-then-k-fragment_count c = let a = c.args in
-    let m = no-fragment _ a.paper.now a.k a.rows a.log.now (omega (arith, c.if-k-fragment_count.true, c.fragment_count.ensures)) in
+pub returns-in_default : goal.returns-in_default
+returns-in_default c = let a = c.args in
+    let m = no-fragment (rules_in a.rules) a.paper.now a.k a.rows a.log.now (c.in_default.ensures.past.0 refl) in
     record { same = m.same; logged = m.logged; room = m.room }
-
-pub mark_part-requires-clause-from_in_bounds : goal.mark_part-requires-clause-from_in_bounds
-mark_part-requires-clause-from_in_bounds c = omega (arith, c.rows_start-from.ensures)
-
-pub mark_part-requires-clause-class_rows : goal.mark_part-requires-clause-class_rows
-mark_part-requires-clause-class_rows c = c.requires
-
-pub returns-then-k-count : goal.returns-then-k-count
-returns-then-k-count c = let a = c.args in
-    let there : a.k < length (fragments a.paper.now) = omega (arith, c.if-k-fragment_count.false, c.fragment_count.ensures) in
-    let m = marks-body _ a.paper.now a.k a.rows a.log.now there c.mark_part.result _ c.rows_start-from.result c.rows_start-from.ensures c.field-count.result c.field.result c.field-then-k-count.result c.field-count.ensures.same c.if-k-count.true c.field.ensures.same c.field-then-k-count.ensures.same c.mark_part.ensures in
-    record { same = m.same; logged = m.logged; room = m.room }
-
-pub mark_part-requires-2-clause-from_in_bounds : goal.mark_part-requires-2-clause-from_in_bounds
-mark_part-requires-2-clause-from_in_bounds c = omega (arith, c.rows_start-from.ensures)
-
-pub mark_part-requires-2-clause-class_rows : goal.mark_part-requires-2-clause-class_rows
-mark_part-requires-2-clause-class_rows c = c.requires
 
 pub returns : goal.returns
 returns c = let a = c.args in
-    let there : a.k < length (fragments a.paper.now) = omega (arith, c.if-k-fragment_count.false, c.fragment_count.ensures) in
-    let m = marks-state _ a.paper.now a.k a.rows a.log.now there c.mark_part-2.result _ c.rows_start-from.result c.rows_start-from.ensures c.field-count.result c.most_parameters.result c.field-count.ensures.same c.if-k-count.false c.most_parameters.ensures c.mark_part-2.ensures in
+    let not_past : length (fragments a.paper.now) ≤ a.k → ⊥ = λ h. let e : ◌≡◌ {A = Bool} true false = c.in-Some.ensures.past.1 h in cc in
+    let there : a.k < length (fragments a.paper.now) = omega arith in
+    let m = marks-fragment (rules_in a.rules) a.paper.now a.k a.rows a.log.now there (fragment_of c.in-Some.fragment) c.in-Some.ensures.found
+    _ c.rows_start-from.ensures _ _ c.analyze_heights_rows.ensures.same c.analyze_heights_rows.ensures.logged in
     record { same = m.same; logged = m.logged; room = m.room }

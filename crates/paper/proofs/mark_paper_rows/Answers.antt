@@ -1,24 +1,24 @@
-use mathlib.Core.Bool.{not}
-use mathlib.Core.Path.{ap}
+use Rattle.std.proofs.Common.{not, ap}
+use Rattle.walk.specs.Runs.{rules_in}
 use Rattle.paper.proofs.Markings.{paper-long, paper-bad, paper-over, paper-marked, paper-replays}
 use Rattle.paper.proofs.mark_paper_rows.Goals as goal
 
-pub returns-then-paper-gt8000 : goal.returns-then-paper-gt8000
-returns-then-paper-gt8000 c = let a = c.args in
-    let m = paper-long _ a.paper.now a.log.now c.if-paper-gt8000.true _ c.refused.ensures in
-    record { same = m.same; logged = m.logged; replayed = λ z. paper-replays _ c.requires.1 a.paper.now a.log.now _ _ m z }
+pub returns-then-length-gt8000 : goal.returns-then-length-gt8000
+returns-then-length-gt8000 c = let a = c.args in
+    let m = paper-long (rules_in a.rules) a.paper.now a.log.now c.if-length-gt8000.true _ c.refused.ensures in
+    record { same = m.same; logged = m.logged; replayed = paper-replays _ a.rules.limit.low a.paper.now a.log.now _ _ m }
 
 pub returns-then-not-header_ok : goal.returns-then-not-header_ok
 returns-then-not-header_ok c = let a = c.args in
-    let m = paper-bad _ a.paper.now a.log.now c.if-paper-gt8000.false c.header_ok.result c.header_ok.ensures (ap not c.if-not-header_ok.true) _ c.refused-then-not-header_ok.ensures in
-    record { same = m.same; logged = m.logged; replayed = λ z. paper-replays _ c.requires.1 a.paper.now a.log.now _ _ m z }
+    let m = paper-bad (rules_in a.rules) a.paper.now a.log.now c.if-length-gt8000.false _ c.header_ok.ensures (ap not c.if-not-header_ok.true) _ c.refused-then-not-header_ok.ensures in
+    record { same = m.same; logged = m.logged; replayed = paper-replays _ a.rules.limit.low a.paper.now a.log.now _ _ m }
 
-pub returns-in-Over : goal.returns-in-Over
-returns-in-Over c = let a = c.args in
-    let m = paper-over _ a.paper.now a.log.now c.if-paper-gt8000.false c.header_ok.result c.header_ok.ensures (ap not c.if-not-header_ok.false) c.dispatch_check-d.result c.dispatch_check-d.ensures _ _ c.in-Over.is _ c.refused-in-Over.ensures in
-    record { same = m.same; logged = m.logged; replayed = λ z. paper-replays _ c.requires.1 a.paper.now a.log.now _ _ m z }
+pub returns-in-Err : goal.returns-in-Err
+returns-in-Err c = let a = c.args in
+    let m = paper-over (rules_in a.rules) a.paper.now a.log.now c.if-length-gt8000.false _ c.header_ok.ensures (ap not c.if-not-header_ok.false) _ c.items-limit.ensures _ c.dispatch_check.ensures c.in-Err.over c.in-Err.is _ c.refused-in-Err.ensures in
+    record { same = m.same; logged = m.logged; replayed = paper-replays _ a.rules.limit.low a.paper.now a.log.now _ _ m }
 
-pub returns-in-Fits : goal.returns-in-Fits
-returns-in-Fits c = let a = c.args in
-    let m = paper-marked _ a.paper.now a.log.now c.if-paper-gt8000.false c.header_ok.result c.header_ok.ensures (ap not c.if-not-header_ok.false) c.dispatch_check-d.result c.dispatch_check-d.ensures c.in-Fits.is c.mark_fragments.result _ c.mark_fragments.ensures.same c.mark_fragments.ensures.logged in
-    record { same = m.same; logged = m.logged; replayed = λ z. paper-replays _ c.requires.1 a.paper.now a.log.now _ _ m z }
+pub returns-in-Ok : goal.returns-in-Ok
+returns-in-Ok c = let a = c.args in
+    let m = paper-marked (rules_in a.rules) a.paper.now a.log.now c.if-length-gt8000.false _ c.header_ok.ensures (ap not c.if-not-header_ok.false) _ c.items-limit.ensures _ c.dispatch_check.ensures c.in-Ok.is _ _ c.mark_fragments.ensures.same c.mark_fragments.ensures.logged in
+    record { same = m.same; logged = m.logged; replayed = paper-replays _ a.rules.limit.low a.paper.now a.log.now _ _ m }

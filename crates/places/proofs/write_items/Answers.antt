@@ -1,30 +1,10 @@
-use Prim.Native.Nat.{◌+◌}
-use lib.ListN.{length-set}
+use mathlib.Core.Path.{◌∙◌}
 use native.Mathlib.Omega.{arith}
-use Rattle.places.proofs.Items.{listing_none, listing-more, too-few-items, all_listed}
+use Rattle.places.proofs.Items.{listing-more}
 use Rattle.places.proofs.write_items.Goals as goal
 
-pub returns-then-items-count : goal.returns-then-items-count
-returns-then-items-count c = search (too-few-items)
-
-pub loop-k-init : goal.loop-k-init
-loop-k-init c = (listing_none _ _ _, omega arith)
-
-pub bounds-items-k : goal.bounds-items-k
-bounds-items-k c = omega arith
-
-pub bounds-items-k-in-loop-k : goal.bounds-items-k-in-loop-k
-bounds-items-k-in-loop-k c = simp length-set (omega arith)
-
-pub bounds-items-k-in-loop-k-2 : goal.bounds-items-k-in-loop-k-2
-bounds-items-k-in-loop-k-2 c = simp length-set (omega arith)
-
 pub loop-k-preserved : goal.loop-k-preserved
-loop-k-preserved c = (rw c.wide.ensures (listing-more _ _ _ c.loop-k.invariant.0 (omega arith)), omega arith)
-
-pub shape_of-items : goal.shape_of-items
-shape_of-items c = c.loop-k.invariant.0.kept
-
-pub returns : goal.returns
-returns c = let a = c.args in
-    all_listed a.e.lens a.e.bytes a.items.now (a.e.main + a.e.alt) c.loop-k.k c.loop-k.items (omega arith) (omega arith) (omega arith) c.loop-k.invariant.0
+loop-k-preserved c = (
+  listing-more _ _ _ _ _ _ c.loop-k.invariant.0 (omega arith) (c.copy_from_slice.ensures.after ∙ c.item_numbers.ensures) (omega (arith, c.loop-k.auto.items)) (omega arith),
+  omega arith,
+)

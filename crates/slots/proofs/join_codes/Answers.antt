@@ -1,16 +1,12 @@
-use Rattle.slots.proofs.Laws.{each_none, each-end}
-use Rattle.slots.proofs.Joins.{joining-more, joined-now}
+use mathlib.Core.Path.{sym}
 use native.Mathlib.Omega.{arith}
+use Rattle.std.proofs.Common.{get_or}
+use Rattle.slots.specs.Parts.{common_code}
+use Rattle.slots.proofs.Laws.{each_next, suffice-next}
 use Rattle.slots.proofs.join_codes.Goals as goal
 
-pub loop-i-init : goal.loop-i-init
-loop-i-init c = (search (each_none), omega arith, omega arith)
-
-pub joined-requires : goal.joined-requires
-joined-requires c = (joined-now _ _ _ _ _ c.requires.0 c.loop-i.invariant.0 c.loop-i.i (omega arith), c.requires.1.canon c.loop-i.i)
-
 pub loop-i-preserved : goal.loop-i-preserved
-loop-i-preserved c = (search (joining-more), omega arith, omega arith)
-
-pub returns : goal.returns
-returns c = search (each-end)
+loop-i-preserved c = let i = c.loop-i.i in record {
+  common = each_next _ _ 0 _ i (λ x. common_code x (get_or c.args.other.now i 0)) _ (omega arith) (omega arith) c.common.ensures sym c.loop-i.invariant.common;
+  suffice = suffice-next _ i _ _ _ c.loop-i.invariant.suffice c.suffices-suffice.ensures;
+}

@@ -1,36 +1,42 @@
-use mathlib.Core.Path.{refl, subst}
-use Rattle.stack_analysis.specs.Entry.{MayWalk, Starts}
-use Rattle.stack_analysis.proofs.Entries.{answers-early, answers-live, answers-dead}
-use Prim.Native.Nat.{◌≤◌}
+use mathlib.Core.Path.{refl, subst, ◌∙◌}
 use native.Mathlib.Omega.{arith}
-use Rattle.definition_rules.specs.Maps.{rules_by}
-use Rattle.walk.specs.Runs.{options_of}
+use Rattle.refusals.specs.View.{refusal_of}
+use Rattle.walk.specs.Runs.{rules_in}
+use Rattle.stack_analysis.specs.Entry.{MayWalk, Starts}
+use Rattle.stack_analysis.proofs.Entries.{walk-ends, ready-start, Analysed, answers-early, answers-live, answers-dead, answers-none}
 use Rattle.stack_analysis.proofs.analyze_rows.Goals as goal
-use Rattle.stack_analysis.proofs.analyze_rows.Goals.{In-Walks}
-
--- the limit
-small : (c : In-Walks) → c.args.options.limit ≤ 244
-small c = c.requires.1
+use Rattle.stack_analysis.proofs.analyze_rows.Goals.{In_default, in-Some, in_default-stacks, in_default-stacks-via-in-Some+else-verdict, in_default-stacks-via-in_default-stacks}
 
 -- nothing is against the walk
-may : (c : In-Walks) → let a = c.args in MayWalk (rules_by a.classes.now (options_of a.options)) a.fragment.now a.main a.alt a.log.now
+may : (c : In_default) → let a = c.args in MayWalk (rules_in a.rules) a.fragment.now a.main a.alt a.log.now
 may c = let a = c.args in
-    subst (Starts (rules_by a.classes.now (options_of a.options)) a.fragment.now a.main a.alt a.log.now) c.in-Walks.is (c.early-start.ensures (rules_by a.classes.now (options_of a.options)) a.log.now refl refl)
+    subst (Starts (rules_in a.rules) a.fragment.now a.main a.alt a.log.now) c.in_default.is (c.early.ensures (rules_in a.rules) a.log.now refl refl)
 
-pub walk_all-w-requires : goal.walk_all-w-requires
-walk_all-w-requires c = let m = may (goal.at.walk_all-w-requires c).In-Walks in
-    record { fragment_len_bound = (m.short, omega (arith, m.low, c.requires.1)); fragment_in_bounds = m.room; class_rows = c.requires }
+pub start-w-requires : goal.start-w-requires
+start-w-requires c = let m = may (goal.at.start-w-requires c).In_default in
+    omega (arith, m.low, c.args.rules.limit.low)
 
-pub returns-then-v : goal.returns-then-v
-returns-then-v c = let m = answers-live _ (small (goal.at.returns-then-v c).In-Walks) _ _ _ _ (may (goal.at.returns-then-v c).In-Walks) c.walk_all-w.result _ c.walk_all-w.ensures c.conclude-v.result c.conclude-v.ensures c.if-v.true c.of.result c.of.ensures _ c.with_end-then-v.ensures in
+pub arm-ended-requires-clause-ready : goal.arm-ended-requires-clause-ready
+arm-ended-requires-clause-ready c = let m = may (goal.at.arm-ended-requires-clause-ready c).In_default in
+    ready-start _ _ _ _ _ c.start-w.ensures m.short m.room
+
+pub returns-in-Err : goal.returns-in-Err
+returns-in-Err c = let a = c.args in
+    let e = subst (Starts (rules_in a.rules) a.fragment.now a.main a.alt a.log.now) c.in-Err.is (c.early.ensures (rules_in a.rules) a.log.now refl refl) in
+    let m = answers-early _ a.rules.limit.low a.fragment.now a.main a.alt a.log.now _ _ e _ c.refused.ensures _ c.none.ensures _ c.with_end.ensures in
     record { same = m.same; shows = m.shows; within = m.within; logged = m.logged; replayed = m.replayed }
 
-pub returns-in-Refused : goal.returns-in-Refused
-returns-in-Refused c = let a = c.args in
-    let r = subst (Starts (rules_by a.classes.now (options_of a.options)) a.fragment.now a.main a.alt a.log.now) c.in-Refused.is (c.early-start.ensures (rules_by a.classes.now (options_of a.options)) a.log.now refl refl) in
-    let m = answers-early _ c.requires.1 a.fragment.now a.main a.alt a.log.now _ r c.none.result c.none.ensures _ c.with_end.ensures in
-    record { same = m.same; shows = m.shows; within = m.within; logged = m.logged; replayed = m.replayed }
-
-pub returns-else-v : goal.returns-else-v
-returns-else-v c = let m = answers-dead _ (small (goal.at.returns-else-v c).In-Walks) _ _ _ _ (may (goal.at.returns-else-v c).In-Walks) c.walk_all-w.result _ c.walk_all-w.ensures c.conclude-v.result c.conclude-v.ensures c.if-v.false c.none-in-Walks.result c.none-in-Walks.ensures _ c.with_end-in-Walks.ensures in
+pub returns : goal.returns
+returns c =
+    let a = c.args in
+    let may = may (goal.at.returns c).In_default in
+    let ends = walk-ends _ _ _ _ _ _ _ _ _ c.arm-ended.ensures c.start-w.ensures in
+    let m : Analysed (rules_in a.rules) a.fragment.now a.main a.alt a.log.now c.with_end-2.result c.arm-ended.new.log =
+    elim c.match-w.branch [
+      | in-Some w ↦ answers-live _ a.rules.limit.low _ _ _ _ may _ _ _ ends _ c.conclude-verdict.ensures w.in-Some.stacks w.in-Some.is w.if-verdict.true _ (w.end-is ∙ w.of-end.ensures) _ c.with_end-2.ensures
+      | in_default-stacks w ↦ elim w.in_default-stacks.branch [
+        | in_default-stacks-via-in-Some+else-verdict v ↦ answers-dead _ a.rules.limit.low _ _ _ _ may _ _ _ ends _ c.conclude-verdict.ensures v.if-verdict.false _ (w.end-is ∙ w.none-end.ensures) _ c.with_end-2.ensures
+        | in_default-stacks-via-in_default-stacks v ↦ answers-none _ a.rules.limit.low _ _ _ _ may _ _ _ ends _ c.conclude-verdict.ensures v.in_default-stacks.not-Some _ (w.end-is ∙ w.none-end.ensures) _ c.with_end-2.ensures
+      ]
+    ] in
     record { same = m.same; shows = m.shows; within = m.within; logged = m.logged; replayed = m.replayed }

@@ -1,11 +1,12 @@
-use Prim.Native.Nat.{◌-◌}
-use lib.ListN.{length}
-use Rattle.definition_rules.specs.Maps.{rules_by}
-use Rattle.walk.proofs.Loop.{walk_of, Walking}
+use Rattle.std.proofs.Common.{◌-◌, length}
+use Rattle.walk.specs.Runs.{rules_in, stand, running}
+use Rattle.walk.proofs.Loop.{Walking, living}
 use Rattle.walk.proofs.plain.Given as goal
 
-abbrev pub invariant-loop-r : goal.invariant-loop-r
-invariant-loop-r l = Walking (rules_by l.classes (record { limit = l.limit; examined = l.examined })) l.code l.initial.log (walk_of l.initial.t l.initial.at l.initial.last l.initial.rows l.initial.peak) l.log (walk_of l.t l.at l.last l.rows l.peak)
+-- Its stacks are lent, so of the walk itself the loop has where it stands, `l.w.1.1.0`, and the peak, `l.w.1.1.1.0`.
 
-abbrev pub decreases-loop-r : goal.decreases-loop-r
-decreases-loop-r l = length l.code - l.at
+abbrev pub invariant-loop-instruction : goal.invariant-loop-instruction
+invariant-loop-instruction l = Walking (rules_in l.rules) l.code l.initial.log (stand l.fn.w running) l.log (living l.stacks l.w.1.1.0 l.w.1.1.1.0)
+
+abbrev pub decreases-loop-instruction : goal.decreases-loop-instruction
+decreases-loop-instruction l = length l.code - l.w.1.1.0.at

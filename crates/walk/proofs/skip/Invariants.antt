@@ -1,11 +1,11 @@
-use Prim.Native.Nat.{◌-◌}
-use lib.ListN.{length}
-use Rattle.definition_rules.specs.Maps.{rules_by}
-use Rattle.walk.proofs.Dead.{Skipping}
+use Rattle.std.proofs.Common.{◌-◌, length, ◌≡◌, None}
+use Rattle.walk.specs.Runs.{rules_in, stand, running}
+use Rattle.walk.proofs.Loop.{Walking}
 use Rattle.walk.proofs.skip.Given as goal
 
-abbrev pub invariant-loop-i : goal.invariant-loop-i
-invariant-loop-i l = Skipping (rules_by l.classes) l.code l.initial.log l.initial.at l.initial.last l.initial.rows l.log l.at l.last l.rows
+abbrev pub invariant-loop-instruction : goal.invariant-loop-instruction
+invariant-loop-instruction l =
+    (l.w.stacks ≡ None) × Walking (rules_in l.rules) l.code l.initial.log (stand l.initial.w running) l.log (stand l.w running)
 
-abbrev pub decreases-loop-i : goal.decreases-loop-i
-decreases-loop-i l = length l.code - l.at
+abbrev pub decreases-loop-instruction : goal.decreases-loop-instruction
+decreases-loop-instruction l = length l.code - l.w.place.at

@@ -1,22 +1,26 @@
-use Prim.Native.Nat.{◌-◌, ◌/◌}
-use lib.ListN.{length}
 use native.Mathlib.Omega.{arith}
-use Rattle.word_bytes.proofs.Writing.{known-data, known-least, known-length, push-written}
+use mathlib.Core.Path.{◌∙◌, ap}
+use lib.ListN.{length}
+use Rattle.word_bytes.proofs.Writing.{two, few, digits, push-length, push-written}
 use Rattle.word_bytes.proofs.write_push.Goals as goal
 
-pub overflow_sub-n : goal.overflow_sub-n
-overflow_sub-n c = search (known-least)
+pub slice_bounds-letters-count : goal.slice_bounds-letters-count
+slice_bounds-letters-count c = omega (arith, two c.args.word.now c.requires.opens c.requires.good)
 
-pub write_head-next-requires : goal.write_head-next-requires
-write_head-next-requires c = omega (arith, known-length c.args.word.now c.requires.word_value c.requires.word_value_2)
+pub slice_bounds-letters-start : goal.slice_bounds-letters-start
+slice_bounds-letters-start c = omega (arith, two c.args.word.now c.requires.opens c.requires.good)
 
-pub write_data-requires-clause-data_word : goal.write_data-requires-clause-data_word
-write_data-requires-clause-data_word c = known-data c.args.word.now c.requires.word_value c.requires.word_value_2
+pub head-requires : goal.head-requires
+head-requires c = few c.args.word.now c.requires.opens c.requires.good
 
-pub write_data-requires-clause-n_in_bounds : goal.write_data-requires-clause-n_in_bounds
-write_data-requires-clause-n_in_bounds c = omega (arith, known-length c.args.word.now c.requires.word_value c.requires.word_value_2, c.write_head-next.ensures.ends)
+pub write_word-next-requires : goal.write_word-next-requires
+write_word-next-requires c = omega (arith, push-length c.args.word.now c.requires.opens c.requires.good, ap length (c.as_slice.ensures.value ∙ c.head.ensures))
+
+pub write_data-requires-clause-digits : goal.write_data-requires-clause-digits
+write_data-requires-clause-digits c = digits c.args.word.now c.requires.opens c.requires.good
+
+pub write_data-requires-clause-room : goal.write_data-requires-clause-room
+write_data-requires-clause-room c = omega (arith, push-length c.args.word.now c.requires.opens c.requires.good, ap length (c.as_slice.ensures.value ∙ c.head.ensures), c.write_word-next.ensures.ends)
 
 pub returns : goal.returns
-returns c =
-    let word = c.args.word.now in
-    push-written word (length word / 2 - 1) (known-data word c.requires.word_value c.requires.word_value_2) (omega arith) c.write_head-next.ensures c.write_data.ensures
+returns c = push-written c.args.word.now c.requires.opens c.requires.good (omega arith) (c.as_slice.ensures.value ∙ c.head.ensures) c.write_word-next.ensures c.write_data.ensures

@@ -1,5 +1,5 @@
 use Rattle.words.proofs.Words.{word-name}
 use Rattle.words.proofs.code_read.Goals as goal
 
-pub returns : goal.returns
-returns c = search (word-name)
+pub returns-else-is_hex_code : goal.returns-else-is_hex_code
+returns-else-is_hex_code c = word-name c.args.word.now _ _ c.requires c.is_hex_code.ensures c.if-is_hex_code.false c.code_of.ensures

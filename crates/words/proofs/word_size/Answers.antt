@@ -1,8 +1,6 @@
-use Rattle.words.proofs.Sizes.{sized-strange, sized-code}
+use borrow.Author.Rules.{rules}
+use Rattle.words.proofs.Sizes.{sized-read}
 use Rattle.words.proofs.word_size.Goals as goal
 
-pub returns-in-Strange : goal.returns-in-Strange
-returns-in-Strange c = search (sized-strange)
-
-pub returns-in-Code : goal.returns-in-Code
-returns-in-Code c = search (sized-code)
+pub returns-else-is_data : goal.returns-else-is_data
+returns-else-is_data c = sized-read c.args.word.now _ c.code_read.ensures _ (λ e. search rules) (λ n e. search rules)

@@ -1,35 +1,24 @@
-use Rattle.ends.proofs.Ends.{reads-beyond, reads-past, reads-unknown, reads-exact}
-use native.Mathlib.Omega.{arith}
+use Rattle.std.proofs.Common.{◌≡◌}
+use Rattle.decode.specs.declared.Value.TheVariants.{Unknown}
+use Rattle.ends.specs.View.{value_at}
+use Rattle.ends.proofs.Ends.{nothing, nowhere, there, shows}
+use Rattle.ends.proofs.EndStacks.item.Goals.{Joined-else-k-self, else-k-self-via-then-k-self+else-k-lt244, else-k-self-via-else-k-self}
 use Rattle.ends.proofs.EndStacks.item.Goals as goal
 
-pub returns-then-k-count-clause-same : goal.returns-then-k-count-clause-same
-returns-then-k-count-clause-same c = let a = c.args in let m = reads-beyond a.self a.k (omega arith) in m.same
+pub returns-then-k-lt244-clause-same : goal.returns-then-k-lt244-clause-same
+returns-then-k-lt244-clause-same c = there _ _ c.if-k-self.true c.if-k-lt244.true
 
-pub returns-then-k-count-clause-shows : goal.returns-then-k-count-clause-shows
-returns-then-k-count-clause-shows c = let a = c.args in let m = reads-beyond a.self a.k (omega arith) in m.shows
+pub returns-then-k-lt244-clause-shows : goal.returns-then-k-lt244-clause-shows
+returns-then-k-lt244-clause-shows c = shows _ _ _ (there _ _ c.if-k-self.true c.if-k-lt244.true)
 
-pub returns-then-k-ge244-clause-same : goal.returns-then-k-ge244-clause-same
-returns-then-k-ge244-clause-same c = let a = c.args in let m = reads-past a.self a.k (omega arith) (omega arith) in m.same
+beyond : (c : Joined-else-k-self) → Unknown ≡ value_at c.args.self.now c.args.k
+beyond c = elim c.else-k-self.branch [
+  | else-k-self-via-then-k-self+else-k-lt244 w ↦ nowhere _ _ w.if-k-self.true w.if-k-lt244.false
+  | else-k-self-via-else-k-self w ↦ nothing _ _ w.if-k-self.false
+]
 
-pub returns-then-k-ge244-clause-shows : goal.returns-then-k-ge244-clause-shows
-returns-then-k-ge244-clause-shows c = let a = c.args in let m = reads-past a.self a.k (omega arith) (omega arith) in m.shows
+pub returns-else-k-self-clause-same : goal.returns-else-k-self-clause-same
+returns-else-k-self-clause-same c = beyond c
 
-pub returns-then-len-clause-same : goal.returns-then-len-clause-same
-returns-then-len-clause-same c = let a = c.args in
-    let m = reads-unknown a.self a.k (omega arith) (omega arith) c.if-len.true in
-    m.same
-
-pub returns-then-len-clause-shows : goal.returns-then-len-clause-shows
-returns-then-len-clause-shows c = let a = c.args in
-    let m = reads-unknown a.self a.k (omega arith) (omega arith) c.if-len.true in
-    m.shows
-
-pub returns-clause-same : goal.returns-clause-same
-returns-clause-same c = let a = c.args in
-    let m = reads-exact a.self a.k (omega arith) (omega arith) c.if-len.false in
-    m.same
-
-pub returns-clause-shows : goal.returns-clause-shows
-returns-clause-shows c = let a = c.args in
-    let m = reads-exact a.self a.k (omega arith) (omega arith) c.if-len.false in
-    m.shows
+pub returns-else-k-self-clause-shows : goal.returns-else-k-self-clause-shows
+returns-else-k-self-clause-shows c = shows _ _ Unknown (beyond c)

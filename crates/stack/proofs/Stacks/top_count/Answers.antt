@@ -1,20 +1,17 @@
-use mathlib.Core.Path.{sym, ◌∙◌}
-use Rattle.slots.proofs.Values.{code-alone, with-bytes}
-use Rattle.stack.proofs.Pops.{pops-dry, pops-code, pops-bytes}
-use native.Mathlib.Omega.{arith}
+use borrow.Author.Rules.{rules}
+use Rattle.stack.proofs.Tests.{has, which-dry}
+use Rattle.stack.proofs.Pops.{pops-short, pops-at, pops-none}
 use Rattle.stack.proofs.Stacks.top_count.Goals as goal
 
-pub returns-then-m-lt1 : goal.returns-then-m-lt1
-returns-then-m-lt1 c = pops-dry c.args.self c.requires (omega arith)
+pub returns-in_err-needs : goal.returns-in_err-needs
+returns-in_err-needs c = let s = c.args.self.now in
+    let k = which-dry s _ _ c.needs.ensures _ c.in_err-needs.was in
+    pops-short _ _ _ k.0 _ k.1 _ (search rules)
 
-pub slot_value-requires : goal.slot_value-requires
-slot_value-requires c = let e = sym c.suffices.ensures ∙ c.if-suffices.true in code-alone _ _ (c.requires.sound.canon _) e
-
-pub returns-then-suffices : goal.returns-then-suffices
-returns-then-suffices c = let e = sym c.suffices.ensures ∙ c.if-suffices.true in search (pops-code)
-
-pub slot_value-requires-2 : goal.slot_value-requires-2
-slot_value-requires-2 c = let e = sym c.suffices.ensures ∙ c.if-suffices.false in with-bytes _ _ (c.requires.sound.canon _) e
+pub returns-in_err-read_index : goal.returns-in_err-read_index
+returns-in_err-read_index c = let s = c.args.self.now in
+    pops-none _ _ _ (has s _ _ c.needs.ensures _ c.in_ok-needs.was) _ c.slot_value.ensures _ c.read_index.ensures.same _ c.in_err-read_index.was _ (search rules)
 
 pub returns : goal.returns
-returns c = search (pops-bytes)
+returns c = let s = c.args.self.now in
+    pops-at _ _ _ (has s _ _ c.needs.ensures _ c.in_ok-needs.was) _ c.slot_value.ensures _ c.read_index.ensures.same _ c.in_ok-read_index.was

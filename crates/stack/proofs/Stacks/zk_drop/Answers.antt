@@ -1,13 +1,6 @@
-use Rattle.slots.proofs.Codes.{sufficient-high}
-use Rattle.stack.proofs.Indices.{zk-drop-dry, zk-drop-done}
-use native.Mathlib.Omega.{arith}
+use Rattle.stack.proofs.Tests.{yields, done-of}
+use Rattle.stack.proofs.Indices.{zk-drop-done}
 use Rattle.stack.proofs.Stacks.zk_drop.Goals as goal
 
-pub returns-then-m-n : goal.returns-then-m-n
-returns-then-m-n c = search (zk-drop-dry)
-
-pub push_code-requires-clause-code_value : goal.push_code-requires-clause-code_value
-push_code-requires-clause-code_value c = sufficient-high 11 (omega arith)
-
 pub returns : goal.returns
-returns c = search (zk-drop-done)
+returns c = yields c.push_slot.ensures _ (zk-drop-done _ _ _ _ (done-of _ _ _ c.try_drop_items.ensures _ c.in_ok-try_drop_items.was))

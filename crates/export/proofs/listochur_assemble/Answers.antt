@@ -1,9 +1,0 @@
-use mathlib.Core.Path.{ap, ◌∙◌}
-use Rattle.definition_listings.specs.Listing.{Converted}
-use Rattle.places.specs.View.{written, converted_numbers}
-use Rattle.export.proofs.listochur_assemble.Goals as goal
-
-pub returns : goal.returns
-returns c = let lent = c.args.out.now in
-    let wrote = c.write_converted.ensures ∙ ap (λ (x : Converted). written (converted_numbers x) lent) c.assemble-c.ensures in
-    record { number = ap (λ (x : Converted). x.number) c.assemble-c.ensures; fragment = ap (λ (x : Converted). x.out) c.assemble-c.ensures; written = wrote }

@@ -1,9 +1,0 @@
-use Prim.Native.Nat.{◌≤◌, ◌-◌}
-use Rattle.maps.specs.View.{JudgedUpTo}
-use Rattle.maps.proofs.later_rows.Given as goal
-
-abbrev pub invariant-loop-code : goal.invariant-loop-code
-invariant-loop-code l = (JudgedUpTo l.rows l.code l.good) × (0x61 ≤ l.code) × (l.code ≤ 256)
-
-abbrev pub decreases-loop-code : goal.decreases-loop-code
-decreases-loop-code l = 256 - l.code

@@ -1,0 +1,12 @@
+use borrow.Author.Rules.{rules}
+use Rattle.stack.proofs.Tests.{dry, has}
+use Rattle.stack.proofs.Alts.{to-alt-short, to-alt-done}
+use Rattle.stack.proofs.Stacks.try_move_to_alt.Goals as goal
+
+pub returns-in_err-needs : goal.returns-in_err-needs
+returns-in_err-needs c = dry _ _ _ c.needs.ensures _ c.in_err-needs.was _ (search rules) _ (to-alt-short _ _ _)
+
+pub returns : goal.returns
+returns c = let s = c.args.self.now in
+    let v = c.copy_slot.ensures in
+    record { same = rw (v.mains, v.alts) (to-alt-done _ _ _ (has s _ _ c.needs.ensures _ c.in_ok-needs.was) s.room _ v.placed) }
