@@ -1,4 +1,6 @@
 -- The fragment of a number: a body, the initialiser.
+use mathlib.Core.List.{[]}
+use lib.ListN.{get_or-eq_default}
 use Rattle.std.proofs.Common.{◌≡◌, sym, ap, ◌∙◌, ℕ, ◌+◌, ◌≤◌, ◌<◌, length}
 use Rattle.definition.specs.Basics.{Bytes}
 use Rattle.definition.specs.Papers.{Entry, Part, bytes_of, entry_count, entries, state_fields, initialiser, most_parameters, fragments}
@@ -17,3 +19,7 @@ module _ (p : Bytes) (k : ℕ) (bytes : Bytes) (main : ℕ) where
       rw (b, m) (ap (λ (i : Part). record { bytes = bytes_of p i; main = most_parameters (entries p); alt = 1 }) q) ∙ sym (fragment-state p k (rw (← c) h) l)
 
 pub ruleset numbered = (body-is, state-is, entry_count-le)
+
+-- a fragment past the last is empty
+pub past : (p : Bytes) (k : ℕ) → length (fragments p) ≤ k → record { bytes = []; main = 0; alt = 0 } ≡ fragment_at p k
+past p k h = sym (get_or-eq_default (fragments p) (record { bytes = []; main = 0; alt = 0 }) h)

@@ -5,7 +5,7 @@
 ghost use Rattle.std.specs.Prelude.{◌≡◌, ◌≤◌, ◌↔◌, length, IfSome, IsNone};
 ghost use Rattle.definition.specs.Papers.{fragments};
 ghost use Rattle.fragments.specs.View.{fragment_of};
-ghost use Rattle.header.specs.View.{fragment_at};
+ghost use Rattle.header.specs.View as Header;
 
 /// A fragment, and the heights that it starts from.
 #[derive(Clone, Copy, Debug, PartialEq, Eq)]
@@ -18,7 +18,7 @@ pub struct Fragment<'a> {
 /// Fragment `k`, from 0; `None` where the paper has no fragment `k`.
 #[tactic(auto, using(crate::proofs::Numbered::numbered))]
 pub fn nth_fragment<'a>(paper: &'a [u8], k: usize) -> Option<Fragment<'a>>
-    ensures found { IfSome result (λ f. fragment_of f ≡ fragment_at paper.now k) }
+    ensures found { IfSome result (λ f. fragment_of f ≡ Header.fragment_at paper.now k) }
     ensures past { IsNone result ↔ (length (fragments paper.now) ≤ k) }
 {
     if k < header::entry_count(paper) {
@@ -36,5 +36,20 @@ pub fn nth_fragment<'a>(paper: &'a [u8], k: usize) -> Option<Fragment<'a>>
         })
     } else {
         None
+    }
+}
+
+/// Fragment `k`, an empty one from heights 0 where the paper has no fragment `k`.
+#[tactic(auto, using(crate::proofs::Numbered::past))]
+pub fn fragment_at<'a>(paper: &'a [u8], k: usize) -> Fragment<'a>
+    ensures { fragment_of result ≡ Header.fragment_at paper.now k }
+{
+    match nth_fragment(paper, k) {
+        Some(fragment) => fragment,
+        None => Fragment {
+            bytes: &[],
+            main: 0,
+            alt: 0,
+        },
     }
 }

@@ -171,7 +171,7 @@ fn push_lines_with(
 }
 
 /// The text that is printed of a paper, and the number of the verdict that it tells.
-#[derive(Drop)]
+#[derive(Clone, Drop)]
 pub struct Lines {
     pub text: Line<4096>,
     pub number: u32,

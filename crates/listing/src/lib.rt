@@ -125,7 +125,7 @@ pub fn write_code_word(out: &mut [u8], at: usize, opcode: u8, names: &Names) -> 
 {
     if opcodes::class_of(opcode) == Class::Unmodelled {
         let next = write_word(out, at, b"0x");
-        write_hex(out, next, opcode)
+        write_hex(out, next, u64::from(opcode))
     } else {
         write_word(out, at, names.name(opcode))
     }

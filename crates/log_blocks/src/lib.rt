@@ -203,7 +203,7 @@ pub fn put_block(
         result }
     ensures near { result ≤ at + 256 * t.rows + 1000 }
 {
-    let fragment = log_lines::fragment_at(paper, k).bytes;
+    let fragment = fragments::fragment_at(paper, k).bytes;
     let a = put_start(text, at, go, paper, k);
     let b = put_table(text, a, go, fragment, log, classes, t.peak, from, t.rows);
     put_verdict(text, b, go, fragment, log, classes, from, t)

@@ -7,13 +7,10 @@ ghost use Rattle.std.specs.Prelude.{[], ◌≡◌, ◌++◌, ◌+◌, ◌-◌, �
 ghost use Rattle.arrayvec.specs.ArrayVec.{array_vec_len};
 ghost use Rattle.definition.specs.Lines.{text};
 ghost use Rattle.definition_rules.specs.Maps.{Options, rules_by};
-ghost use Rattle.fragments.specs.View.{fragment_of};
-ghost use Rattle.header.specs.View as Header;
 ghost use Rattle.opcodes.specs.Classes.{rows_of};
 ghost use Rattle.log_lines.specs.Log.{start_line, start, ending, accepted_line, refusal, refusal_line, header_line, dispatch_line, malformed_line};
 ghost use Rattle.log_lines.specs.Log.{opener, other_main, arms, verdict_line};
 
-use fragments::Fragment;
 use opcodes::{Class, Classes};
 use text::{Line, push_labelled, push_word};
 
@@ -30,21 +27,6 @@ pub struct Told {
     pub ended: bool,
     pub main: u32,
     pub alt: u32,
-}
-
-/// Fragment k of a paper, an empty one where the paper has no fragment k.
-#[tactic(auto, using(crate::proofs::Texts::past))]
-pub fn fragment_at<'a>(paper: &'a [u8], k: usize) -> Fragment<'a>
-    ensures { fragment_of result ≡ Header.fragment_at paper.now k }
-{
-    match fragments::nth_fragment(paper, k) {
-        Some(fragment) => fragment,
-        None => Fragment {
-            bytes: &[],
-            main: 0,
-            alt: 0,
-        },
-    }
 }
 
 // Appends the line before the rows of a fragment.
@@ -75,7 +57,7 @@ pub fn push_head<const N: usize>(line: &mut Line<N>, paper: &[u8], k: usize)
     ensures short { array_vec_len line.new ≤ array_vec_len line.old + 256 }
 {
     let entries = header::entry_count(paper);
-    let fragment = fragment_at(paper, k);
+    let fragment = fragments::fragment_at(paper, k);
     push_start(
         line,
         entries,

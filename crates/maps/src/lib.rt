@@ -2,7 +2,7 @@
 
 #![tactic(auto)]
 
-ghost use Rattle.std.specs.Prelude.{true, false, ◌≡◌, ◌<◌, length, IfSome, IfNone, unwrap_or};
+ghost use Rattle.std.specs.Prelude.{true, false, ◌≡◌, ◌<◌, length, IfSome, IfNone, IfOk, unwrap_or};
 ghost use Rattle.definition_rules.specs.Maps.{first_row, rows_of, good_rows, good_map, good_limit, judged};
 ghost use Rattle.opcodes.specs.Classes.{rows_of as rows_by};
 ghost use Rattle.walk.specs.Runs.{options_of};
@@ -66,7 +66,8 @@ fn limit(items: u32) -> Option<Limit>
 
 /// What a walk goes by under a lent map and what is lent beside it. A bad map is told before a bad limit.
 pub fn rules(map: &[u8], options: Options) -> Result<Rules<'_>, Refusal>
-    ensures { rules_or_refusal result ≡ judged map.now (options_of options) Err Ok }
+    ensures judged { rules_or_refusal result ≡ judged map.now (options_of options) Err Ok }
+    ensures rows { IfOk result (λ r. rows_by r.classes ≡ rows_of map.now) }
 {
     Ok(Rules {
         classes: classes(map).ok_or(Refusal::BadMap)?,

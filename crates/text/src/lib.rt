@@ -81,14 +81,14 @@ pub fn write_byte(out: &mut [u8], at: usize, byte: u8) -> usize
     at + 1
 }
 
-/// Writes a byte in hexadecimal.
-pub fn write_hex(out: &mut [u8], at: usize, byte: u8) -> usize
+/// Writes the last two digits of a number in hexadecimal.
+pub fn write_hex(out: &mut [u8], at: usize, n: u64) -> usize
     requires { at + 2 ≤ length out.old }
-    ensures same { Written out.old at (hex_byte byte) out.new result }
+    ensures same { Written out.old at (hex_byte n) out.new result }
     ensures ends { result ≡ at + 2 }
 {
-    let next = write_byte(out, at, hex_digit(byte / 16));
-    write_byte(out, next, hex_digit(byte % 16))
+    let next = write_byte(out, at, hex_digit((n / 16 % 16) as u8));
+    write_byte(out, next, hex_digit((n % 16) as u8))
 }
 
 // A hexadecimal digit.
