@@ -1,14 +1,13 @@
 -- The entry point: its answer is the definition's analysis, and demand 3 holds of it.
-use mathlib.Core.Bool.{Bool, true, false}
 use mathlib.Core.List.{List, []}
 use mathlib.Core.Option as O
 use mathlib.Core.Option.{none, some}
-use mathlib.Core.Path.{◌≡◌, refl, sym, ap, ap₂, subst, ◌∙◌}
+use mathlib.Core.Path.{◌≡◌, refl, sym, ap, subst, ◌∙◌}
 use Prim.Native.Nat.{ℕ, ◌+◌, ◌*◌, ◌-◌, ◌≤◌, ◌<◌, max}
 use native.Mathlib.Omega.{arith}
 use borrow.Author.Tests.{lt-ltb, le-ltb, le-leb, lt-leb}
 use lib.ListN.{length, replicate, length-replicate}
-use Rattle.std.specs.Prelude.{Option, Some, None, Result, Ok, Err}
+use Rattle.std.specs.Prelude.{Option, Result, Ok, Err, IsOk}
 use Rattle.definition.specs.Basics.{Bytes}
 use Rattle.definition.specs.Decoding.{decode, instructions, malformed_at}
 use Rattle.definition.specs.Refusals as D
@@ -22,15 +21,15 @@ use Rattle.decode.specs.View.{code_at, Count, counted_of, count_by, count_in}
 use Rattle.decode.specs.declared.Malformed.{Malformed}
 use Rattle.decode.proofs.Codes.{code-start, code-length}
 use Rattle.refusals.specs.declared.Refusal.{Refusal}
-use Rattle.ends.specs.View.{packed_end, no_stacks}
+use Rattle.ends.specs.View.{packed_end}
 use Rattle.ends.specs.declared.EndStacks.{EndStacks}
 use Rattle.stack.specs.View.{view}
 use Rattle.ends.proofs.Ends.{packed-main, packed-alt}
 use Rattle.stack.specs.declared.Stacks.{Stacks}
-use Rattle.ends.proofs.Packing.{main-length, alt-length, ends-back}
-use Rattle.stack_analysis.specs.View.{told, end_as, told_of, arm_in, verdict_in}
+use Rattle.ends.proofs.Packing.{main-length, alt-length}
+use Rattle.stack_analysis.specs.View.{Verdict, told, end_as, told_of, heights_of, arm_in, verdict_in, verdict_of}
 use Rattle.stack_analysis.specs.Entry.{MayWalk, Begins}
-use Rattle.walk.specs.Runs.{arm_of, ending, running, stand, resume, Ready}
+use Rattle.walk.specs.Runs.{ending, running, stand, resume, Ready}
 use Rattle.arms.specs.Walkers.{Walks, concluded}
 use Rattle.walk.specs.declared.ArmEnd.{ArmEnd}
 use Rattle.walk.specs.declared.ArmEnd.TheVariants.{End, Else, Endif}
@@ -109,13 +108,33 @@ module _ (R : Rules) (s : Bytes) (main alt : ℕ) (log : List ℕ) where
 -- a fragment's verdict d, where the code's has the stacks that its walk ends with
 module _ {E : Type 0} (form : S.Stacks Item → E) (d : W.Verdict) where
   pub refused-form : (r : Rejected) → verdict_in view (Err r) ≡ d → told {E = E} (Err r) ≡ told_of form d
-  unfolding verdict_in told_of
   refused-form r e = ap (λ (v : W.Verdict). told_of form v) e
 
   pub accepted-form : (a : Accepted Stacks) → verdict_in view (Ok a) ≡ d → (end : Option E) → end ≡ end_as form (arm_in view a.end)
       → told (Ok (record { rows = a.rows; peak = a.peak; end = end })) ≡ told_of form d
-  unfolding verdict_in told_of
   accepted-form a e end h = rw h (ap (λ (v : W.Verdict). told_of form v) e)
+
+-- the heights of stacks are their counts
+pub heights-form : (t : Stacks) → record { main = t.mains; alt = t.alts } ≡ heights_of (view t)
+heights-form t = rw (main-length t, alt-length t)
+
+-- an end has room
+pub packed-within : (t : Stacks) (e : EndStacks) → e ≡ packed_end (view t) → e.main + e.alt ≤ 244
+packed-within t e k = omega (arith, ap (λ (x : EndStacks). x.main) k, ap (λ (x : EndStacks). x.alt) k, packed-main (view t), packed-alt (view t), main-length t, alt-length t, t.room)
+
+-- what is claimed of an accepted fragment's definition a holds of the code's verdict v and its log
+module _ (Q : Marked → Type 0) (a : Marked) (claim : a.verdict.answer.number ≡ 0 → Q a) where
+  pub replayed-as : (v : Verdict EndStacks) (new : List ℕ) → verdict_of v ≡ a.verdict → new ≡ a.log → IsOk v → Q (record { verdict = verdict_of v; log = new })
+  replayed-as (Ok x) new e l k =
+      let q : record { verdict = verdict_of (Ok x); log = new } ≡ a = (λ i. record { verdict = e i; log = l i }) in
+      subst Q (sym q) (claim (sym (ap (λ (y : W.Verdict). y.answer.number) e)))
+  replayed-as (Err x) new e l k = cc
+
+pub replayed-by : (R : Rules) → R.limit ≤ 244 → (s : Bytes) (main alt : ℕ) (log : List ℕ) (v : Verdict EndStacks) (new : List ℕ)
+    → verdict_of v ≡ (analysis R s main alt log).verdict → new ≡ (analysis R s main alt log).log → IsOk v
+    → Demand3 R (instructions (decode s)) (unknowns main alt) (record { verdict = verdict_of v; log = new })
+replayed-by R small s main alt log =
+    replayed-as (Demand3 R (instructions (decode s)) (unknowns main alt)) (analysis R s main alt log) (true_of_analysis R (omega (arith, small)) s main alt log)
 
 -- the walk may start
 pub ready-start : (s : Bytes) (log : List ℕ) (main alt : ℕ) (v : Walk) → Begins main alt v → length s ≤ 10000 → 3 * length (instructions (decode s)) ≤ length log → Ready s log v

@@ -32,7 +32,7 @@ abbrev pub end_as : {E : Type 0} → (Stacks Item → E) → Arm → Option E
 end_as form dead = None
 end_as form (live s) = Some (form s)
 
-unfoldable pub told_of : {E : Type 0} → (Stacks Item → E) → W.Verdict → Told E
+abbrev pub told_of : {E : Type 0} → (Stacks Item → E) → W.Verdict → Told E
 told_of form v = record { answer = v.answer; rows = v.rows; peak = v.peak; end = end_as form v.end }
 
 -- the heights of stacks
