@@ -49,7 +49,7 @@ impl Part {
     pub fn end(self) -> usize
         ensures { result ≡ self.offset + self.size }
     {
-        usize::from(self.offset) + usize::from(self.size)
+        self.start() + usize::from(self.size)
     }
 
     /// The bytes of the part, as far as the paper has them.
