@@ -1,4 +1,5 @@
 // Reading a paper: its fields, its parts, its entries, the dispatch check.
+// A paper is a slice, and no struct over one: it would have no fact to keep.
 
 #![tactic(auto)]
 

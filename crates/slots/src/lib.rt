@@ -1,6 +1,7 @@
 // A slot of the stacks: a code and bytes, in two arrays of 244. A code of 0 to 8 is an exact item of so many bytes, which
 // stand in `bytes` as one number, the first byte the lowest; 9 is an unknown item; 10 + v is the exact item of the one byte
 // v, and such an item, v at most 245, is always written so.
+// A code is a number and no enum: in one array of values a join takes ten times the instructions.
 
 #![tactic(auto)]
 

@@ -381,7 +381,7 @@ impl Stacks {
         }
     }
 
-    // The same operations by value
+    // The same operations by value: a form of the project. Each is one call, and a closure handed to one function is no shorter.
 
     pub fn push(mut self, v: Value, limit: Limit) -> Stepped
         requires { Held v }
