@@ -1,4 +1,4 @@
--- What a text written into lent bytes is, and one that is put into them: counted, and written where there is room.
+-- What a text put into lent bytes is: counted, and written where there is room.
 use Rattle.std.specs.Prelude.{◌++◌, ◌≡◌, ℕ, ◌+◌, ◌-◌, ◌^◌, ◌≤◌, min, length, take, drop}
 use Rattle.definition.specs.Basics.{Bytes}
 use Rattle.text.specs.declared.Lent.{Lent}
@@ -13,7 +13,7 @@ pub record Written (lent : Bytes) (at : ℕ) (t : Bytes) (new : Bytes) (next : �
   pub holds : new ≡ placed lent at t
 
 -- `t` is put behind the text of `old`: the same bytes are lent, as many as before; the text is longer by `t`, up to the greatest size;
--- and where the lent bytes reach so far, `t` stands in them behind the text, and the rest is as before
+-- and where the lent bytes reach so far, `t` is written behind the text
 pub record Puts (old : Lent) (t : Bytes) (new : Lent) : Type 0 where
   pub same : new.bytes.ghost_name ≡ old.bytes.ghost_name
   pub sized : length new.bytes.now ≡ length old.bytes.now
