@@ -4,7 +4,7 @@ use mathlib.Core.Path.{◌≡◌, refl, ap, subst, ◌∙◌}
 use Prim.Native.Nat.{◌+◌, ◌≤◌}
 use native.Mathlib.Omega.{arith}
 use lib.ListN.{length, take, drop, length-append}
-use lib.Seq.{paste-zero}
+use lib.Seq.{paste-zero, take_at}
 use Rattle.definition.specs.Basics.{Bytes}
 use Rattle.text.specs.View.{Puts}
 use Rattle.text.specs.declared.Lent.{Lent}
@@ -46,3 +46,9 @@ whole {a} {b} {t} {lent} e z p h =
     let n : a.size + length t ≡ length t = omega (arith, z) in
     (p.written k).holds ∙ ap (λ m. take a.size a.bytes.now ++ t ++ drop m a.bytes.now) n ∙ ap (λ m. take m a.bytes.now ++ t ++ drop (length t) a.bytes.now) z
     ∙ ap (λ (l : Bytes). t ++ drop (length t) l) e
+
+-- and its size, with what the bytes begin with
+pub front : {a b : Lent} {t lent : Bytes} → a.bytes.now ≡ lent → a.size ≡ 0 → Puts a t b → length t ≤ length lent → (take b.size b.bytes.now ≡ t) × (b.size ≡ length t)
+front {a} {b} {t} {lent} e z p h =
+    let n : b.size ≡ length t = (p.written (omega (arith, ap length e, z, h))).ends ∙ omega (arith, z) in
+    (ap (λ m. take m b.bytes.now) n ∙ ap (take (length t)) (whole e z p h) ∙ take_at t (drop (length t) lent) (length t) refl, n)
