@@ -20,7 +20,7 @@ ghost use Rattle.tally.specs.View.{Gives};
 ghost use Rattle.places.specs.View.{lent_options, written, verdict_numbers, end_numbers, answer_numbers, paper_numbers, sums_numbers, converted_numbers, display_start, part_numbers, tally_from, tally_numbers};
 
 use places::{
-    display_start, tally_from, write, write_answer, write_outcome, write_lines, write_paper,
+    display_start, paper_number, tally_from, write, write_answer, write_outcome, write_lines, write_paper,
     write_part, write_size, write_sums, write_text, write_verdict,
 };
 use text::Line;
@@ -297,7 +297,7 @@ pub extern "C" fn listochur_log_lines(
 {
     let l = log_text::write_log(paper, log, text);
     write_size(l.size, out);
-    l.number
+    paper_number(&l.verdict)
 }
 
 /// The same by a lent map and a lent limit, in a mode, 28 and then 29 before all else.
@@ -330,7 +330,7 @@ pub extern "C" fn listochur_log_lines_with(
     };
     let w = log_text::write_log_with(paper, map, options, log, text);
     write_size(w.size, out);
-    w.number
+    paper_number(&w.verdict)
 }
 
 /// A verdict's number and figures in words, in `text` where it has room: the number, and the size of the words in `out`. A number
