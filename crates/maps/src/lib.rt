@@ -53,6 +53,7 @@ fn classes(map: &[u8]) -> Option<Classes<'_>>
 }
 
 /// A lent limit; none where it is bad.
+// No `TryFrom`: which limits are good is said of maps, above the crate of `Limit`.
 fn limit(items: u32) -> Option<Limit>
     ensures some { IfSome result (λ l. (good_limit items ≡ true) × (l.items ≡ items)) }
     ensures none { IfNone result (good_limit items ≡ false) }
