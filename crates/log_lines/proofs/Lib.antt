@@ -1,3 +1,2 @@
 -- What is proved of the lines for this crate's functions.
-pub mod Arms
-pub mod Verdicts
+pub mod Conditionals
