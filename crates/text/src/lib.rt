@@ -1,4 +1,5 @@
-// Words and numbers as text: appended to a line, or written into lent bytes from an index on, where the answer is the index after.
+// Words and numbers as text: appended to a line, put into lent bytes, or written into lent bytes from an index on, where the answer
+// is the index after.
 
 #![tactic(auto)]
 
@@ -6,12 +7,48 @@ ghost use Rattle.std.specs.Prelude.{[], ◌∷◌, ◌++◌, ◌≡◌, ◌+◌,
 ghost use Rattle.arrayvec.specs.ArrayVec.{array_vec_len};
 ghost use Rattle.definition.specs.Lines.{decimal};
 ghost use Rattle.definition_listings.specs.Hex.{hex_digit, hex_byte};
-ghost use Rattle.text.specs.View.{Written};
+ghost use Rattle.text.specs.View.{Written, Puts};
 
 use arrayvec::ArrayVec;
 
 /// A line of at most `N` bytes, which grows at its end.
 pub type Line<const N: usize> = ArrayVec<u8, N>;
+
+/// A text that is put into lent bytes: what has room is written, and all of it is counted.
+#[derive(Drop)]
+pub struct Lent<'a> {
+    bytes: &'a mut [u8],
+    size: usize,
+}
+
+impl<'a> Lent<'a> {
+    /// No text yet.
+    pub fn new(bytes: &'a mut [u8]) -> Lent<'a>
+        ensures same_bytes { result.bytes.ghost_name ≡ bytes.entry.ghost_name }
+        ensures as_lent { result.bytes.now ≡ bytes.old }
+        ensures empty { result.size ≡ 0 }
+    {
+        Lent { bytes, size: 0 }
+    }
+
+    /// How many bytes the text has: 2^64 - 1 where it has more.
+    pub fn size(&self) -> usize
+        ensures { result ≡ self.now.size }
+    {
+        self.size
+    }
+
+    /// Puts a word behind the text.
+    pub fn put(&mut self, word: &[u8])
+        ensures { Puts self.old word.now self.new }
+    {
+        let start = self.size;
+        self.size = start.saturating_add(word.len());
+        if self.size <= self.bytes.len() {
+            self.bytes[start..self.size].copy_from_slice(word);
+        }
+    }
+}
 
 /// Appends a word.
 pub fn push_word<const N: usize>(line: &mut Line<N>, word: &[u8])
