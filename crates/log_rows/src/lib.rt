@@ -3,7 +3,7 @@
 
 #![tactic(auto)]
 
-ghost use Rattle.std.specs.Prelude.{◌≡◌, ◌++◌, ◌+◌, ◌*◌, ◌≤◌, ◌<◌, length, get_or, replicate};
+ghost use Rattle.std.specs.Prelude.{◌≡◌, ◌++◌, ◌+◌, ◌*◌, ◌≤◌, ◌-◌, ◌^◌, ◌<◌, length, get_or, replicate};
 ghost use Rattle.arrayvec.specs.ArrayVec.{array_vec_len};
 ghost use Rattle.definition.specs.Classes.{class_at};
 ghost use Rattle.definition.specs.Lines.{decimal};
@@ -243,7 +243,7 @@ pub fn opens(class: Class) -> bool
 /// How many conditionals are open behind an instruction of this class.
 #[tactic(auto, unfolding(crate::specs::Rows::depth_after))]
 pub fn depth_behind(class: Class, depth: usize) -> usize
-    requires { depth < 4294967296 }
+    requires { depth < 2 ^ 64 - 1 }
     ensures same { result ≡ depth_after (class_at (number_of class)) depth }
     ensures near { result ≤ depth + 1 }
 {

@@ -1,12 +1,11 @@
 -- Laws of texts put into lent bytes: nothing, one behind another, and a line from where it was written.
 use mathlib.Core.List.{[], ◌++◌}
 use mathlib.Core.Path.{◌≡◌, refl, ap, subst, ◌∙◌}
-use Prim.Native.Nat.{◌-◌, ◌^◌, ◌≤◌}
 use native.Mathlib.Omega.{arith}
 use lib.ListN.{length-append}
 use lib.Seq.{paste-zero}
 use Rattle.definition.specs.Basics.{Bytes}
-use Rattle.text.specs.View.{Puts}
+use Rattle.text.specs.Lents.{Puts}
 use Rattle.text.specs.declared.Lent.{Lent}
 use Rattle.text.proofs.Texts.{then-written}
 
@@ -15,11 +14,11 @@ pub puts_as : {a b : Lent} {s t : Bytes} → s ≡ t → Puts a s b → Puts a t
 puts_as {a} {b} e p = subst (λ (x : Bytes). Puts a x b) e p
 
 -- nothing
-pub puts-none : (a : Lent) → a.size ≤ 2 ^ 64 - 1 → Puts a [] a
-puts-none a h = record {
+pub puts-none : (a : Lent) → Puts a [] a
+puts-none a = record {
   same = refl;
   sized = refl;
-  counted = omega (arith, h);
+  counted = omega (arith, a.counted);
   written = λ r. record { ends = omega arith; holds = paste-zero a.bytes.now a.size [] };
 }
 

@@ -3,11 +3,11 @@
 
 #![tactic(auto)]
 
-ghost use Rattle.std.specs.Prelude.{[], ◌∷◌, ◌++◌, ◌≡◌, ◌+◌, ◌≤◌, ◌<◌, length};
+ghost use Rattle.std.specs.Prelude.{[], ◌∷◌, ◌++◌, ◌≡◌, ◌+◌, ◌^◌, ◌≤◌, ◌<◌, length};
 ghost use Rattle.arrayvec.specs.ArrayVec.{array_vec_len};
 ghost use Rattle.definition.specs.Lines.{decimal};
 ghost use Rattle.definition_listings.specs.Hex.{hex_digit, hex_byte};
-ghost use Rattle.text.specs.View.{Written, Puts};
+ghost use Rattle.text.specs.View.{Written};
 
 use arrayvec::ArrayVec;
 
@@ -19,9 +19,13 @@ pub type Line<const N: usize> = ArrayVec<u8, N>;
 pub struct Lent<'a> {
     bytes: &'a mut [u8],
     size: usize,
+    // also where the text is behind a reference
+    pub ghost counted: { size < 2 ^ 64 },
 }
 
 impl<'a> Lent<'a> {
+    ghost use Rattle.text.specs.Lents.{Puts};
+
     /// No text yet.
     pub fn new(bytes: &'a mut [u8]) -> Lent<'a>
         ensures same_bytes { result.bytes.ghost_name ≡ bytes.entry.ghost_name }
