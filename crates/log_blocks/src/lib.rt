@@ -3,15 +3,16 @@
 
 #![tactic(auto)]
 
-ghost use Rattle.std.specs.Prelude.{◌+◌, ◌*◌, ◌≤◌, length};
+ghost use Rattle.std.specs.Prelude.{◌≡◌, ◌+◌, ◌*◌, ◌≤◌, length};
 ghost use Rattle.definition_rules.specs.Maps.{Options, rules_by};
 ghost use Rattle.opcodes.specs.Classes.{rows_of};
 ghost use Rattle.log_rows.specs.Rows.{greatest, rows_from, rows};
+ghost use Rattle.stack_analysis.specs.View.{told};
 ghost use Rattle.log_blocks.specs.Blocks.{block};
 ghost use Rattle.text.specs.Lents.{Puts};
 
-use log_lines::Told;
 use opcodes::Classes;
+use stack_analysis::{Heights, Verdict};
 use text::Lent;
 
 // Puts `count` rows, the first of them row `from`.
@@ -68,6 +69,16 @@ fn put_table(
     }
 }
 
+// The rows of a fragment, and its peak: 0 where it is refused.
+fn rows_and_peak(verdict: Verdict<Heights>) -> (usize, u32)
+    ensures { result ≡ ((told verdict).rows, (told verdict).peak) }
+{
+    match verdict {
+        Ok(accepted) => (accepted.rows, accepted.peak),
+        Err(rejected) => (rejected.rows, 0),
+    }
+}
+
 /// Puts fragment k of a paper, its first row row `from` of the log.
 pub fn put_block(
     out: &mut Lent,
@@ -76,18 +87,19 @@ pub fn put_block(
     classes: Classes,
     k: usize,
     from: usize,
-    t: Told,
+    verdict: Verdict<Heights>,
 )
-    requires { 3 * (from + t.rows) ≤ length log.now }
+    requires { 3 * (from + (told verdict).rows) ≤ length log.now }
     ensures same { (options : Options)
         → Puts
         out.old
-        (block (rules_by (rows_of classes.entry) options) paper.now log.now k from t)
+        (block (rules_by (rows_of classes.entry) options) paper.now log.now k from (told verdict))
         out.new }
-    ensures near { out.new.size ≤ out.old.size + 256 * (t.rows + 3) }
+    ensures near { out.new.size ≤ out.old.size + 256 * ((told verdict).rows + 3) }
 {
     let fragment = fragments::fragment_at(paper, k).bytes;
+    let (rows, peak) = rows_and_peak(verdict);
     out.put(&log_lines::start(paper, k));
-    put_table(out, fragment, log, classes, t.peak, from, t.rows);
-    out.put(&log_lines::verdict_line(fragment, log, classes, from, t));
+    put_table(out, fragment, log, classes, peak, from, rows);
+    out.put(&log_lines::verdict_line(fragment, log, classes, from, verdict));
 }

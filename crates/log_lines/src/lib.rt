@@ -3,31 +3,19 @@
 
 #![tactic(auto)]
 
-ghost use Rattle.std.specs.Prelude.{[], ◌≡◌, ◌++◌, ◌+◌, ◌-◌, ◌*◌, ◌≤◌, length};
+ghost use Rattle.std.specs.Prelude.{[], Err, ◌≡◌, ◌++◌, ◌+◌, ◌-◌, ◌*◌, ◌≤◌, length};
 ghost use Rattle.arrayvec.specs.ArrayVec.{array_vec_len};
 ghost use Rattle.definition.specs.Lines.{text};
 ghost use Rattle.definition_rules.specs.Maps.{Options, rules_by};
 ghost use Rattle.opcodes.specs.Classes.{rows_of};
 ghost use Rattle.log_lines.specs.Log.{start_line, start, ending, accepted_line, refusal, refusal_line, header_line, dispatch_line, malformed_line};
+ghost use Rattle.stack_analysis.specs.View.{told};
 ghost use Rattle.log_lines.specs.Log.{opener, other_main, arms, verdict_line};
 
 use opcodes::{Class, Classes};
+use refusals::{Answer, Refusal};
+use stack_analysis::{Accepted, Heights, Rejected, Verdict};
 use text::{Line, push_labelled, push_word};
-
-/// What is told of a fragment's verdict: number, offset and two figures, the rows written, the peak, whether it has an end, and
-/// the heights there.
-#[derive(Clone, Copy)]
-pub struct Told {
-    pub number: u32,
-    pub offset: usize,
-    pub first: u64,
-    pub second: u64,
-    pub rows: usize,
-    pub peak: u32,
-    pub ended: bool,
-    pub main: u32,
-    pub alt: u32,
-}
 
 /// The line before the rows of fragment k of a paper.
 #[tactic(auto, unfolding(crate::specs::Log::start, crate::specs::Log::start_line))]
@@ -45,42 +33,43 @@ pub fn start(paper: &[u8], k: usize) -> Line<256>
 }
 
 // How an accepted fragment ends.
-fn ending(ended: bool, main: u32, alt: u32) -> Line<60>
-    ensures { result.items ≡ ending ended main alt }
+fn ending(end: Option<Heights>) -> Line<60>
+    ensures { result.items ≡ ending end }
 {
     let mut line = Line::new();
-    if ended {
-        push_labelled(&mut line, b", end main ", u64::from(main));
-        push_labelled(&mut line, b" alt ", u64::from(alt));
-    } else {
-        push_word(&mut line, b", end none");
+    match end {
+        Some(heights) => {
+            push_labelled(&mut line, b", end main ", u64::from(heights.main));
+            push_labelled(&mut line, b" alt ", u64::from(heights.alt));
+        }
+        None => push_word(&mut line, b", end none"),
     }
     line
 }
 
 // The line after the rows of an accepted fragment.
 #[tactic(auto, unfolding(crate::specs::Log::accepted_line))]
-fn accepted_line(peak: u32, ended: bool, main: u32, alt: u32) -> Line<256>
-    ensures { result.items ≡ accepted_line peak ended main alt }
+fn accepted_line(fragment: Accepted<Heights>) -> Line<256>
+    ensures { result.items ≡ accepted_line fragment.peak fragment.end }
 {
     let mut line = Line::new();
-    push_labelled(&mut line, b"accepted: peak ", u64::from(peak));
-    push_word(&mut line, &ending(ended, main, alt));
+    push_labelled(&mut line, b"accepted: peak ", u64::from(fragment.peak));
+    push_word(&mut line, &ending(fragment.end));
     push_word(&mut line, b"\n");
     line
 }
 
 /// The line of a refusal: what leads to it, number and word, and what more is said.
 #[tactic(auto, unfolding(crate::specs::Log::refusal, crate::specs::Log::refusal_line))]
-pub fn refusal_line(lead: &[u8], number: u32, first: u64, second: u64, more: &[u8]) -> Line<256>
+pub fn refusal_line(lead: &[u8], answer: Answer, more: &[u8]) -> Line<256>
     requires { length lead.now + length more.now ≤ 145 }
-    ensures { result.items ≡ refusal_line lead.now number first second more.now }
+    ensures { result.items ≡ refusal_line lead.now answer.number answer.first answer.second more.now }
 {
     let mut line = Line::new();
     push_word(&mut line, lead);
-    push_labelled(&mut line, b"refused ", u64::from(number));
+    push_labelled(&mut line, b"refused ", u64::from(answer.number));
     push_word(&mut line, b", ");
-    reasons::push_reason(&mut line, number, first, second);
+    reasons::push_reason(&mut line, answer.number, answer.first, answer.second);
     push_word(&mut line, more);
     push_word(&mut line, b"\n");
     line
@@ -93,7 +82,7 @@ pub fn header_line(paper: &[u8]) -> Line<256>
 {
     let mut fault: Line<110> = Line::new();
     faults::push_fault(&mut fault, paper);
-    refusal_line(b"", 19, 0, 0, &fault)
+    refusal_line(b"", Err(Refusal::BadHeader.into()).into(), &fault)
 }
 
 /// The line of the dispatch check.
@@ -104,7 +93,13 @@ pub fn dispatch_line(entry: usize, sum: u64, limit: u64) -> Line<256>
     let mut lead: Line<28> = Line::new();
     push_labelled(&mut lead, b"entry ", entry as u64);
     push_word(&mut lead, b": ");
-    refusal_line(&lead, 20, sum, limit, b"")
+    let answer = Answer {
+        number: 20,
+        offset: 0,
+        first: sum,
+        second: limit,
+    };
+    refusal_line(&lead, answer, b"")
 }
 
 // The line of a malformed fragment.
@@ -116,7 +111,7 @@ fn malformed_line(offset: usize, bytes: &[u8]) -> Line<256>
     push_labelled(&mut more, b" at ", offset as u64);
     push_word(&mut more, b":");
     push_word(&mut more, &log_rows::instruction(bytes));
-    refusal_line(b"", 3, 0, 0, &more)
+    refusal_line(b"", Err(Refusal::Malformed.into()).into(), &more)
 }
 
 // The row of the ELSE, or where there is none the IF, of the conditional that is open behind `count` rows from row `from` on.
@@ -183,6 +178,45 @@ fn arms(fragment: &[u8], log: &[u16], classes: Classes, from: usize, count: usiz
     line
 }
 
+// That of a refused fragment.
+#[tactic(auto, using(crate::proofs::Verdicts::refusals), unfolding(crate::specs::Log::verdict_line))]
+fn rejected_line(
+    fragment: &[u8],
+    log: &[u16],
+    classes: Classes,
+    from: usize,
+    rejected: Rejected,
+) -> Line<256>
+    requires { 3 * (from + rejected.rows) ≤ length log.now }
+    ensures { (options : Options)
+        → result.items
+        ≡ verdict_line
+        (rules_by (rows_of classes.entry) options)
+        fragment.now
+        log.now
+        from
+        (told {E = Heights} (Err rejected)) }
+{
+    let Rejected { rows, refused } = rejected;
+    let answer = Answer::from(Err(refused));
+    let offset = refused.offset;
+    match refused.refusal {
+        Refusal::Malformed => malformed_line(
+            offset,
+            display::display(fragment, fragment, offset, 0),
+        ),
+        _ if rows == 0 => refusal_line(b"", answer, b""),
+        Refusal::ArmsDiffer => {
+            refusal_line(
+                b"     ^ ",
+                answer,
+                &arms(fragment, log, classes, from, rows - 1),
+            )
+        }
+        _ => refusal_line(b"     ^ ", answer, b""),
+    }
+}
+
 /// The line after the rows of a fragment, the first of them row `from`: 1 to 4 come before any row.
 #[tactic(auto, unfolding(crate::specs::Log::verdict_line))]
 pub fn verdict_line(
@@ -190,24 +224,15 @@ pub fn verdict_line(
     log: &[u16],
     classes: Classes,
     from: usize,
-    t: Told,
+    verdict: Verdict<Heights>,
 ) -> Line<256>
-    requires { 3 * (from + t.rows) ≤ length log.now }
+    requires { 3 * (from + (told verdict).rows) ≤ length log.now }
     ensures { (options : Options)
-        → result.items ≡ verdict_line (rules_by (rows_of classes.entry) options) fragment.now log.now from t }
+        → result.items
+        ≡ verdict_line (rules_by (rows_of classes.entry) options) fragment.now log.now from (told verdict) }
 {
-    if t.number == 0 {
-        return accepted_line(t.peak, t.ended, t.main, t.alt);
+    match verdict {
+        Ok(accepted) => accepted_line(accepted),
+        Err(rejected) => rejected_line(fragment, log, classes, from, rejected),
     }
-    if t.number == 3 {
-        return malformed_line(t.offset, display::display(fragment, fragment, t.offset, 0));
-    }
-    if t.rows == 0 {
-        return refusal_line(b"", t.number, t.first, t.second, b"");
-    }
-    if t.number == 12 {
-        let arms = arms(fragment, log, classes, from, t.rows - 1);
-        return refusal_line(b"     ^ ", 12, t.first, t.second, &arms);
-    }
-    refusal_line(b"     ^ ", t.number, t.first, t.second, b"")
 }
