@@ -5,10 +5,11 @@
 ghost use Rattle.std.specs.Prelude.{◌≡◌, ◌+◌, ◌≤◌, length, drop};
 ghost use Rattle.assembling.specs.View.{converted_of, letters_before, judged_of, given_by, assembly_of, Good};
 ghost use Rattle.definition_listings.specs.Assembling.{assembled};
-ghost use Rattle.text.specs.View.{Written};
+ghost use Rattle.text.specs.View.{Puts};
 
 use names::Names;
 use refusals::{Refusal, Refused};
+use text::Lent;
 
 // Where the word that starts at an index ends: at the next space, or with the listing.
 fn word_end(listing: &[u8], start: usize) -> usize
@@ -49,22 +50,20 @@ fn judge(listing: &[u8], names: &Names) -> Result<usize, Refused>
     }
 }
 
-// Writes the bytes of all words of a listing.
-fn write_words(out: &mut [u8], listing: &[u8], names: &Names) -> usize
-    requires good { Good listing.now }
-    requires room { length (given_by (assembly_of listing.now)) ≤ length out.old }
-    ensures { Written out.old 0 (given_by (assembly_of listing.now)) out.new result }
+// Puts the bytes of all words of a listing.
+fn put_words(text: &mut Lent, listing: &[u8], names: &Names)
+    requires { Good listing.now }
+    ensures { Puts text.old (given_by (assembly_of listing.now)) text.new }
 {
     if listing.is_empty() {
-        return 0;
+        return;
     }
     let mut at = 0;
-    let mut next = 0;
     loop {
         let end = word_end(listing, at);
-        next = word_bytes::write_bytes(out, next, &listing[at..end], names);
+        word_bytes::put_bytes(text, &listing[at..end], names);
         if end == listing.len() {
-            return next;
+            return;
         }
         at = end + 1;
     }
@@ -80,6 +79,6 @@ pub fn assemble(listing: &[u8], out: &mut [u8]) -> Result<usize, Refused>
     if out.len() < size {
         return Err(Refusal::OutputShort.into());
     }
-    write_words(out, listing, &names);
+    put_words(&mut Lent::new(out), listing, &names);
     Ok(size)
 }

@@ -11,7 +11,7 @@ use Rattle.definition_rules.specs.Maps.{Options, rules_by}
 use Rattle.definition.specs.Stacks.{Rules}
 use Rattle.log_rows.specs.Rows.{main_at, alt_at, opcode_at, total_of, greatest, scale_of, depth_after, heading, row, rows_from, rows}
 use Rattle.text.specs.declared.Lent.{Lent}
-use Rattle.text.specs.Lents.{Puts}
+use Rattle.text.specs.View.{Puts}
 use Rattle.text.proofs.Puts.{puts_as, puts-none, then-puts}
 
 -- the rows before row j are put, of `count` from row `from` on, by the classes of lent rows, beside whatever options

@@ -9,7 +9,7 @@ ghost use Rattle.opcodes.specs.Classes.{rows_of};
 ghost use Rattle.log_rows.specs.Rows.{greatest, rows_from, rows};
 ghost use Rattle.stack_analysis.specs.View.{told};
 ghost use Rattle.log_blocks.specs.Blocks.{block};
-ghost use Rattle.text.specs.Lents.{Puts};
+ghost use Rattle.text.specs.View.{Puts};
 
 use opcodes::Classes;
 use stack_analysis::{Heights, Verdict};

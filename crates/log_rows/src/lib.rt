@@ -10,14 +10,14 @@ ghost use Rattle.definition.specs.Lines.{decimal};
 ghost use Rattle.definition_rules.specs.Maps.{Options, rules_by};
 ghost use Rattle.opcodes.specs.Class.{number_of};
 ghost use Rattle.opcodes.specs.Classes.{rows_of};
-ghost use Rattle.text.specs.View.{Written};
+ghost use Rattle.text.specs.View.{Puts};
 ghost use Rattle.log_rows.specs.Rows.{offset_at, main_at, alt_at, opcode_at, total_of, scale_of, column, filled, bar, hex, instruction};
 ghost use Rattle.log_rows.specs.Rows.{bytes_field, shown_data, word, indented};
 ghost use Rattle.log_rows.specs.Rows.{live_heights, heights, is_if, depth_after, indent, heading, row_line, row};
 
 use names::Names;
 use opcodes::{Class, Classes};
-use text::{Line, push_hex, push_labelled, push_number, push_word};
+use text::{Lent, Line, push_hex, push_labelled, push_number, push_word};
 
 // Appends a byte so many times.
 fn push_same<const N: usize>(line: &mut Line<N>, byte: u8, count: usize)
@@ -110,33 +110,28 @@ fn bytes_field(bytes: &[u8]) -> Line<12>
     line
 }
 
-// Writes the word of data, of more than 8 bytes the first 6.
-#[tactic(auto, unfolding(crate::specs::Rows::shown_data))]
-fn write_shown_data(out: &mut [u8], at: usize, bytes: &[u8]) -> usize
-    requires { at + 18 ≤ length out.old }
-    ensures same { Written out.old at (shown_data bytes.now) out.new result }
-    ensures short { result ≤ at + 18 }
+// Puts the word of data, of more than 8 bytes the first 6.
+fn put_shown_data(text: &mut Lent, bytes: &[u8])
+    ensures { Puts text.old (shown_data bytes.now) text.new }
 {
     if bytes.len() > 8 {
-        let a = text::write_word(out, at, b"<");
-        let b = listing::write_hex_bytes(out, a, &bytes[..6]);
-        text::write_word(out, b, b"..>")
+        text.put(b"<");
+        listing::put_hex_bytes(text, &bytes[..6]);
+        text.put(b"..>");
     } else {
-        listing::write_data_word(out, at, bytes)
+        listing::put_data_word(text, bytes);
     }
 }
 
-// Writes the word of an instruction, by its bytes.
-fn write_word(out: &mut [u8], at: usize, bytes: &[u8], names: &Names) -> usize
-    requires { at + 26 ≤ length out.old }
-    ensures same { Written out.old at (word bytes.now) out.new result }
-    ensures short { result ≤ at + 26 }
+// Puts the word of an instruction, by its bytes.
+fn put_word(text: &mut Lent, bytes: &[u8], names: &Names)
+    ensures { Puts text.old (word bytes.now) text.new }
 {
     match decode::decode_at(bytes, 0) {
-        Ok(Some(i)) if i.opcode > 0x4e => listing::write_code_word(out, at, i.opcode, names),
-        Ok(Some(i)) => write_shown_data(out, at, listing::data(bytes, 0, i.next)),
-        Ok(None) => at,
-        Err(_) => at,
+        Ok(Some(i)) if i.opcode > 0x4e => listing::put_code_word(text, i.opcode, names),
+        Ok(Some(i)) => put_shown_data(text, listing::data(bytes, 0, i.next)),
+        Ok(None) => {}
+        Err(_) => {}
     }
 }
 
@@ -145,11 +140,13 @@ fn write_word(out: &mut [u8], at: usize, bytes: &[u8], names: &Names) -> usize
 fn indented(right: usize, bytes: &[u8]) -> Line<26>
     ensures { result.items ≡ indented right (word bytes.now) }
 {
-    let mut word = [0u8; 26];
-    let size = write_word(&mut word, 0, bytes, &Names::new());
+    let mut letters = [0u8; 26];
+    let mut word = Lent::new(&mut letters);
+    put_word(&mut word, bytes, &Names::new());
+    let size = word.size();
     let mut line = Line::new();
     push_same(&mut line, b' ', right.min(26 - size));
-    push_word(&mut line, &word[..size]);
+    push_word(&mut line, &letters[..size]);
     line
 }
 

@@ -13,7 +13,7 @@ use Rattle.stack_analysis.specs.declared.Accepted.{Accepted}
 use Rattle.stack_analysis.specs.declared.Heights.{Heights}
 use Rattle.paper.specs.View.{told_accepted, rows_of}
 use Rattle.text.specs.declared.Lent.{Lent}
-use Rattle.text.specs.Lents.{Puts}
+use Rattle.text.specs.View.{Puts}
 use Rattle.text.proofs.Puts.{puts_as, puts-none, then-puts}
 use Rattle.log_blocks.specs.Blocks.{block}
 use Rattle.log_text.specs.LogText.{blocks}

@@ -35,7 +35,7 @@ use Rattle.paper.specs.declared.Marked.{Marked}
 use Rattle.paper.specs.declared.RejectedPaper.{RejectedPaper}
 use Rattle.lines.proofs.Fragments.{last-accepted, last-refused}
 use Rattle.text.specs.declared.Lent.{Lent}
-use Rattle.text.specs.Lents.{Puts}
+use Rattle.text.specs.View.{Puts}
 use Rattle.text.proofs.Puts.{puts_as, puts-none, then-puts}
 use Rattle.log_lines.specs.Log.{refusal_line, header_line, dispatch_line}
 use Rattle.log_lines.proofs.Verdicts.{number-is}

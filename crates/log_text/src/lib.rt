@@ -8,7 +8,7 @@ ghost use Rattle.definition_rules.specs.Maps.{rules_by};
 ghost use Rattle.definition_rules.specs.Maps as Maps;
 ghost use Rattle.opcodes.specs.Classes.{rows_of as class_rows};
 ghost use Rattle.walk.specs.Runs.{options_of, rules_in};
-ghost use Rattle.text.specs.Lents.{Puts};
+ghost use Rattle.text.specs.View.{Puts};
 ghost use Rattle.stack_analysis.specs.View.{told};
 ghost use Rattle.paper.specs.View.{told_accepted, rows_of, Holds};
 ghost use Rattle.log_text.specs.LogText.{blocks, refused, log_of};

@@ -1,10 +1,10 @@
 use lib.ListN.{length}
 use Prim.Native.Nat.{◌-◌}
-use Rattle.listing.proofs.Listed.{Measuring}
-use Rattle.listing.proofs.measure.Given as goal
+use Rattle.listing.proofs.Listed.{ListedTo}
+use Rattle.listing.proofs.put_listing.Given as goal
 
 abbrev pub invariant-loop-instruction : goal.invariant-loop-instruction
-invariant-loop-instruction l = Measuring l.fragment l.room l.offset l.size
+invariant-loop-instruction l = ListedTo l.fragment l.initial.text l.offset l.text
 
 abbrev pub decreases-loop-instruction : goal.decreases-loop-instruction
 decreases-loop-instruction l = length l.fragment - l.offset
