@@ -9,10 +9,7 @@ use Rattle.definition.specs.Basics.{Bytes}
 use Rattle.definition.specs.Lines.{decimal}
 use Rattle.definition_listings.specs.Hex.{hex_byte}
 use Rattle.text.proofs.Texts.{decimal-length}
-use Rattle.definition.specs.Classes.{class_at}
-use Rattle.definition.specs.Papers.{display}
-use Rattle.definition_rules.specs.Maps.{Options, rules_by}
-use Rattle.log_rows.specs.Rows.{offset_at, main_at, alt_at, opcode_at, total_of, greatest, scale_of, hex, indent, row_line, row}
+use Rattle.log_rows.specs.Rows.{main_at, alt_at, total_of, greatest, scale_of, hex, row}
 
 -- how many digits stand in a column
 
@@ -90,19 +87,3 @@ pub scaling-row : (peak : ℕ) (log : List ℕ) (from count scale row main alt t
 scaling-row peak log from count scale row main alt total scale' i l h m a t s =
     let k : row - from + 1 ≡ row + 1 - from = omega arith in
     subst (Scaling peak log from count scale') k (scaling-more peak log from count scale (row - from) row main alt total scale' i (omega arith) (omega arith) m a t s)
-
--- the line of a row
-pub row-pushed : (before : Bytes) {new : Bytes} {offset main alt class right : ℕ} {bytes : Bytes} (classes : List ℕ) (fragment : Bytes) (log : List ℕ) (scale depth j : ℕ)
-    → offset ≡ offset_at log j → main ≡ main_at log j → alt ≡ alt_at log j → class ≡ get_or classes (opcode_at fragment log j) 0
-    → right ≡ indent (class_at class) depth → bytes ≡ display fragment fragment offset 0
-    → new ≡ before ++ row_line scale offset main alt right bytes
-    → (options : Options) → new ≡ before ++ row (rules_by classes options) fragment log scale depth j
-unfolding row
-row-pushed before {new} {offset} {main} {alt} {class} {right} {bytes} classes fragment log scale depth j e f g o r h w options =
-    let k : ℕ = indent (class_at (get_or classes (opcode_at fragment log j) 0)) depth in
-    w ∙ ap (λ (x : Bytes). before ++ x)
-    (ap (λ (b : Bytes). row_line scale offset main alt right b) h
-    ∙ ap (λ x. row_line scale offset main alt x (display fragment fragment offset 0)) (r ∙ ap (λ x. indent (class_at x) depth) o)
-    ∙ ap (λ x. row_line scale x main alt k (display fragment fragment x 0)) e
-    ∙ ap (λ x. row_line scale (offset_at log j) x alt k (display fragment fragment (offset_at log j) 0)) f
-    ∙ ap (λ x. row_line scale (offset_at log j) (main_at log j) x k (display fragment fragment (offset_at log j) 0)) g)

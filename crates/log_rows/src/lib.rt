@@ -1,9 +1,9 @@
-// The rows of the log as `stacklog` prints them, each appended to a line, and the function that does it says which row it is.
+// The rows of the log as `stacklog` prints them: a function gives a line, and says which it is.
 // Conditionals go by the classes of lent rows: a row is the same beside whatever options.
 
 #![tactic(auto)]
 
-ghost use Rattle.std.specs.Prelude.{◌≡◌, ◌++◌, ◌+◌, ◌*◌, ◌≤◌, ◌<◌, length, get_or, replicate};
+ghost use Rattle.std.specs.Prelude.{◌≡◌, ◌++◌, ◌+◌, ◌*◌, ◌≤◌, ◌-◌, ◌^◌, ◌<◌, length, get_or, replicate};
 ghost use Rattle.arrayvec.specs.ArrayVec.{array_vec_len};
 ghost use Rattle.definition.specs.Classes.{class_at};
 ghost use Rattle.definition.specs.Lines.{decimal};
@@ -11,7 +11,7 @@ ghost use Rattle.definition_rules.specs.Maps.{Options, rules_by};
 ghost use Rattle.opcodes.specs.Class.{number_of};
 ghost use Rattle.opcodes.specs.Classes.{rows_of};
 ghost use Rattle.text.specs.View.{Puts};
-ghost use Rattle.log_rows.specs.Rows.{main_at, alt_at, opcode_at, total_of, scale_of, column, filled, bar, hex, instruction};
+ghost use Rattle.log_rows.specs.Rows.{offset_at, main_at, alt_at, opcode_at, total_of, scale_of, column, filled, bar, hex, instruction};
 ghost use Rattle.log_rows.specs.Rows.{bytes_field, shown_data, word, indented};
 ghost use Rattle.log_rows.specs.Rows.{live_heights, heights, is_if, depth_after, indent, heading, row_line, row};
 
@@ -30,18 +30,18 @@ fn push_same<const N: usize>(line: &mut Line<N>, byte: u8, count: usize)
     }
 }
 
-// Appends a number at the right of a column, which it fits.
+// A number at the right of a column, which it fits.
 #[tactic(auto, using(text::proofs::Texts::printed), unfolding(crate::specs::Rows::column))]
-fn push_column<const N: usize>(line: &mut Line<N>, width: usize, n: u64)
-    requires room { array_vec_len line.old + width ≤ N }
-    requires fits { length (decimal n) ≤ width }
-    ensures items { line.new.items ≡ line.old.items ++ column width n }
-    ensures len { array_vec_len line.new ≡ array_vec_len line.old + width }
+fn column<const N: usize>(n: u64) -> Line<N>
+    requires { length (decimal n) ≤ N }
+    ensures { result.items ≡ column N n }
 {
     let mut digits: Line<20> = Line::new();
     push_number(&mut digits, n);
-    push_same(line, b' ', width - digits.len());
-    push_word(line, digits.as_slice());
+    let mut line = Line::new();
+    push_same(&mut line, b' ', N - digits.len());
+    push_word(&mut line, &digits);
+    line
 }
 
 // How many places of a bar are filled.
@@ -54,17 +54,17 @@ fn places(scale: u32, n: u32) -> usize
     ((16 * u64::from(n) + whole - 1) / whole) as usize
 }
 
-// Appends the bar of a total, of 16 places.
+// The bar of a total.
 #[tactic(auto, unfolding(crate::specs::Rows::bar))]
-fn push_bar<const N: usize>(line: &mut Line<N>, scale: u32, n: u32)
-    requires room { array_vec_len line.old + 16 ≤ N }
-    requires whole { (1 ≤ scale) × (n ≤ scale) }
-    ensures items { line.new.items ≡ line.old.items ++ bar scale n }
-    ensures len { array_vec_len line.new ≡ array_vec_len line.old + 16 }
+fn bar(scale: u32, n: u32) -> Line<16>
+    requires { (1 ≤ scale) × (n ≤ scale) }
+    ensures { result.items ≡ bar scale n }
 {
     let full = places(scale, n);
-    push_same(line, b'#', full);
-    push_same(line, b'.', 16 - full);
+    let mut line = Line::new();
+    push_same(&mut line, b'#', full);
+    push_same(&mut line, b'.', 16 - full);
+    line
 }
 
 // Appends bytes in hexadecimal, a blank before each.
@@ -79,35 +79,35 @@ fn push_hex_bytes<const N: usize>(line: &mut Line<N>, bytes: &[u8])
     }
 }
 
-/// Appends the bytes of an instruction: at most 4 of them.
+/// The bytes of an instruction: at most 4 of them.
 #[tactic(auto, unfolding(crate::specs::Rows::instruction))]
-pub fn push_instruction<const N: usize>(line: &mut Line<N>, bytes: &[u8])
-    requires { array_vec_len line.old + 15 ≤ N }
-    ensures items { line.new.items ≡ line.old.items ++ instruction bytes.now }
-    ensures short { array_vec_len line.new ≤ array_vec_len line.old + 15 }
+pub fn instruction(bytes: &[u8]) -> Line<15>
+    ensures { result.items ≡ instruction bytes.now }
 {
+    let mut line = Line::new();
     if bytes.len() > 4 {
-        push_hex_bytes(line, &bytes[..4]);
-        push_word(line, b" ..");
+        push_hex_bytes(&mut line, &bytes[..4]);
+        push_word(&mut line, b" ..");
     } else {
-        push_hex_bytes(line, bytes);
+        push_hex_bytes(&mut line, bytes);
     }
+    line
 }
 
-// Appends the bytes of an instruction in a field of 12 columns.
+// The bytes of an instruction in a field of 12 columns.
 #[tactic(auto, unfolding(crate::specs::Rows::bytes_field))]
-fn push_bytes_field<const N: usize>(line: &mut Line<N>, bytes: &[u8])
-    requires { array_vec_len line.old + 12 ≤ N }
-    ensures items { line.new.items ≡ line.old.items ++ bytes_field bytes.now }
-    ensures len { array_vec_len line.new ≡ array_vec_len line.old + 12 }
+fn bytes_field(bytes: &[u8]) -> Line<12>
+    ensures { result.items ≡ bytes_field bytes.now }
 {
+    let mut line = Line::new();
     if bytes.len() > 4 {
-        push_hex_bytes(line, &bytes[..3]);
-        push_word(line, b" ..");
+        push_hex_bytes(&mut line, &bytes[..3]);
+        push_word(&mut line, b" ..");
     } else {
-        push_hex_bytes(line, bytes);
-        push_same(line, b' ', 12 - 3 * bytes.len());
+        push_hex_bytes(&mut line, bytes);
+        push_same(&mut line, b' ', 12 - 3 * bytes.len());
     }
+    line
 }
 
 // Puts the word of data, of more than 8 bytes the first 6.
@@ -135,83 +135,103 @@ fn put_word(text: &mut Lent, bytes: &[u8], names: &Names)
     }
 }
 
-// Appends the word of an instruction so far to the right, as 26 columns allow.
+// The word of an instruction so far to the right, as 26 columns allow.
 #[tactic(auto, unfolding(crate::specs::Rows::indented))]
-fn push_indented<const N: usize>(line: &mut Line<N>, right: usize, bytes: &[u8])
-    requires { array_vec_len line.old + 26 ≤ N }
-    ensures items { line.new.items ≡ line.old.items ++ indented right (word bytes.now) }
-    ensures short { array_vec_len line.new ≤ array_vec_len line.old + 26 }
+fn indented(right: usize, bytes: &[u8]) -> Line<26>
+    ensures { result.items ≡ indented right (word bytes.now) }
 {
     let mut letters = [0u8; 26];
     let mut word = Lent::new(&mut letters);
     put_word(&mut word, bytes, &Names::new());
     let size = word.size();
-    push_same(line, b' ', right.min(26 - size));
-    push_word(line, &letters[..size]);
+    let mut line = Line::new();
+    push_same(&mut line, b' ', right.min(26 - size));
+    push_word(&mut line, &letters[..size]);
+    line
 }
 
-// Appends main height, alt height, the total and its bar.
-#[tactic(auto, using(crate::proofs::Rows::columns), unfolding(crate::specs::Rows::live_heights))]
-fn push_live<const N: usize>(line: &mut Line<N>, scale: u32, main: u32, alt: u32)
-    requires room { array_vec_len line.old + 35 ≤ N }
-    requires low { (main ≤ 65535) × (alt ≤ 65535) }
-    requires whole { (1 ≤ scale) × (main + alt ≤ scale) }
-    ensures items { line.new.items ≡ line.old.items ++ live_heights scale main alt }
-    ensures len { array_vec_len line.new ≡ array_vec_len line.old + 35 }
-{
-    push_column(line, 5, u64::from(main));
-    push_column(line, 5, u64::from(alt));
-    push_column(line, 6, u64::from(main + alt));
-    push_word(line, b" |");
-    push_bar(line, scale, main + alt);
-    push_word(line, b"|");
+/// A row of the log: the offset of an instruction, and the heights before it, 65,535 twice in a dead arm.
+#[derive(Clone, Copy, Debug, PartialEq, Eq)]
+pub struct LogRow {
+    pub offset: u16,
+    pub main: u16,
+    pub alt: u16,
 }
 
-// Appends the heights that a row of the log has: 65,535 twice in a dead arm.
-#[tactic(auto, unfolding(crate::specs::Rows::total_of))]
-fn push_heights<const N: usize>(line: &mut Line<N>, scale: u32, main: u32, alt: u32)
-    requires room { array_vec_len line.old + 35 ≤ N }
-    requires low { (main ≤ 65535) × (alt ≤ 65535) }
-    requires whole { (1 ≤ scale) × (total_of main alt ≤ scale) }
-    ensures items { line.new.items ≡ line.old.items ++ heights scale main alt }
-    ensures len { array_vec_len line.new ≡ array_vec_len line.old + 35 }
+/// Row j of the log.
+pub fn row_at(log: &[u16], j: usize) -> LogRow
+    requires { 3 * j + 3 ≤ length log.now }
+    ensures { result ≡ record { offset = offset_at log.now j; main = main_at log.now j; alt = alt_at log.now j } }
 {
-    if main == 65535 {
-        push_word(line, b" dead dead       |                |");
-    } else {
-        push_live(line, scale, main, alt);
+    LogRow {
+        offset: log[3 * j],
+        main: log[3 * j + 1],
+        alt: log[3 * j + 2],
     }
 }
 
-// Appends the line of an instruction, of at most 80 characters and the newline.
-#[tactic(auto, using(crate::proofs::Rows::columns), unfolding(crate::specs::Rows::row_line))]
-fn push_row_line<const N: usize>(
-    line: &mut Line<N>,
-    scale: u32,
-    offset: u32,
-    main: u32,
-    alt: u32,
-    right: usize,
-    bytes: &[u8],
-)
-    requires room { array_vec_len line.old + 81 ≤ N }
-    requires low { (main ≤ 65535) × (alt ≤ 65535) }
-    requires whole { (1 ≤ scale) × (total_of main alt ≤ scale) }
-    requires offset_bound { offset ≤ 65535 }
-    ensures items { line.new.items
-        ≡ line.old.items ++ row_line scale offset main alt right bytes.now }
-    ensures short { array_vec_len line.new ≤ array_vec_len line.old + 81 }
+// The total of its heights.
+#[tactic(auto, unfolding(crate::specs::Rows::total_of))]
+fn total(row: LogRow) -> u32
+    ensures { result ≡ total_of row.main row.alt }
 {
-    push_column(line, 6, u64::from(offset));
-    push_heights(line, scale, main, alt);
-    push_bytes_field(line, bytes);
-    push_word(line, b" ");
-    push_indented(line, right, bytes);
-    push_word(line, b"\n");
+    if row.main == 65535 {
+        0
+    } else {
+        u32::from(row.main) + u32::from(row.alt)
+    }
 }
 
-/// Whether a class is IF or NOTIF.
-pub fn is_if(class: Class) -> bool
+// Main height, alt height, the total and its bar.
+#[tactic(auto, using(crate::proofs::Rows::columns), unfolding(crate::specs::Rows::live_heights))]
+fn live_heights(scale: u32, main: u16, alt: u16) -> Line<35>
+    requires { (1 ≤ scale) × (main + alt ≤ scale) }
+    ensures { result.items ≡ live_heights scale main alt }
+{
+    let total = u32::from(main) + u32::from(alt);
+    let mut line = Line::new();
+    push_word(&mut line, &column::<5>(u64::from(main)));
+    push_word(&mut line, &column::<5>(u64::from(alt)));
+    push_word(&mut line, &column::<6>(u64::from(total)));
+    push_word(&mut line, b" |");
+    push_word(&mut line, &bar(scale, total));
+    push_word(&mut line, b"|");
+    line
+}
+
+// The heights of a row.
+#[tactic(auto, unfolding(crate::specs::Rows::total_of))]
+fn heights(scale: u32, row: LogRow) -> Line<35>
+    requires { (1 ≤ scale) × (total_of row.main row.alt ≤ scale) }
+    ensures { result.items ≡ heights scale row.main row.alt }
+{
+    if row.main == 65535 {
+        let mut line = Line::new();
+        push_word(&mut line, b" dead dead       |                |");
+        line
+    } else {
+        live_heights(scale, row.main, row.alt)
+    }
+}
+
+// The line of an instruction, of at most 80 characters and the newline.
+#[tactic(auto, using(crate::proofs::Rows::columns), unfolding(crate::specs::Rows::row_line))]
+fn row_line(scale: u32, row: LogRow, right: usize, bytes: &[u8]) -> Line<81>
+    requires { (1 ≤ scale) × (total_of row.main row.alt ≤ scale) }
+    ensures { result.items ≡ row_line scale row.offset row.main row.alt right bytes.now }
+{
+    let mut line = Line::new();
+    push_word(&mut line, &column::<6>(u64::from(row.offset)));
+    push_word(&mut line, &heights(scale, row));
+    push_word(&mut line, &bytes_field(bytes));
+    push_word(&mut line, b" ");
+    push_word(&mut line, &indented(right, bytes));
+    push_word(&mut line, b"\n");
+    line
+}
+
+/// Whether an instruction of this class is an IF or NOTIF.
+pub fn opens(class: Class) -> bool
     ensures { result ≡ is_if (class_at (number_of class)) }
 {
     matches!(class, Class::If | Class::NotIf)
@@ -219,8 +239,8 @@ pub fn is_if(class: Class) -> bool
 
 /// How many conditionals are open behind an instruction of this class.
 #[tactic(auto, unfolding(crate::specs::Rows::depth_after))]
-pub fn depth_after(class: Class, depth: usize) -> usize
-    requires { depth < 4294967296 }
+pub fn depth_behind(class: Class, depth: usize) -> usize
+    requires { depth < 2 ^ 64 - 1 }
     ensures same { result ≡ depth_after (class_at (number_of class)) depth }
     ensures near { result ≤ depth + 1 }
 {
@@ -247,7 +267,10 @@ fn opcode_at(fragment: &[u8], log: &[u16], j: usize) -> u8
     requires { 3 * j + 3 ≤ length log.now }
     ensures { result ≡ opcode_at fragment.now log.now j }
 {
-    fragment.get(usize::from(log[3 * j])).copied().unwrap_or(0)
+    fragment
+        .get(usize::from(row_at(log, j).offset))
+        .copied()
+        .unwrap_or(0)
 }
 
 /// The class of row j of the log.
@@ -258,72 +281,40 @@ pub fn class_of_row(fragment: &[u8], log: &[u16], classes: Classes, j: usize) ->
     classes.of(opcode_at(fragment, log, j))
 }
 
-/// The main height of row j of the log.
-pub fn main_at(log: &[u16], j: usize) -> u32
-    requires { 3 * j + 3 ≤ length log.now }
-    ensures same { result ≡ main_at log.now j }
-    ensures low { result ≤ 65535 }
-{
-    u32::from(log[3 * j + 1])
-}
-
-/// The alt height of row j of the log.
-pub fn alt_at(log: &[u16], j: usize) -> u32
-    requires { 3 * j + 3 ≤ length log.now }
-    ensures same { result ≡ alt_at log.now j }
-    ensures low { result ≤ 65535 }
-{
-    u32::from(log[3 * j + 2])
-}
-
-/// Appends the line of row j of the log.
-pub fn push_row<const N: usize>(
-    line: &mut Line<N>,
+/// The line of row j of the log.
+#[tactic(auto, unfolding(crate::specs::Rows::row))]
+pub fn row(
     fragment: &[u8],
     log: &[u16],
     classes: Classes,
     scale: u32,
     depth: usize,
     j: usize,
-)
-    requires room { array_vec_len line.old + 81 ≤ N }
+) -> Line<81>
     requires j_in_bounds { 3 * j + 3 ≤ length log.now }
     requires whole { (1 ≤ scale) × (total_of (main_at log.now j) (alt_at log.now j) ≤ scale) }
-    ensures items { (options : Options)
-        → line.new.items
-        ≡ line.old.items ++ row (rules_by (rows_of classes.entry) options) fragment.now log.now scale depth j }
-    ensures short { array_vec_len line.new ≤ array_vec_len line.old + 81 }
+    ensures { (options : Options)
+        → result.items ≡ row (rules_by (rows_of classes.entry) options) fragment.now log.now scale depth j }
 {
-    let offset = u32::from(log[3 * j]);
-    let main = main_at(log, j);
-    let alt = alt_at(log, j);
+    let numbers = row_at(log, j);
     let right = indent(class_of_row(fragment, log, classes, j), depth);
-    let bytes = display::display(fragment, fragment, offset as usize, 0);
-    push_row_line(line, scale, offset, main, alt, right, bytes);
+    let bytes = display::display(fragment, fragment, usize::from(numbers.offset), 0);
+    row_line(scale, numbers, right, bytes)
 }
 
-/// Appends what stands over the columns.
+/// What stands over the columns.
 #[tactic(auto, unfolding(crate::specs::Rows::heading))]
-pub fn push_heading<const N: usize>(line: &mut Line<N>, scale: u32)
-    requires { array_vec_len line.old + 81 ≤ N }
-    ensures items { line.new.items ≡ line.old.items ++ heading scale }
-    ensures short { array_vec_len line.new ≤ array_vec_len line.old + 81 }
+pub fn heading(scale: u32) -> Line<81>
+    ensures { result.items ≡ heading scale }
 {
     let mut whole: Line<23> = Line::new();
     push_labelled(&mut whole, b"of ", u64::from(scale));
-    push_word(line, b"offset main  alt total |");
-    push_word(line, whole.as_slice());
-    push_same(line, b' ', 16usize.saturating_sub(whole.len()));
-    push_word(line, b"| bytes       instruction\n");
-}
-
-// The total of heights.
-#[tactic(auto, unfolding(crate::specs::Rows::total_of))]
-fn total(main: u32, alt: u32) -> u32
-    requires { (main ≤ 65535) × (alt ≤ 65535) }
-    ensures { result ≡ total_of main alt }
-{
-    if main == 65535 { 0 } else { main + alt }
+    let mut line = Line::new();
+    push_word(&mut line, b"offset main  alt total |");
+    push_word(&mut line, &whole);
+    push_same(&mut line, b' ', 16usize.saturating_sub(whole.len()));
+    push_word(&mut line, b"| bytes       instruction\n");
+    line
 }
 
 /// What a whole bar stands for, over `count` rows from row `from` on.
@@ -333,7 +324,7 @@ pub fn scale_of(peak: u32, log: &[u16], from: usize, count: usize) -> u32
 {
     let mut scale = peak.max(8);
     for row in from..from + count {
-        scale = scale.max(total(main_at(log, row), alt_at(log, row)));
+        scale = scale.max(total(row_at(log, row)));
     }
     scale
 }

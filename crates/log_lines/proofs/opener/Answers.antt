@@ -1,6 +1,6 @@
 use native.Mathlib.Omega.{arith}
 use Rattle.opcodes.specs.Classes.{rows_of}
-use Rattle.log_lines.proofs.Arms.{opening-end, opening-plain}
+use Rattle.log_lines.proofs.Conditionals.{opening-end, opening-plain}
 use Rattle.log_lines.proofs.opener.Goals as goal
 
 pub loop-n-preserved : goal.loop-n-preserved

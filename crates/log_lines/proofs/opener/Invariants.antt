@@ -1,6 +1,6 @@
 use Prim.Native.Nat.{◌+◌, ◌≤◌}
 use Rattle.opcodes.specs.Classes.{rows_of}
-use Rattle.log_lines.proofs.Arms.{Opening}
+use Rattle.log_lines.proofs.Conditionals.{Opening}
 use Rattle.log_lines.proofs.opener.Given as goal
 
 abbrev pub invariant-loop-n : goal.invariant-loop-n

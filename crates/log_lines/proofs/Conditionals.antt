@@ -1,6 +1,6 @@
 -- Laws of the arms of a conditional: the row where the other arm ends, and its heights.
 use mathlib.Core.Bool.{Bool, true, false, ◌&&◌, ◌||◌}
-use mathlib.Core.List.{List, ◌++◌, append_assoc}
+use mathlib.Core.List.{List}
 use mathlib.Core.Path.{◌≡◌, refl, sym, ap, ◌∙◌}
 use Prim.Native.Nat.{ℕ, suc, ◌+◌, ◌-◌, ◌≤◌, ◌<◌}
 use native.Mathlib.Omega.{arith}
@@ -9,14 +9,12 @@ use lib.Dec.{eqb}
 use lib.ListN.{get_or}
 use Rattle.definition.specs.Basics.{Bytes, pick}
 use Rattle.definition.specs.Classes.{class_at}
-use Rattle.definition.specs.Lines.{labelled}
 use Rattle.definition_rules.specs.Maps.{Options, rules_by}
-use Rattle.definition.specs.Stacks.{Rules}
-use Rattle.log_rows.specs.Rows.{main_at, alt_at, opcode_at, is_if, is_else, is_endif}
+use Rattle.log_rows.specs.Rows.{opcode_at, is_if, is_else, is_endif}
 use Rattle.opcodes.specs.Class.{number_of}
 use Rattle.opcodes.specs.declared.Class.{Class}
 use Rattle.opcodes.specs.declared.Class.TheVariants.{Unmodelled, Push, Nothing, If, NotIf, Else, EndIf, Return, ToAlt, FromAlt, Depth, Size, Nip, Tuck, Pick, Roll, Zk, Dup, TwoDup, ThreeDup, Over, TwoOver, Rot, TwoRot, Swap, TwoSwap, Effect10, Effect20, Effect01, Effect11, Effect31, Effect21}
-use Rattle.log_lines.specs.Log.{opener, other_main, arms}
+use Rattle.log_lines.specs.Log.{opener}
 
 -- a class that is none of IF, NOTIF, ELSE and ENDIF
 pub record Plain (class : Class) : Type 0 where
@@ -133,39 +131,6 @@ module _ (classes : List ℕ) (fragment : Bytes) (log : List ℕ) (from count : 
           by : (b : Bool) → eqb inner 0 ≡ b → Opening (n - 1) inner
           by true z = goes false false false true plain.endif plain.if plain.else z
           by false z = goes false false false false plain.endif plain.if plain.else z
-
--- the main height of the other arm
-
-pub main-other : (classes : List ℕ) (fragment : Bytes) (log : List ℕ) (row : ℕ) (class : Class) (main : ℕ) → number_of class ≡ get_or classes (opcode_at fragment log row) 0
-    → main ≡ main_at log row → (t : Bool) → t ≡ is_if (class_at (number_of class)) → (b : Bool) → t ≡ b
-    → (options : Options) → main - pick b 1 0 ≡ other_main (rules_by classes options) fragment log row
-unfolding other_main
-main-other classes fragment log row class main o m t q b e options =
-    ap (λ x. main - pick x 1 0) (sym e ∙ q) ∙ ap (λ x. x - pick (is_if (class_at (number_of class))) 1 0) m
-    ∙ ap (λ x. main_at log row - pick (is_if (class_at x)) 1 0) o
-
--- both arms
-
--- four texts, one behind another
-pub four-pushed : (before s t u v : Bytes) {a b c d : Bytes} → a ≡ before ++ s → b ≡ a ++ t → c ≡ b ++ u → d ≡ c ++ v → d ≡ before ++ (s ++ t ++ u ++ v)
-four-pushed before s t u v {a} {b} {c} {d} e f g h =
-    let i : b ≡ before ++ (s ++ t) = f ∙ ap (λ (x : Bytes). x ++ t) e ∙ append_assoc before s t in
-    let j : c ≡ before ++ (s ++ t ++ u) = g ∙ ap (λ (x : Bytes). x ++ u) i ∙ append_assoc before (s ++ t) u in
-    h ∙ ap (λ (x : Bytes). x ++ v) j ∙ append_assoc before (s ++ t ++ u) v
-
-pub arms-pushed : (before : Bytes) {new : Bytes} {other main alt main' alt' : ℕ} (R : Rules) (fragment : Bytes) (log : List ℕ) (from n : ℕ)
-    → other ≡ opener R fragment log from n 0 → main ≡ main_at log (from + n) → alt ≡ alt_at log (from + n)
-    → main' ≡ other_main R fragment log other → alt' ≡ alt_at log other
-    → new ≡ before ++ (labelled ": main " main ++ labelled " alt " alt ++ labelled " against main " main' ++ labelled " alt " alt')
-    → new ≡ before ++ arms R fragment log from n
-unfolding arms
-arms-pushed before {new} {other} {main} {alt} {main'} {alt'} R fragment log from n o m a m' a' w =
-    let s : ℕ → ℕ → ℕ → ℕ → Bytes = λ x y z u. labelled ": main " x ++ labelled " alt " y ++ labelled " against main " z ++ labelled " alt " u in
-    w ∙ ap (λ (x : Bytes). before ++ x)
-    (ap (λ x. s x alt main' alt') m ∙ ap (λ x. s (main_at log (from + n)) x main' alt') a
-    ∙ ap (λ x. s (main_at log (from + n)) (alt_at log (from + n)) x alt') m'
-    ∙ ap (λ x. s (main_at log (from + n)) (alt_at log (from + n)) (other_main R fragment log other) x) a'
-    ∙ ap (λ x. s (main_at log (from + n)) (alt_at log (from + n)) (other_main R fragment log x) (alt_at log x)) o)
 
 -- where the conditional opens, whichever test decides
 pub ruleset opening = (opening-none, opening-end, opening-endif, found-if, found-notif, found-else, opening-if, opening-notif, opening-else, opening-plain)
