@@ -11,4 +11,5 @@ returns-in_err-ok c = c.from_residual.ensures ∙ number-bad c.args.text.now _ _
 
 pub returns : goal.returns
 returns c = c.ok-2.ensures.value ∙ decimal-parsed c.args.text.now c.parse.result
-    (subst (λ t. ParsesUnsigned 32 10 t c.parse.result) (number-text c.args.text.now _ _ c.from_utf8.ensures.cases c.in_ok-ok.field-0 c.in_ok-ok.ensures.value) c.parse.ensures.value.0) (no-plus c.args.text.now (sym c.starts_with.ensures.value ∙ c.if-starts_with.false))
+    (subst (λ t. ParsesUnsigned 32 10 t c.parse.result) (number-text c.args.text.now _ _ c.from_utf8.ensures.cases c.in_ok-ok.field-0 c.in_ok-ok.ensures.value) c.parse.ensures.value.0)
+    (no-plus c.args.text.now (sym c.starts_with.ensures.value ∙ c.if-starts_with.false))
