@@ -12,7 +12,8 @@ ghost use Rattle.log_lines.specs.Log.{start_line, start, ending, accepted_line, 
 ghost use Rattle.stack_analysis.specs.View.{told};
 ghost use Rattle.log_lines.specs.Log.{opener, other_main, arms, verdict_line};
 
-use opcodes::{Class, Classes};
+use log_rows::Logged;
+use opcodes::Class;
 use refusals::{Answer, Refusal};
 use stack_analysis::{Accepted, Heights, Rejected, Verdict};
 use text::{Line, push_labelled, push_word};
@@ -116,16 +117,23 @@ fn malformed_line(offset: usize, bytes: &[u8]) -> Line<256>
 
 // The row of the ELSE, or where there is none the IF, of the conditional that is open behind `count` rows from row `from` on.
 #[tactic(auto, using(crate::proofs::Conditionals::opening))]
-fn opener(fragment: &[u8], log: &[u16], classes: Classes, from: usize, count: usize) -> usize
-    requires { 3 * (from + count) ≤ length log.now }
+fn opener(fragment: Logged, from: usize, count: usize) -> usize
+    requires { 3 * (from + count) ≤ length fragment.log.now }
     ensures same { (options : Options)
-        → result ≡ opener (rules_by (rows_of classes.entry) options) fragment.now log.now from count 0 }
+        → result
+        ≡ opener
+        (rules_by (rows_of fragment.entry.classes) options)
+        fragment.entry.bytes.now
+        fragment.entry.log.now
+        from
+        count
+        0 }
     ensures within { result ≤ from + count }
 {
     let mut inner: usize = 0;
     for n in (0..count).rev() {
         let row = from + n;
-        match log_rows::class_of_row(fragment, log, classes, row) {
+        match fragment.class_of_row(row) {
             Class::EndIf => inner += 1,
             Class::If | Class::NotIf => {
                 if inner == 0 {
@@ -146,26 +154,37 @@ fn opener(fragment: &[u8], log: &[u16], classes: Classes, from: usize, count: us
 
 // The main height of the other arm: IF pops one item.
 #[tactic(auto, unfolding(crate::specs::Log::other_main))]
-fn other_main(fragment: &[u8], log: &[u16], classes: Classes, row: usize) -> u16
-    requires { 3 * row + 3 ≤ length log.now }
+fn other_main(fragment: Logged, row: usize) -> u16
+    requires { 3 * row + 3 ≤ length fragment.log.now }
     ensures { (options : Options)
-        → result ≡ other_main (rules_by (rows_of classes.entry) options) fragment.now log.now row }
+        → result
+        ≡ other_main
+        (rules_by (rows_of fragment.entry.classes) options)
+        fragment.entry.bytes.now
+        fragment.entry.log.now
+        row }
 {
-    let main = log_rows::row_at(log, row).main;
-    let popped = log_rows::opens(log_rows::class_of_row(fragment, log, classes, row));
+    let main = log_rows::row_at(fragment.log, row).main;
+    let popped = log_rows::opens(fragment.class_of_row(row));
     main.saturating_sub(u16::from(popped))
 }
 
 // Both arms, where `count` rows come before ENDIF's.
 #[tactic(auto, unfolding(crate::specs::Log::arms))]
-fn arms(fragment: &[u8], log: &[u16], classes: Classes, from: usize, count: usize) -> Line<120>
-    requires { 3 * (from + count) + 3 ≤ length log.now }
+fn arms(fragment: Logged, from: usize, count: usize) -> Line<120>
+    requires { 3 * (from + count) + 3 ≤ length fragment.log.now }
     ensures { (options : Options)
-        → result.items ≡ arms (rules_by (rows_of classes.entry) options) fragment.now log.now from count }
+        → result.items
+        ≡ arms
+        (rules_by (rows_of fragment.entry.classes) options)
+        fragment.entry.bytes.now
+        fragment.entry.log.now
+        from
+        count }
 {
-    let other = opener(fragment, log, classes, from, count);
-    let main = other_main(fragment, log, classes, other);
-    let one = log_rows::row_at(log, from + count);
+    let other = opener(fragment, from, count);
+    let main = other_main(fragment, other);
+    let one = log_rows::row_at(fragment.log, from + count);
     let mut line = Line::new();
     push_labelled(&mut line, b": main ", u64::from(one.main));
     push_labelled(&mut line, b" alt ", u64::from(one.alt));
@@ -173,27 +192,21 @@ fn arms(fragment: &[u8], log: &[u16], classes: Classes, from: usize, count: usiz
     push_labelled(
         &mut line,
         b" alt ",
-        u64::from(log_rows::row_at(log, other).alt),
+        u64::from(log_rows::row_at(fragment.log, other).alt),
     );
     line
 }
 
 // That of a refused fragment.
 #[tactic(auto, using(crate::proofs::Verdicts::refusals), unfolding(crate::specs::Log::verdict_line))]
-fn rejected_line(
-    fragment: &[u8],
-    log: &[u16],
-    classes: Classes,
-    from: usize,
-    rejected: Rejected,
-) -> Line<256>
-    requires { 3 * (from + rejected.rows) ≤ length log.now }
+fn rejected_line(fragment: Logged, from: usize, rejected: Rejected) -> Line<256>
+    requires { 3 * (from + rejected.rows) ≤ length fragment.log.now }
     ensures { (options : Options)
         → result.items
         ≡ verdict_line
-        (rules_by (rows_of classes.entry) options)
-        fragment.now
-        log.now
+        (rules_by (rows_of fragment.entry.classes) options)
+        fragment.entry.bytes.now
+        fragment.entry.log.now
         from
         (told {E = Heights} (Err rejected)) }
 {
@@ -203,14 +216,14 @@ fn rejected_line(
     match refused.refusal {
         Refusal::Malformed => malformed_line(
             offset,
-            display::display(fragment, fragment, offset, 0),
+            display::display(fragment.bytes, fragment.bytes, offset, 0),
         ),
         _ if rows == 0 => refusal_line(b"", answer, b""),
         Refusal::ArmsDiffer => {
             refusal_line(
                 b"     ^ ",
                 answer,
-                &arms(fragment, log, classes, from, rows - 1),
+                &arms(fragment, from, rows - 1),
             )
         }
         _ => refusal_line(b"     ^ ", answer, b""),
@@ -219,20 +232,19 @@ fn rejected_line(
 
 /// The line after the rows of a fragment, the first of them row `from`: 1 to 4 come before any row.
 #[tactic(auto, unfolding(crate::specs::Log::verdict_line))]
-pub fn verdict_line(
-    fragment: &[u8],
-    log: &[u16],
-    classes: Classes,
-    from: usize,
-    verdict: Verdict<Heights>,
-) -> Line<256>
-    requires { 3 * (from + (told verdict).rows) ≤ length log.now }
+pub fn verdict_line(fragment: Logged, from: usize, verdict: Verdict<Heights>) -> Line<256>
+    requires { 3 * (from + (told verdict).rows) ≤ length fragment.log.now }
     ensures { (options : Options)
         → result.items
-        ≡ verdict_line (rules_by (rows_of classes.entry) options) fragment.now log.now from (told verdict) }
+        ≡ verdict_line
+        (rules_by (rows_of fragment.entry.classes) options)
+        fragment.entry.bytes.now
+        fragment.entry.log.now
+        from
+        (told verdict) }
 {
     match verdict {
         Ok(accepted) => accepted_line(accepted),
-        Err(rejected) => rejected_line(fragment, log, classes, from, rejected),
+        Err(rejected) => rejected_line(fragment, from, rejected),
     }
 }

@@ -262,44 +262,49 @@ fn indent(class: Class, depth: usize) -> usize
     }
 }
 
-// The opcode of row j of the log.
-fn opcode_at(fragment: &[u8], log: &[u16], j: usize) -> u8
-    requires { 3 * j + 3 ≤ length log.now }
-    ensures { result ≡ opcode_at fragment.now log.now j }
-{
-    fragment
-        .get(usize::from(row_at(log, j).offset))
-        .copied()
-        .unwrap_or(0)
+/// What was marked, a paper or one of its fragments, with the log that was written and the classes by which it was.
+#[derive(Clone, Copy)]
+pub struct Logged<'a> {
+    pub bytes: &'a [u8],
+    pub log: &'a [u16],
+    pub classes: Classes<'a>,
 }
 
-/// The class of row j of the log.
-pub fn class_of_row(fragment: &[u8], log: &[u16], classes: Classes, j: usize) -> Class
-    requires { 3 * j + 3 ≤ length log.now }
-    ensures { number_of result ≡ get_or (rows_of classes.entry) (opcode_at fragment.now log.now j) 0 }
-{
-    classes.of(opcode_at(fragment, log, j))
-}
+impl<'a> Logged<'a> {
+    // The opcode of row j of the log.
+    fn opcode_at(self, j: usize) -> u8
+        requires { 3 * j + 3 ≤ length self.log.now }
+        ensures { result ≡ opcode_at self.entry.bytes.now self.entry.log.now j }
+    {
+        self.bytes
+            .get(usize::from(row_at(self.log, j).offset))
+            .copied()
+            .unwrap_or(0)
+    }
 
-/// The line of row j of the log.
-#[tactic(auto, unfolding(crate::specs::Rows::row))]
-pub fn row(
-    fragment: &[u8],
-    log: &[u16],
-    classes: Classes,
-    scale: u32,
-    depth: usize,
-    j: usize,
-) -> Line<81>
-    requires j_in_bounds { 3 * j + 3 ≤ length log.now }
-    requires whole { (1 ≤ scale) × (total_of (main_at log.now j) (alt_at log.now j) ≤ scale) }
-    ensures { (options : Options)
-        → result.items ≡ row (rules_by (rows_of classes.entry) options) fragment.now log.now scale depth j }
-{
-    let numbers = row_at(log, j);
-    let right = indent(class_of_row(fragment, log, classes, j), depth);
-    let bytes = display::display(fragment, fragment, usize::from(numbers.offset), 0);
-    row_line(scale, numbers, right, bytes)
+    /// The class of row j of the log.
+    pub fn class_of_row(self, j: usize) -> Class
+        requires { 3 * j + 3 ≤ length self.log.now }
+        ensures { number_of result
+            ≡ get_or (rows_of self.entry.classes) (opcode_at self.entry.bytes.now self.entry.log.now j) 0 }
+    {
+        self.classes.of(self.opcode_at(j))
+    }
+
+    /// The line of row j of the log.
+    #[tactic(auto, unfolding(crate::specs::Rows::row))]
+    pub fn row(self, scale: u32, depth: usize, j: usize) -> Line<81>
+        requires j_in_bounds { 3 * j + 3 ≤ length self.log.now }
+        requires whole { (1 ≤ scale) × (total_of (main_at self.log.now j) (alt_at self.log.now j) ≤ scale) }
+        ensures { (options : Options)
+            → result.items
+            ≡ row (rules_by (rows_of self.entry.classes) options) self.entry.bytes.now self.entry.log.now scale depth j }
+    {
+        let numbers = row_at(self.log, j);
+        let right = indent(self.class_of_row(j), depth);
+        let bytes = display::display(self.bytes, self.bytes, usize::from(numbers.offset), 0);
+        row_line(scale, numbers, right, bytes)
+    }
 }
 
 /// What stands over the columns.

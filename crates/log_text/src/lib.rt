@@ -14,6 +14,7 @@ ghost use Rattle.paper.specs.View.{told_accepted, rows_of, Holds};
 ghost use Rattle.log_text.specs.LogText.{blocks, refused, log_of};
 ghost use Rattle.log_text.specs.View.{Tells, LogsBy, Logs, LogsWith};
 
+use log_rows::Logged;
 use opcodes::Classes;
 use paper::{Marked, PaperVerdict};
 use refusals::{Answer, Refusal};
@@ -30,21 +31,15 @@ pub struct LogText {
 
 // Puts the fragments accepted; the next row.
 #[tactic(auto, using(crate::proofs::Blocks::blockings))]
-fn put_blocks(
-    out: &mut Lent,
-    paper: &[u8],
-    log: &[u16],
-    classes: Classes,
-    accepted: &[Accepted<Heights>],
-) -> usize
-    requires { 3 * rows_of (map told_accepted accepted.now) ≤ length log.now }
+fn put_blocks(out: &mut Lent, paper: Logged, accepted: &[Accepted<Heights>]) -> usize
+    requires { 3 * rows_of (map told_accepted accepted.now) ≤ length paper.log.now }
     ensures same { (options : Maps.Options)
         → Puts
         out.old
         (blocks
-        (rules_by (class_rows classes.entry) options)
-        paper.now
-        log.now
+        (rules_by (class_rows paper.entry.classes) options)
+        paper.entry.bytes.now
+        paper.entry.log.now
         0
         0
         (map told_accepted accepted.now))
@@ -54,7 +49,7 @@ fn put_blocks(
 {
     let mut from = 0;
     for (k, &fragment) in accepted.iter().enumerate() {
-        log_blocks::put_block(out, paper, log, classes, k, from, Ok(fragment));
+        log_blocks::put_block(out, paper, k, from, Ok(fragment));
         out.put(b"\n");
         from += fragment.rows;
     }
@@ -62,23 +57,15 @@ fn put_blocks(
 }
 
 // Puts what was refused.
-fn put_refused(
-    out: &mut Lent,
-    paper: &[u8],
-    log: &[u16],
-    classes: Classes,
-    entry: usize,
-    from: usize,
-    rejected: Rejected,
-)
-    requires { 3 * (from + rejected.rows) ≤ length log.now }
+fn put_refused(out: &mut Lent, paper: Logged, entry: usize, from: usize, rejected: Rejected)
+    requires { 3 * (from + rejected.rows) ≤ length paper.log.now }
     ensures same { (options : Maps.Options)
         → Puts
         out.old
         (refused
-        (rules_by (class_rows classes.entry) options)
-        paper.now
-        log.now
+        (rules_by (class_rows paper.entry.classes) options)
+        paper.entry.bytes.now
+        paper.entry.log.now
         entry
         from
         (told {E = Heights} (Err rejected)))
@@ -90,40 +77,32 @@ fn put_refused(
             let answer = Answer::from(Err(rejected.refused));
             out.put(&log_lines::refusal_line(b"", answer, b""))
         }
-        Refusal::BadHeader => out.put(&log_lines::header_line(paper)),
+        Refusal::BadHeader => out.put(&log_lines::header_line(paper.bytes)),
         Refusal::DispatchTooLarge { sum, limit } => {
             out.put(&log_lines::dispatch_line(entry, u64::from(sum), u64::from(limit)))
         }
-        _ => log_blocks::put_block(out, paper, log, classes, entry, from, Err(rejected)),
+        _ => log_blocks::put_block(out, paper, entry, from, Err(rejected)),
     }
 }
 
 // Puts all of a marked paper, of at most 330,000 rows.
-fn put_log(out: &mut Lent, paper: &[u8], log: &[u16], classes: Classes, marked: &Marked)
-    requires { (m : PaperMarked) × Holds m marked.now log.now }
+fn put_log(out: &mut Lent, paper: Logged, marked: &Marked)
+    requires { (m : PaperMarked) × Holds m marked.now paper.log.now }
     ensures same { (options : Maps.Options) (m : PaperMarked)
-        → Holds m marked.now log.now
+        → Holds m marked.now paper.entry.log.now
         → Puts
         out.old
-        (log_of (rules_by (class_rows classes.entry) options) paper.now m)
+        (log_of (rules_by (class_rows paper.entry.classes) options) paper.entry.bytes.now m)
         out.new }
     ensures near { out.new.size ≤ out.old.size + 100000000 }
 {
-    let from = put_blocks(out, paper, log, classes, &marked.accepted);
+    let from = put_blocks(out, paper, &marked.accepted);
     match marked.verdict {
         Ok(_) => out.put(b"accepted\n"),
         Err(last) => {
             let refused = last.refused;
             let rows = last.rows - from;
-            put_refused(
-                out,
-                paper,
-                log,
-                classes,
-                last.entry,
-                from,
-                Rejected { rows, refused },
-            );
+            put_refused(out, paper, last.entry, from, Rejected { rows, refused });
             out.put(b"\n");
             out.put(&lines::refused_line(last.entry, Err(refused).into()));
         }
@@ -131,10 +110,10 @@ fn put_log(out: &mut Lent, paper: &[u8], log: &[u16], classes: Classes, marked: 
 }
 
 // Counts what is printed of a marked paper, and writes that where there is room.
-fn write_marked(
-    paper: &[u8],
-    log: &[u16],
-    classes: Classes,
+fn write_marked<'a>(
+    bytes: &'a [u8],
+    log: &'a [u16],
+    classes: Classes<'a>,
     marked: &Marked,
     text: &mut [u8],
 ) -> LogText
@@ -143,17 +122,18 @@ fn write_marked(
         → Holds m marked.now log.now
         → Tells
         m.paper
-        (log_of (rules_by (class_rows classes.entry) options) paper.now m)
+        (log_of (rules_by (class_rows classes.entry) options) bytes.now m)
         text.old
         result
         text.new }
 {
+    let paper = Logged { bytes, log, classes };
     let verdict = marked.verdict;
     let mut counted = Lent::new(&mut []);
-    put_log(&mut counted, paper, log, classes, marked);
+    put_log(&mut counted, paper, marked);
     let size = counted.size();
     if size <= text.len() {
-        put_log(&mut Lent::new(text), paper, log, classes, marked);
+        put_log(&mut Lent::new(text), paper, marked);
     }
     LogText { verdict, size }
 }

@@ -17,9 +17,9 @@ pub returns-clause-same : goal.returns-clause-same
 unfolding block
 returns-clause-same c = λ options.
     let x = c.args in
-    let R : Rules = rules_by (rows_of x.classes) options in
+    let R : Rules = rules_by (rows_of x.paper.classes) options in
     let t : Told Heights = told x.verdict in
     puts_as
-    (ap (λ p. start x.paper.now x.k ++ rows R c.fragment_at.result.bytes.now x.log.now p.1 x.from p.0 ++ verdict_line R c.fragment_at.result.bytes.now x.log.now x.from t) c.rows_and_peak-rows.ensures
-    ∙ ap (λ (f : Fragment). start x.paper.now x.k ++ rows R f.bytes x.log.now t.peak x.from t.rows ++ verdict_line R f.bytes x.log.now x.from t) c.fragment_at.ensures)
+    (ap (λ p. start x.paper.bytes.now x.k ++ rows R c.fragment_at.result.bytes.now x.paper.log.now p.1 x.from p.0 ++ verdict_line R c.fragment_at.result.bytes.now x.paper.log.now x.from t) c.rows_and_peak-rows.ensures
+    ∙ ap (λ (f : Fragment). start x.paper.bytes.now x.k ++ rows R f.bytes x.paper.log.now t.peak x.from t.rows ++ verdict_line R f.bytes x.paper.log.now x.from t) c.fragment_at.ensures)
     (block-put (c.deref.ensures.0 ∙ c.start.ensures) c.put.ensures (c.put_table.ensures.same options) (c.deref-2.ensures.0 ∙ c.verdict_line.ensures options) c.put-2.ensures)

@@ -9,17 +9,17 @@ use Rattle.log_text.proofs.put_refused.Goals as goal
 
 pub returns-in-LongPaper-clause-same : goal.returns-in-LongPaper-clause-same
 returns-in-LongPaper-clause-same c = λ options.
-    refused-told (rules_by (class_rows c.args.classes) options) c.args.paper.now c.args.log.now c.args.entry c.args.from c.args.rejected c.in-LongPaper.is
+    refused-told (rules_by (class_rows c.args.paper.classes) options) c.args.paper.bytes.now c.args.paper.log.now c.args.entry c.args.from c.args.rejected c.in-LongPaper.is
     (c.deref.ensures.0 ∙ c.refusal_line.ensures ∙ ap (λ (a : Answer). refusal_line [] a.number a.first a.second []) c.from-answer.ensures) c.put.ensures
 
 pub returns-in-BadHeader-clause-same : goal.returns-in-BadHeader-clause-same
 returns-in-BadHeader-clause-same c = λ options.
-    refused-header (rules_by (class_rows c.args.classes) options) c.args.paper.now c.args.log.now c.args.entry c.args.from c.args.rejected c.in-BadHeader.is
+    refused-header (rules_by (class_rows c.args.paper.classes) options) c.args.paper.bytes.now c.args.paper.log.now c.args.entry c.args.from c.args.rejected c.in-BadHeader.is
     (c.deref-in-BadHeader.ensures.0 ∙ c.header_line.ensures) c.put-in-BadHeader.ensures
 
 pub returns-in-DispatchTooLarge-clause-same : goal.returns-in-DispatchTooLarge-clause-same
 returns-in-DispatchTooLarge-clause-same c = λ options.
-    refused-dispatch (rules_by (class_rows c.args.classes) options) c.args.paper.now c.args.log.now c.args.entry c.args.from c.args.rejected c.in-DispatchTooLarge.is
+    refused-dispatch (rules_by (class_rows c.args.paper.classes) options) c.args.paper.bytes.now c.args.paper.log.now c.args.entry c.args.from c.args.rejected c.in-DispatchTooLarge.is
     (c.deref-in-DispatchTooLarge.ensures.0 ∙ c.dispatch_line.ensures
     ∙ ap (λ n. dispatch_line c.args.entry n c.from-in-DispatchTooLarge.result) c.from.ensures ∙ ap (dispatch_line c.args.entry c.in-DispatchTooLarge.sum) c.from-in-DispatchTooLarge.ensures)
     c.put-in-DispatchTooLarge.ensures
@@ -27,7 +27,7 @@ returns-in-DispatchTooLarge-clause-same c = λ options.
 pub returns-in_default : goal.returns-in_default
 returns-in_default c = record {
   same = λ options.
-      refused-fragment (rules_by (class_rows c.args.classes) options) c.args.paper.now c.args.log.now c.args.entry c.args.from c.args.rejected
+      refused-fragment (rules_by (class_rows c.args.paper.classes) options) c.args.paper.bytes.now c.args.paper.log.now c.args.entry c.args.from c.args.rejected
       c.in_default.not-LongPaper c.in_default.not-BadMap c.in_default.not-BadLimit c.in_default.not-BadHeader c.in_default.not-DispatchTooLarge (c.put_block.ensures.same options);
   near = c.put_block.ensures.near;
 }
