@@ -120,9 +120,6 @@ judged-empty (c ∷ l) e = absurd (omega arith)
 pub judging-none : (l : Bytes) (ended : Bool) (rest : Bytes) → (length l ≡ 0 → ⊥) → ended ≡ false → rest ≡ l → Judging l ended rest 0 0
 judging-none l ended rest n e r = record { bytes = []; read = read_none l ended rest n e r; count = refl; least = omega arith }
 
-pub judging-all : (l : Bytes) (ended : Bool) (rest : Bytes) (offset size : ℕ) → Judging l ended rest offset size → ended ≡ true → Ok size ≡ judged_of (assembly_of l)
-judging-all l ended rest offset size j e = sym (ap judged_of (read-all l ended rest offset j.bytes j.read e) ∙ ap (λ n. Ok n) j.count)
-
 module _ (l : Bytes) (ended : Bool) (rest : Bytes) (offset size : ℕ) (j : Judging l ended rest offset size) (going : ended ≡ false)
     (w more : Bytes) (last : Bool) (cut : MatchBool last (rest ≡ w) ((y : ℕ) × (rest ≡ w ++ (y ∷ more)))) (first : IsFirstMatchOrLen space rest (length w)) where
   pub judging-strange : word_read w ≡ none → Err (record { offset = offset; refusal = StrangeWord }) ≡ judged_of (assembly_of l)

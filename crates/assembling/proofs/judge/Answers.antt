@@ -1,7 +1,7 @@
 use borrow.Author.Rules.{rules}
 use borrow.Author.Tests.{tests}
 use Rattle.std.proofs.lemmas.Fn.{always_returns_same}
-use Rattle.assembling.proofs.Judging.{space, judging-none, judging-all, judging-strange, judging-more}
+use Rattle.assembling.proofs.Judging.{space, judging-none, judging-strange, judging-more}
 use Rattle.assembling.proofs.judge.Goals as goal
 
 pub loop-word-init : goal.loop-word-init
@@ -18,6 +18,3 @@ loop-word-preserved c =
     let first = (c.in-Some.ensures.steps.2 space (always_returns_same _ _ _ (λ a r q k. search (rules, tests)))).1 in
     judging-more c.args.listing.now _ _ c.loop-word.offset c.loop-word.size c.loop-word.invariant c.in-Some.ensures.steps.0 c.in-Some.word.now _ _ c.in-Some.ensures.steps.1 first
     _ c.in-Some-word_size.ensures
-
-pub returns : goal.returns
-returns c = judging-all c.args.listing.now _ _ c.loop-word.offset c.loop-word.size c.loop-word.invariant c.in-None.ensures.steps.0
