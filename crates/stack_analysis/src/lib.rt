@@ -78,7 +78,8 @@ fn conclude(w: Walk, ended: Result<ArmEnd, Refusal>) -> Verdict<Stacks>
     })
 }
 
-// The tests before the walk, in their order; so many numbers of the log are lent.
+// The tests before the walk, in their order; so many numbers of the log are lent. Here and in the entries main and alt are two
+// numbers, as the C interface has them: no fact holds of the pair before it is tested here.
 fn early(fragment: &[u8], main: u32, alt: u32, limit: Limit, lent: usize) -> Result<(), Refused>
     ensures { (R : Rules) (log : List ℕ)
         → R.limit ≡ limit.items → length log ≡ lent → Starts R fragment.now main alt log result }
@@ -165,6 +166,7 @@ pub fn analyze_rows(
 }
 
 /// The same with the heights of the end in place of the end stacks, for callers that read no item.
+// Beside `analyze_rows`: with the form of the end as a trait both would still stand, since that one promises more.
 pub fn analyze_heights_rows(
     fragment: &[u8],
     main: u32,
