@@ -1,11 +1,12 @@
 -- The second pass of the assembler, and its answers.
+use mathlib.Core.Bool.{Bool, true, false}
 use mathlib.Core.List.{[], ◌∷◌, ◌++◌}
 use mathlib.Core.Option.{Option, none, some}
 use mathlib.Core.Path.{◌≡◌, refl, sym, ap, ◌∙◌}
-use Prim.Native.Nat.{ℕ, ◌+◌, ◌-◌, ◌≤◌, ◌<◌}
+use Prim.Native.Nat.{ℕ, ◌+◌, ◌≤◌, ◌<◌}
 use native.Mathlib.Omega.{arith}
 use borrow.Author.Tests.{lt-leb, le-leb}
-use lib.ListN.{length, take, drop}
+use lib.ListN.{length, drop}
 use Rattle.definition.specs.Basics.{Bytes}
 use Rattle.definition_listings.specs.Assembling.{word_read, Assembly, gives, strange, on_assembly, assembled}
 use Rattle.definition_listings.specs.Listing.{unwritten, put}
@@ -14,52 +15,48 @@ use Rattle.definition.specs.Refusals.{refused_at, output_short}
 use Rattle.text.specs.View.{Puts}
 use Rattle.text.specs.declared.Lent.{Lent}
 use Rattle.text.proofs.Puts.{puts_as, puts-none, then-puts}
-use Rattle.std.specs.Prelude.{Result, Ok, Err}
+use Rattle.std.specs.Prelude.{Result, Ok, Err, MatchBool}
+use Rattle.std.specs.List.{IsFirstMatchOrLen}
 use Rattle.refusals.specs.declared.Refused.{Refused}
 use Rattle.refusals.specs.declared.Refusal.TheVariants.{StrangeWord}
 use Rattle.words.specs.View.{bytes_of}
-use Rattle.assembling.specs.View.{converted_of, letters_before, judged_of, given_by, assembly_of, Good}
+use Rattle.assembling.specs.View.{converted_of, judged_of, given_by, assembly_of, Good}
 use Rattle.names.proofs.Tables.{never}
-use Rattle.assembling.proofs.Judging.{Done, done_none, done-strange, done-last, done_more}
+use Rattle.assembling.proofs.Judging.{Read, space, read_none, read-all, read-strange, read_more}
 
--- the bytes of the words before an index are put
-pub record WordsTo (a : Lent) (l : Bytes) (at : ℕ) (b : Lent) : Type 0 where
+-- the bytes of the words before an offset are put
+pub record WordsTo (a : Lent) (l : Bytes) (ended : Bool) (rest : Bytes) (b : Lent) : Type 0 where
+  pub offset : ℕ
   pub bytes : Bytes
-  pub done : Done l at bytes
+  pub read : Read l ended rest offset bytes
   pub puts : Puts a bytes b
 
 pub words-empty : (a : Lent) (l : Bytes) → length l ≡ 0 → Puts a (given_by (assembly_of l)) a
 words-empty a [] e = puts-none a
 words-empty a (c ∷ l) e = absurd (omega arith)
 
-pub words-start : (a : Lent) (l : Bytes) → (length l ≡ 0 → ⊥) → WordsTo a l 0 a
-words-start a l n = record { bytes = []; done = done_none l n; puts = puts-none a }
+pub words-start : (a : Lent) (l : Bytes) (ended : Bool) (rest : Bytes) → (length l ≡ 0 → ⊥) → ended ≡ false → rest ≡ l → WordsTo a l ended rest a
+words-start a l ended rest n e r = record { offset = 0; bytes = []; read = read_none l ended rest n e r; puts = puts-none a }
 
-module _ (a : Lent) (l : Bytes) (at : ℕ) (b : Lent) (to : WordsTo a l at b) (good : Good l) (end : ℕ) (ends : end ≡ at + letters_before (drop at l)) (most : end ≤ length l) where
-  abbrev pub word-here : Bytes
-  word-here = take (end - at) (drop at l)
+pub words-end : (a : Lent) (l : Bytes) (ended : Bool) (rest : Bytes) (b : Lent) → WordsTo a l ended rest b → ended ≡ true → Puts a (given_by (assembly_of l)) b
+words-end a l ended rest b to e = puts_as (sym (ap given_by (read-all l ended rest to.offset to.bytes to.read e))) to.puts
 
-  pub word_good : word_read word-here ≡ some (bytes_of word-here)
-  word_good = by (word_read word-here) refl
+module _ (a : Lent) (l : Bytes) (ended : Bool) (rest : Bytes) (b : Lent) (to : WordsTo a l ended rest b) (good : Good l) (going : ended ≡ false)
+    (w more : Bytes) (last : Bool) (cut : MatchBool last (rest ≡ w) ((y : ℕ) × (rest ≡ w ++ (y ∷ more)))) (first : IsFirstMatchOrLen space rest (length w)) where
+  pub word_good : word_read w ≡ some (bytes_of w)
+  word_good = by (word_read w) refl
     where
-      by : (r : Option Bytes) → word_read word-here ≡ r → word_read word-here ≡ some (bytes_of word-here)
-      by none e = never (cc (done-strange l at to.bytes to.done end ends most e, good))
+      by : (r : Option Bytes) → word_read w ≡ r → word_read w ≡ some (bytes_of w)
+      by none e = never (cc (read-strange l ended rest to.offset to.bytes to.read going w more last cut first e, good))
       by (some b) e = e ∙ ap some (sym (ap in_form e))
 
-  module _ (d : Lent) (p : Puts b (bytes_of word-here) d) where
-    -- the whole, where this word is the last
-    pub words_last : end ≡ length l → Puts a (given_by (assembly_of l)) d
-    words_last h =
-        let e : given_by (assembly_of l) ≡ to.bytes ++ bytes_of word-here
-        = ap given_by (done-last l at to.bytes to.done end ends most (bytes_of word-here) word_good h) in
-        puts_as (sym e) (then-puts to.puts p)
-
-    pub words_more : (end ≡ length l → ⊥) → WordsTo a l (end + 1) d
-    words_more n = record {
-      bytes = to.bytes ++ bytes_of word-here;
-      done = done_more l at to.bytes to.done end ends most (bytes_of word-here) word_good n;
-      puts = then-puts to.puts p;
-    }
+  pub words_more : (d : Lent) → Puts b (bytes_of w) d → WordsTo a l last more d
+  words_more d p = record {
+    offset = to.offset + (length w + 1);
+    bytes = to.bytes ++ bytes_of w;
+    read = read_more l ended rest to.offset to.bytes to.read going w more last cut first (bytes_of w) word_good;
+    puts = then-puts to.puts p;
+  }
 
 -- The answers
 

@@ -20,7 +20,7 @@ ghost use Rattle.tally.specs.View.{Gives};
 ghost use Rattle.places.specs.View.{lent_options, written, verdict_numbers, end_numbers, answer_numbers, paper_numbers, sums_numbers, converted_numbers, display_start, part_numbers, tally_from, tally_numbers};
 
 use places::{
-    display_start, tally_from, write, write_answer, write_converted, write_lines, write_paper,
+    display_start, paper_number, tally_from, write, write_answer, write_outcome, write_lines, write_paper,
     write_part, write_size, write_sums, write_text, write_verdict,
 };
 use text::Line;
@@ -28,7 +28,7 @@ use walk::Options;
 
 /// The analysis of a fragment from main and alt unknown items: the verdict's number, its other numbers in `out`, and a row
 /// for each instruction met in `log`.
-#[tactic(auto, unfolding(stack_analysis::specs::View::summarized))]
+#[tactic(auto, using(places::proofs::Items::verdicts))]
 #[unsafe(no_mangle)]
 pub extern "C" fn listochur_analyze(
     fragment: &[u8],
@@ -147,7 +147,6 @@ pub extern "C" fn listochur_check_limits(bytecode: &[u8], out: &mut [u64]) -> u3
 
 /// The marking of a paper: the verdict's number, its numbers and the entry that it is about in `out`, and the rows of all
 /// fragments in `log`.
-#[tactic(auto, unfolding(paper::specs::View::paper_of))]
 #[unsafe(no_mangle)]
 pub extern "C" fn listochur_mark_paper(paper: &[u8], log: &mut [u16], out: &mut [u64]) -> u32
     ensures number { result
@@ -163,7 +162,6 @@ pub extern "C" fn listochur_mark_paper(paper: &[u8], log: &mut [u16], out: &mut 
 }
 
 /// The marking of a paper by a lent map and a lent limit, in a mode: as `listochur_mark_paper`, 28 and then 29 before all else.
-#[tactic(auto, unfolding(paper::specs::View::paper_of))]
 #[unsafe(no_mangle)]
 pub extern "C" fn listochur_mark_paper_with(
     paper: &[u8],
@@ -299,7 +297,7 @@ pub extern "C" fn listochur_log_lines(
 {
     let l = log_text::write_log(paper, log, text);
     write_size(l.size, out);
-    l.number
+    paper_number(&l.verdict)
 }
 
 /// The same by a lent map and a lent limit, in a mode, 28 and then 29 before all else.
@@ -332,7 +330,7 @@ pub extern "C" fn listochur_log_lines_with(
     };
     let w = log_text::write_log_with(paper, map, options, log, text);
     write_size(w.size, out);
-    w.number
+    paper_number(&w.verdict)
 }
 
 /// A verdict's number and figures in words, in `text` where it has room: the number, and the size of the words in `out`. A number
@@ -397,7 +395,7 @@ pub extern "C" fn listochur_assemble(text: &[u8], fragment: &mut [u8], out: &mut
         (converted_numbers (assembled text.now fragment.old))
         out.old }
 {
-    write_converted(assembling::assemble(text, fragment), out)
+    write_outcome(assembling::assemble(text, fragment), out)
 }
 
 /// A fragment listed into a lent text: 0, 3 or 27, and number, offset and bytes written in `out`. A refusal leaves the text as it
@@ -409,5 +407,5 @@ pub extern "C" fn listochur_list(fragment: &[u8], text: &mut [u8], out: &mut [u6
     ensures written { out.new
         ≡ written (converted_numbers (listed fragment.now text.old)) out.old }
 {
-    write_converted(listing::list(fragment, text), out)
+    write_outcome(listing::list(fragment, text), out)
 }

@@ -1,10 +1,5 @@
-use lib.ListN.{length}
-use Prim.Native.Nat.{◌-◌}
 use Rattle.assembling.proofs.Assembling.{WordsTo}
 use Rattle.assembling.proofs.put_words.Given as goal
 
-abbrev pub invariant-loop-at : goal.invariant-loop-at
-invariant-loop-at l = WordsTo l.initial.text l.listing l.at l.text
-
-abbrev pub decreases-loop-at : goal.decreases-loop-at
-decreases-loop-at l = length l.listing - l.at
+abbrev pub invariant-loop-word : goal.invariant-loop-word
+invariant-loop-word l = WordsTo l.initial.text l.listing l.word-iterator.done l.word-iterator.rest.now l.text

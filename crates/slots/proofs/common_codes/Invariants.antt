@@ -1,7 +1,7 @@
 use Rattle.std.proofs.Common.{◌≡◌, true, ℕ, ◌<◌, get_or}
 use Rattle.slots.specs.View.{sufficient}
 use Rattle.slots.specs.Parts.{Each, CommonAt}
-use Rattle.slots.proofs.join_codes.Given as goal
+use Rattle.slots.proofs.common_codes.Given as goal
 
 abbrev pub invariant-loop-i : goal.invariant-loop-i
 invariant-loop-i l = record {

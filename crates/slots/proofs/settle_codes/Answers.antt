@@ -3,7 +3,7 @@ use native.Mathlib.Omega.{arith}
 use Rattle.std.proofs.Common.{get_or}
 use Rattle.slots.specs.Parts.{settled_code}
 use Rattle.slots.proofs.Laws.{each_next}
-use Rattle.slots.proofs.join_bytes.Goals as goal
+use Rattle.slots.proofs.settle_codes.Goals as goal
 
 pub loop-i-preserved : goal.loop-i-preserved
 loop-i-preserved c = let i = c.loop-i.i in
