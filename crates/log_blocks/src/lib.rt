@@ -1,5 +1,5 @@
-// What `stacklog` prints of a fragment, put into lent bytes. Conditionals go by the classes of lent rows: what is put is the same beside
-// whatever options. A line has at most 256 bytes, which bounds the size of what is put.
+// What `stacklog` prints of a fragment, put into lent bytes. Conditionals go by the classes of lent rows: what is put is the same
+// beside whatever options. A line has at most 256 bytes, which bounds the size of what is put.
 
 #![tactic(auto)]
 

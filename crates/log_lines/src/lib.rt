@@ -3,12 +3,11 @@
 
 #![tactic(auto)]
 
-ghost use Rattle.std.specs.Prelude.{[], Err, ◌≡◌, ◌++◌, ◌+◌, ◌-◌, ◌*◌, ◌≤◌, length};
-ghost use Rattle.arrayvec.specs.ArrayVec.{array_vec_len};
-ghost use Rattle.definition.specs.Lines.{text};
+ghost use Rattle.std.specs.Prelude.{Err, ◌≡◌, ◌+◌, ◌*◌, ◌≤◌, length};
 ghost use Rattle.definition_rules.specs.Maps.{Options, rules_by};
 ghost use Rattle.opcodes.specs.Classes.{rows_of};
-ghost use Rattle.log_lines.specs.Log.{start_line, start, ending, accepted_line, refusal, refusal_line, header_line, dispatch_line, malformed_line};
+ghost use Rattle.log_lines.specs.Log.{start, ending, accepted_line, refusal_line};
+ghost use Rattle.log_lines.specs.Log.{header_line, dispatch_line, malformed_line};
 ghost use Rattle.stack_analysis.specs.View.{told};
 ghost use Rattle.log_lines.specs.Log.{opener, other_main, arms, verdict_line};
 
@@ -94,6 +93,7 @@ pub fn dispatch_line(entry: usize, sum: u64, limit: u64) -> Line<256>
     let mut lead: Line<28> = Line::new();
     push_labelled(&mut lead, b"entry ", entry as u64);
     push_word(&mut lead, b": ");
+    // by its number: the figures of the `Refusal` are shorter than those that this line tells
     let answer = Answer {
         number: 20,
         offset: 0,
@@ -219,13 +219,7 @@ fn rejected_line(fragment: Logged, from: usize, rejected: Rejected) -> Line<256>
             display::display(fragment.bytes, fragment.bytes, offset, 0),
         ),
         _ if rows == 0 => refusal_line(b"", answer, b""),
-        Refusal::ArmsDiffer => {
-            refusal_line(
-                b"     ^ ",
-                answer,
-                &arms(fragment, from, rows - 1),
-            )
-        }
+        Refusal::ArmsDiffer => { refusal_line(b"     ^ ", answer, &arms(fragment, from, rows - 1)) }
         _ => refusal_line(b"     ^ ", answer, b""),
     }
 }

@@ -87,3 +87,5 @@ pub scaling-row : (peak : ℕ) (log : List ℕ) (from count scale row main alt t
 scaling-row peak log from count scale row main alt total scale' i l h m a t s =
     let k : row - from + 1 ≡ row + 1 - from = omega arith in
     subst (Scaling peak log from count scale') k (scaling-more peak log from count scale (row - from) row main alt total scale' i (omega arith) (omega arith) m a t s)
+
+pub ruleset loops = (same-more, scaling-row)

@@ -11,8 +11,8 @@ ghost use Rattle.definition_rules.specs.Maps.{Options, rules_by};
 ghost use Rattle.opcodes.specs.Class.{number_of};
 ghost use Rattle.opcodes.specs.Classes.{rows_of};
 ghost use Rattle.text.specs.View.{Puts};
-ghost use Rattle.log_rows.specs.Rows.{offset_at, main_at, alt_at, opcode_at, total_of, scale_of, column, filled, bar, hex, instruction};
-ghost use Rattle.log_rows.specs.Rows.{bytes_field, shown_data, word, indented};
+ghost use Rattle.log_rows.specs.Rows.{offset_at, main_at, alt_at, opcode_at, total_of, scale_of, column, filled, bar};
+ghost use Rattle.log_rows.specs.Rows.{hex, instruction, bytes_field, shown_data, word, indented};
 ghost use Rattle.log_rows.specs.Rows.{live_heights, heights, is_if, depth_after, indent, heading, row_line, row};
 
 use names::Names;
@@ -20,6 +20,7 @@ use opcodes::{Class, Classes};
 use text::{Lent, Line, push_hex, push_labelled, push_number, push_word};
 
 // Appends a byte so many times.
+#[tactic(auto, using(crate::proofs::Rows::loops))]
 fn push_same<const N: usize>(line: &mut Line<N>, byte: u8, count: usize)
     requires { array_vec_len line.old + count ≤ N }
     ensures items { line.new.items ≡ line.old.items ++ replicate count byte }
@@ -45,6 +46,8 @@ fn column<const N: usize>(n: u64) -> Line<N>
 }
 
 // How many places of a bar are filled.
+// That the scale is no less than 1 and no less than n is asked, here and above: n is another number at each call, so that a type
+// for the scale would hold the first half alone.
 fn places(scale: u32, n: u32) -> usize
     requires { (1 ≤ scale) × (n ≤ scale) }
     ensures same { result ≡ filled scale n }
@@ -159,6 +162,7 @@ pub struct LogRow {
 }
 
 /// Row j of the log.
+// The log is lent as numbers, three to a row, as C lends it: who reads a row asks that the log has it.
 pub fn row_at(log: &[u16], j: usize) -> LogRow
     requires { 3 * j + 3 ≤ length log.now }
     ensures { result ≡ record { offset = offset_at log.now j; main = main_at log.now j; alt = alt_at log.now j } }
@@ -262,7 +266,7 @@ fn indent(class: Class, depth: usize) -> usize
     }
 }
 
-/// What was marked, a paper or one of its fragments, with the log that was written and the classes by which it was.
+/// A paper that was marked or a fragment of it, the log that was written, and the classes by which it was marked.
 #[derive(Clone, Copy)]
 pub struct Logged<'a> {
     pub bytes: &'a [u8],
@@ -323,6 +327,7 @@ pub fn heading(scale: u32) -> Line<81>
 }
 
 /// What a whole bar stands for, over `count` rows from row `from` on.
+#[tactic(auto, using(crate::proofs::Rows::loops))]
 pub fn scale_of(peak: u32, log: &[u16], from: usize, count: usize) -> u32
     requires { 3 * (from + count) ≤ length log.now }
     ensures same { result ≡ scale_of peak log.now from count }

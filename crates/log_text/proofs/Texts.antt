@@ -197,3 +197,8 @@ module _ (map : Bytes) (options : Options) {o : Result W.Rules RF.Refusal} (told
         let e : mark_paper_with map options paper lent_log ≡ mark_paper (rules_of map options) paper lent_log =
         judged-ok (λ f. refused_paper 0 f lent_log) (λ R. mark_paper R paper lent_log) map options told h ∙ ap (λ R. mark_paper R paper lent_log) (rules-are map options told h) in
         rw e b
+
+-- how many rows are put
+pub ruleset rows_put = (rows-in, rows-left)
+
+pub ruleset same_rules = (logs-by)

@@ -86,6 +86,7 @@ fn put_refused(out: &mut Lent, paper: Logged, entry: usize, from: usize, rejecte
 }
 
 // Puts all of a marked paper, of at most 330,000 rows.
+#[tactic(auto, using(crate::proofs::Texts::rows_put))]
 fn put_log(out: &mut Lent, paper: Logged, marked: &Marked)
     requires { (m : PaperMarked) × Holds m marked.now paper.log.now }
     ensures same { (options : Maps.Options) (m : PaperMarked)
@@ -127,7 +128,11 @@ fn write_marked<'a>(
         result
         text.new }
 {
-    let paper = Logged { bytes, log, classes };
+    let paper = Logged {
+        bytes,
+        log,
+        classes,
+    };
     let verdict = marked.verdict;
     let mut counted = Lent::new(&mut []);
     put_log(&mut counted, paper, marked);
@@ -154,6 +159,7 @@ pub fn write_log_rows(paper: &[u8], rules: Rules, log: &mut [u16], text: &mut [u
 }
 
 /// The same by the built-in table at 244. Every input comes to its text.
+#[tactic(auto, using(crate::proofs::Texts::same_rules))]
 pub fn write_log(paper: &[u8], log: &mut [u16], text: &mut [u8]) -> LogText
     ensures { Logs
         paper.now
