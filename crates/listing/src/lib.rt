@@ -89,6 +89,7 @@ fn put_listing(text: &mut Lent, fragment: &[u8], names: &Names) -> Result<(), Ma
     ensures puts { IfOk result (λ _. Puts text.old (listing_of fragment.now) text.new) }
 {
     let mut offset = 0;
+    // No `for`: where the next instruction stands is known by the one before it.
     while let Some(instruction) = decode::decode_at(fragment, offset)? {
         put_instruction(text, fragment, &instruction, names);
         offset = instruction.next;

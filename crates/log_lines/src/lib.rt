@@ -32,7 +32,7 @@ pub fn start(paper: &[u8], k: usize) -> Line<256>
     line
 }
 
-// How an accepted fragment ends.
+// How an accepted fragment ends. `end_text` of lines says it in other words: with the words as parameters neither is shorter.
 fn ending(end: Option<Heights>) -> Line<60>
     ensures { result.items ≡ ending end }
 {

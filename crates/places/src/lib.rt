@@ -105,8 +105,8 @@ pub fn write_items(e: &EndStacks, items: &mut [u64])
     if items.len() < 3 * count {
         return;
     }
-    for k in 0..count {
-        items[3 * k..3 * k + 3].copy_from_slice(&item_numbers(e.items[k]));
+    for (k, &item) in e.items[..count].iter().enumerate() {
+        items[3 * k..3 * k + 3].copy_from_slice(&item_numbers(item));
     }
 }
 
@@ -253,8 +253,8 @@ fn write_sitting(number: u32, s: SittingSums, out: &mut [u64])
     out[0] = u64::from(number);
     out[1] = s.sum;
     out[2] = u64::from(s.count);
-    for k in 0..sums::NUMBERS {
-        out[3 + k] = u64::from(s.counts[k]);
+    for (k, &count) in s.counts.iter().enumerate() {
+        out[3 + k] = u64::from(count);
     }
 }
 
