@@ -20,11 +20,10 @@ ghost use Rattle.tally.specs.View.{Gives};
 ghost use Rattle.places.specs.View.{lent_options, written, verdict_numbers, end_numbers, answer_numbers, paper_numbers, sums_numbers, converted_numbers, display_start, part_numbers, tally_from, tally_numbers};
 
 use places::{
-    display_start, paper_number, tally_from, write, write_answer, write_outcome, write_lines, write_paper,
+    display_start, lent_options, paper_number, tally_from, write, write_answer, write_outcome, write_lines, write_paper,
     write_part, write_size, write_sums, write_text, write_verdict,
 };
 use text::Line;
-use walk::Options;
 
 /// The analysis of a fragment from main and alt unknown items: the verdict's number, its other numbers in `out`, and a row
 /// for each instruction met in `log`.
@@ -112,10 +111,7 @@ pub extern "C" fn listochur_analyze_with(
         (analysis_with map.now (lent_options limit mode) fragment.now main alt log.old).verdict)
         out.old }
 {
-    let options = Options {
-        limit,
-        examined: mode != 0,
-    };
+    let options = lent_options(limit, mode);
     let v = stack_analysis::analyze_with(fragment, main, alt, map, options, log);
     write_verdict(&v, items, out)
 }
@@ -179,10 +175,7 @@ pub extern "C" fn listochur_mark_paper_with(
         (paper_numbers (mark_paper_with map.now (lent_options limit mode) paper.now log.old).paper)
         out.old }
 {
-    let options = Options {
-        limit,
-        examined: mode != 0,
-    };
+    let options = lent_options(limit, mode);
     let v = paper::mark_paper_with(paper, map, options, log);
     write_paper(v, out)
 }
@@ -267,10 +260,7 @@ pub extern "C" fn listochur_mark_lines_with(
         out.old }
     ensures short { length (printed_with map.now (lent_options limit mode) paper.now log.old) ≤ 4096 }
 {
-    let options = Options {
-        limit,
-        examined: mode != 0,
-    };
+    let options = lent_options(limit, mode);
     let l = lines::mark_lines_with(paper, map, options, log);
     write_lines(&l, text, out)
 }
@@ -324,10 +314,7 @@ pub extern "C" fn listochur_log_lines_with(
         (length (log_text_with map.now (lent_options limit mode) paper.now log.old) ∷ [])
         out.old }
 {
-    let options = Options {
-        limit,
-        examined: mode != 0,
-    };
+    let options = lent_options(limit, mode);
     let w = log_text::write_log_with(paper, map, options, log, text);
     write_size(w.size, out);
     paper_number(&w.verdict)

@@ -10,7 +10,8 @@ ghost use Rattle.paper.specs.View.{paper_of};
 ghost use Rattle.refusals.specs.View.{numbers_of};
 ghost use Rattle.sums.specs.View.{sums_of};
 ghost use Rattle.tally.specs.View.{tally_of};
-ghost use Rattle.places.specs.View.{written, answer_numbers, paper_numbers, sums_numbers, converted_numbers, display_start, tally_from};
+ghost use Rattle.walk.specs.Runs.{options_of};
+ghost use Rattle.places.specs.View.{lent_options, written, answer_numbers, paper_numbers, sums_numbers, converted_numbers, display_start, tally_from};
 ghost use Rattle.places.specs.Parts.{value_numbers, heights_numbers, told_numbers, in_heights, struct_numbers, ends_numbers};
 ghost use Rattle.stack_analysis.specs.View.{told, EndWithin};
 
@@ -22,6 +23,7 @@ use refusals::{Answer, Refusal, Refused};
 use stack_analysis::{Accepted, Heights, Rejected, Verdict};
 use sums::SittingSums;
 use tally::Tally;
+use walk::Options;
 
 /// Values into the first of the lent places, where there are that many: the rest stays as lent, and all of it where there are
 /// fewer.
@@ -301,6 +303,16 @@ pub fn tally_from(counters: &[u32; 4]) -> Tally
         accepts,
         rows,
         peak,
+    }
+}
+
+/// What a caller lends beside a map: this limit, and this mode, 0 for plain and any other number for the examined one.
+pub fn lent_options(limit: u32, mode: u32) -> Options
+    ensures { options_of result ≡ lent_options limit mode }
+{
+    Options {
+        limit,
+        examined: mode != 0,
     }
 }
 
