@@ -85,21 +85,14 @@ pub fn header_line(paper: &[u8]) -> Line<256>
     refusal_line(b"", answer, &faults::fault_words(paper))
 }
 
-/// The line of the dispatch check.
+/// The line of the dispatch check: which entry, and the sum and the limit of its refusal.
 #[tactic(auto, unfolding(crate::specs::Log::dispatch_line))]
-pub fn dispatch_line(entry: usize, sum: u64, limit: u64) -> Line<256>
-    ensures { result.items ≡ dispatch_line entry sum limit }
+pub fn dispatch_line(entry: usize, answer: Answer) -> Line<256>
+    ensures { answer.number ≡ 20 → result.items ≡ dispatch_line entry answer.first answer.second }
 {
     let mut lead: Line<28> = Line::new();
     push_labelled(&mut lead, b"entry ", entry as u64);
     push_word(&mut lead, b": ");
-    // by its number: the figures of the `Refusal` are shorter than those that this line tells
-    let answer = Answer {
-        number: 20,
-        offset: 0,
-        first: sum,
-        second: limit,
-    };
     refusal_line(&lead, answer, b"")
 }
 
