@@ -20,10 +20,9 @@ ghost use Rattle.tally.specs.View.{Gives};
 ghost use Rattle.places.specs.View.{lent_options, written, verdict_numbers, end_numbers, answer_numbers, paper_numbers, sums_numbers, converted_numbers, display_start, part_numbers, tally_from, tally_numbers};
 
 use places::{
-    display_start, lent_options, paper_number, tally_from, write, write_answer, write_outcome, write_lines, write_paper,
-    write_part, write_size, write_sums, write_text, write_verdict,
+    display_start, lent_options, paper_number, tally_from, write, write_answer, write_lines,
+    write_outcome, write_paper, write_part, write_size, write_sums, write_text, write_verdict,
 };
-use text::Line;
 
 /// The analysis of a fragment from main and alt unknown items: the verdict's number, its other numbers in `out`, and a row
 /// for each instruction met in `log`.
@@ -335,9 +334,7 @@ pub extern "C" fn listochur_reason(
     ensures written { out.new ≡ written (length (reason number first second) ∷ []) out.old }
     ensures short { length (reason number first second) ≤ 80 }
 {
-    let mut words = Line::<80>::new();
-    reasons::push_reason(&mut words, number, first, second);
-    write_text(&words, text, out);
+    write_text(&reasons::reason(number, first, second), text, out);
     number
 }
 

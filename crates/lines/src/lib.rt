@@ -19,18 +19,18 @@ use stack_analysis::{Accepted, Heights};
 use text::{Line, push_labelled, push_word};
 use walk::{Options, Rules};
 
-/// Appends the name of fragment k of a paper with so many entries: `entry k`, or `state` at the initialiser.
+/// The name of fragment k of a paper with so many entries: `entry k`, or `state` at the initialiser.
 #[tactic(auto, using(crate::proofs::Fragments::names))]
-pub fn push_name<const N: usize>(line: &mut Line<N>, entries: usize, k: usize)
-    requires { array_vec_len line.old + 26 ≤ N }
-    ensures items { line.new.items ≡ line.old.items ++ name entries k }
-    ensures short { array_vec_len line.new ≤ array_vec_len line.old + 26 }
+pub fn name(entries: usize, k: usize) -> Line<26>
+    ensures { result.items ≡ name entries k }
 {
+    let mut line = Line::new();
     if k < entries {
-        push_labelled(line, b"entry ", k as u64);
+        push_labelled(&mut line, b"entry ", k as u64);
     } else {
-        push_word(line, b"state");
+        push_word(&mut line, b"state");
     }
+    line
 }
 
 // How a fragment ends: `end M A`, or `end none`.
@@ -53,7 +53,7 @@ fn accepted_line(entries: usize, k: usize, fragment: Accepted<Heights>) -> Line<
     ensures { result.items ≡ told_line entries k fragment.peak fragment.end }
 {
     let mut line = Line::new();
-    push_name(&mut line, entries, k);
+    push_word(&mut line, &name(entries, k));
     push_labelled(&mut line, b" peak ", u64::from(fragment.peak));
     push_word(&mut line, &end_text(fragment.end));
     push_word(&mut line, b"\n");

@@ -24,7 +24,7 @@ pub fn start(paper: &[u8], k: usize) -> Line<256>
 {
     let fragment = fragments::fragment_at(paper, k);
     let mut line = Line::new();
-    lines::push_name(&mut line, header::entry_count(paper), k);
+    push_word(&mut line, &lines::name(header::entry_count(paper), k));
     push_labelled(&mut line, b": length ", fragment.bytes.len() as u64);
     push_labelled(&mut line, b", from main ", u64::from(fragment.main));
     push_labelled(&mut line, b" alt ", u64::from(fragment.alt));
@@ -69,7 +69,8 @@ pub fn refusal_line(lead: &[u8], answer: Answer, more: &[u8]) -> Line<256>
     push_word(&mut line, lead);
     push_labelled(&mut line, b"refused ", u64::from(answer.number));
     push_word(&mut line, b", ");
-    reasons::push_reason(&mut line, answer.number, answer.first, answer.second);
+    let reason = reasons::reason(answer.number, answer.first, answer.second);
+    push_word(&mut line, &reason);
     push_word(&mut line, more);
     push_word(&mut line, b"\n");
     line
@@ -80,26 +81,18 @@ pub fn refusal_line(lead: &[u8], answer: Answer, more: &[u8]) -> Line<256>
 pub fn header_line(paper: &[u8]) -> Line<256>
     ensures { result.items ≡ header_line paper.now }
 {
-    let mut fault: Line<110> = Line::new();
-    faults::push_fault(&mut fault, paper);
-    refusal_line(b"", Err(Refusal::BadHeader.into()).into(), &fault)
+    let answer = Err(Refusal::BadHeader.into()).into();
+    refusal_line(b"", answer, &faults::fault_words(paper))
 }
 
-/// The line of the dispatch check.
+/// The line of the dispatch check: which entry, and the sum and the limit of its refusal.
 #[tactic(auto, unfolding(crate::specs::Log::dispatch_line))]
-pub fn dispatch_line(entry: usize, sum: u64, limit: u64) -> Line<256>
-    ensures { result.items ≡ dispatch_line entry sum limit }
+pub fn dispatch_line(entry: usize, answer: Answer) -> Line<256>
+    ensures { answer.number ≡ 20 → result.items ≡ dispatch_line entry answer.first answer.second }
 {
     let mut lead: Line<28> = Line::new();
     push_labelled(&mut lead, b"entry ", entry as u64);
     push_word(&mut lead, b": ");
-    // by its number: the figures of the `Refusal` are shorter than those that this line tells
-    let answer = Answer {
-        number: 20,
-        offset: 0,
-        first: sum,
-        second: limit,
-    };
     refusal_line(&lead, answer, b"")
 }
 

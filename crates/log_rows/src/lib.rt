@@ -3,10 +3,11 @@
 
 #![tactic(auto)]
 
-ghost use Rattle.std.specs.Prelude.{◌≡◌, ◌++◌, ◌+◌, ◌*◌, ◌≤◌, ◌-◌, ◌^◌, ◌<◌, length, get_or, replicate};
+ghost use Rattle.std.specs.Prelude.{◌≡◌, ◌++◌, ◌+◌, ◌*◌, ◌≤◌, ◌-◌, ◌^◌, ◌<◌, ltb, length, take, get_or, replicate};
 ghost use Rattle.arrayvec.specs.ArrayVec.{array_vec_len};
+ghost use Rattle.definition.specs.Basics.{pick};
 ghost use Rattle.definition.specs.Classes.{class_at};
-ghost use Rattle.definition.specs.Lines.{decimal};
+ghost use Rattle.definition.specs.Lines.{text, decimal};
 ghost use Rattle.definition_rules.specs.Maps.{Options, rules_by};
 ghost use Rattle.opcodes.specs.Class.{number_of};
 ghost use Rattle.opcodes.specs.Classes.{rows_of};
@@ -82,14 +83,15 @@ fn push_hex_bytes<const N: usize>(line: &mut Line<N>, bytes: &[u8])
     }
 }
 
-/// The bytes of an instruction: at most 4 of them.
-#[tactic(auto, unfolding(crate::specs::Rows::instruction))]
-pub fn instruction(bytes: &[u8]) -> Line<15>
-    ensures { result.items ≡ instruction bytes.now }
+// Bytes in hexadecimal: of more than 4 so many, and ` ..`.
+fn shown_bytes<const N: usize>(bytes: &[u8], shown: usize) -> Line<N>
+    requires { (shown ≤ 4) × (3 * shown + 3 ≤ N) × (12 ≤ N) }
+    ensures { result.items
+        ≡ pick (ltb 4 (length bytes.now)) (hex (take shown bytes.now) ++ text " ..") (hex bytes.now) }
 {
     let mut line = Line::new();
     if bytes.len() > 4 {
-        push_hex_bytes(&mut line, &bytes[..4]);
+        push_hex_bytes(&mut line, &bytes[..shown]);
         push_word(&mut line, b" ..");
     } else {
         push_hex_bytes(&mut line, bytes);
@@ -97,19 +99,22 @@ pub fn instruction(bytes: &[u8]) -> Line<15>
     line
 }
 
+/// The bytes of an instruction: at most 4 of them.
+#[tactic(auto, using(crate::proofs::Rows::shown), unfolding(crate::specs::Rows::instruction))]
+pub fn instruction(bytes: &[u8]) -> Line<15>
+    ensures { result.items ≡ instruction bytes.now }
+{
+    shown_bytes(bytes, 4)
+}
+
 // The bytes of an instruction in a field of 12 columns.
-#[tactic(auto, unfolding(crate::specs::Rows::bytes_field))]
+#[tactic(auto, using(crate::proofs::Rows::shown), unfolding(crate::specs::Rows::bytes_field))]
 fn bytes_field(bytes: &[u8]) -> Line<12>
     ensures { result.items ≡ bytes_field bytes.now }
 {
-    let mut line = Line::new();
-    if bytes.len() > 4 {
-        push_hex_bytes(&mut line, &bytes[..3]);
-        push_word(&mut line, b" ..");
-    } else {
-        push_hex_bytes(&mut line, bytes);
-        push_same(&mut line, b' ', 12 - 3 * bytes.len());
-    }
+    let mut line = shown_bytes(bytes, 3);
+    let blanks = 12 - line.len();
+    push_same(&mut line, b' ', blanks);
     line
 }
 
@@ -139,6 +144,7 @@ fn put_word(text: &mut Lent, bytes: &[u8], names: &Names)
 }
 
 // The word of an instruction so far to the right, as 26 columns allow.
+// Its letters and their size stand beside: words are put into lent bytes, which a `Line` does not lend.
 #[tactic(auto, unfolding(crate::specs::Rows::indented))]
 fn indented(right: usize, bytes: &[u8]) -> Line<26>
     ensures { result.items ≡ indented right (word bytes.now) }

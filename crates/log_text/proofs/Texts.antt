@@ -18,7 +18,8 @@ use Rattle.definition.specs.Refusals as D
 use Rattle.definition_rules.specs.Maps.{Options, good_map, good_limit, rules_of, judged, mark_paper_with}
 use Rattle.definition.specs.Stacks.{Rules}
 use Rattle.refusals.proofs.OneForm.{refused-some}
-use Rattle.refusals.specs.View.{refusal_of, answer_of}
+use Rattle.refusals.specs.View.{refusal_of, answer_of, numbers_of}
+use Rattle.refusals.specs.declared.Answer as RA
 use Rattle.refusals.specs.declared.Refusal as RF
 use Rattle.refusals.specs.declared.Refusal.TheVariants.{BadHeader, DispatchTooLarge, LongPaper, BadMap, BadLimit}
 use Rattle.walk.specs.declared.Rules as W
@@ -132,10 +133,14 @@ module _ (R : Rules) (paper : Bytes) (log : List ℕ) (entry from : ℕ) (r : Re
   unfolding refused
   refused-header e s w = rw e (puts_as s w)
 
-  pub refused-dispatch : {sum limit : ℕ} → r.refused.refusal ≡ DispatchTooLarge sum limit → {x y : Lent} {shown : Bytes} → shown ≡ dispatch_line entry sum limit → Puts x shown y
-      → Puts x what y
+  -- the answer in numbers tells the sum and the limit
+  pub refused-dispatch : {sum limit : ℕ} → r.refused.refusal ≡ DispatchTooLarge sum limit → {a : RA.Answer} → numbers_of a ≡ answer_of r.refused → {line : Bytes}
+      → (a.number ≡ 20 → line ≡ dispatch_line entry a.first a.second) → {x y : Lent} {shown : Bytes} → shown ≡ line → Puts x shown y → Puts x what y
   unfolding refused
-  refused-dispatch e s w = rw e (puts_as s w)
+  refused-dispatch e {a} n l s w =
+      let m = n ∙ ap (λ (f : RF.Refusal). refused_at r.refused.offset (refusal_of f)) e in
+      let t = l (ap (λ (x : Answer). x.number) m) ∙ ap (λ (x : Answer). dispatch_line entry x.first x.second) m in
+      rw e (puts_as (s ∙ t) w)
 
   pub refused-fragment : ((l : ℕ) → r.refused.refusal ≡ LongPaper l → ⊥) → (r.refused.refusal ≡ BadMap → ⊥) → (r.refused.refusal ≡ BadLimit → ⊥)
       → (r.refused.refusal ≡ BadHeader → ⊥) → ((sum limit : ℕ) → r.refused.refusal ≡ DispatchTooLarge sum limit → ⊥)

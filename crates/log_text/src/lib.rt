@@ -72,15 +72,13 @@ fn put_refused(out: &mut Lent, paper: Logged, entry: usize, from: usize, rejecte
         out.new }
     ensures near { out.new.size ≤ out.old.size + 256 * (rejected.rows + 3) }
 {
+    let answer = Answer::from(Err(rejected.refused));
     match rejected.refused.refusal {
         Refusal::LongPaper { .. } | Refusal::BadMap | Refusal::BadLimit => {
-            let answer = Answer::from(Err(rejected.refused));
             out.put(&log_lines::refusal_line(b"", answer, b""))
         }
         Refusal::BadHeader => out.put(&log_lines::header_line(paper.bytes)),
-        Refusal::DispatchTooLarge { sum, limit } => {
-            out.put(&log_lines::dispatch_line(entry, u64::from(sum), u64::from(limit)))
-        }
+        Refusal::DispatchTooLarge { .. } => out.put(&log_lines::dispatch_line(entry, answer)),
         _ => log_blocks::put_block(out, paper, entry, from, Err(rejected)),
     }
 }

@@ -2,7 +2,7 @@ use mathlib.Core.Path.{ap, ◌∙◌}
 use Rattle.definition.specs.Refusals.{Answer}
 use Rattle.definition_rules.specs.Maps.{rules_by}
 use Rattle.opcodes.specs.Classes.{rows_of as class_rows}
-use Rattle.log_lines.specs.Log.{refusal_line, dispatch_line}
+use Rattle.log_lines.specs.Log.{refusal_line}
 use mathlib.Core.List.{[]}
 use Rattle.log_text.proofs.Texts.{refused-told, refused-header, refused-dispatch, refused-fragment}
 use Rattle.log_text.proofs.put_refused.Goals as goal
@@ -19,10 +19,8 @@ returns-in-BadHeader-clause-same c = λ options.
 
 pub returns-in-DispatchTooLarge-clause-same : goal.returns-in-DispatchTooLarge-clause-same
 returns-in-DispatchTooLarge-clause-same c = λ options.
-    refused-dispatch (rules_by (class_rows c.args.paper.classes) options) c.args.paper.bytes.now c.args.paper.log.now c.args.entry c.args.from c.args.rejected c.in-DispatchTooLarge.is
-    (c.deref-in-DispatchTooLarge.ensures.0 ∙ c.dispatch_line.ensures
-    ∙ ap (λ n. dispatch_line c.args.entry n c.from-in-DispatchTooLarge.result) c.from.ensures ∙ ap (dispatch_line c.args.entry c.in-DispatchTooLarge.sum) c.from-in-DispatchTooLarge.ensures)
-    c.put-in-DispatchTooLarge.ensures
+    refused-dispatch (rules_by (class_rows c.args.paper.classes) options) c.args.paper.bytes.now c.args.paper.log.now c.args.entry c.args.from c.args.rejected c.in-DispatchTooLarge.is c.from-answer.ensures
+    c.dispatch_line.ensures c.deref-in-DispatchTooLarge.ensures.0 c.put-in-DispatchTooLarge.ensures
 
 pub returns-in_default : goal.returns-in_default
 returns-in_default c = record {
