@@ -67,6 +67,7 @@ pub fn arm(
     requires depth_bound { depth ≤ 24 }
     ensures { Walks (rules_in rules.entry) code.now depth w.old log.old w.new result log.new }
 {
+    // no `for`: how often it turns is known where the arm ends
     loop {
         match walk::plain(code, log, rules, w)? {
             Stop::Conditional => conditional(code, log, rules, w, depth)?,

@@ -1,6 +1,6 @@
 -- What the answers of the assembler stand for in the definitions of listings.
-use Rattle.std.specs.Prelude.{[], ◌∷◌, ◌≡◌, ℕ, suc, eqb, length, Result, Ok, Err}
-use Rattle.definition.specs.Basics.{Bytes, pick}
+use Rattle.std.specs.Prelude.{[], ◌≡◌, ℕ, length, Result, Ok, Err}
+use Rattle.definition.specs.Basics.{Bytes}
 use Rattle.definition_listings.specs.Assembling.{Assembly, gives, strange, words, assembly}
 use Rattle.definition_listings.specs.Listing as L
 use Rattle.refusals.specs.View.{answer_of}
@@ -11,11 +11,6 @@ use Rattle.refusals.specs.declared.Refused.{Refused}
 abbrev pub converted_of : Result ℕ Refused → Bytes → L.Converted
 converted_of (Ok size) out = record { number = 0; offset = 0; size = size; out = out }
 converted_of (Err refused) out = L.unwritten (answer_of refused) out
-
--- how many letters stand before the first space
-abbrev pub letters_before : Bytes → ℕ
-letters_before [] = 0
-letters_before (c ∷ l) = pick (eqb c 32) 0 (suc (letters_before l))
 
 -- an answer of `judge`: how many bytes a listing gives, or where its first strange word is
 abbrev pub judged_of : Assembly → Result ℕ Refused

@@ -2,71 +2,48 @@
 
 #![tactic(auto)]
 
-ghost use Rattle.std.specs.Prelude.{◌≡◌, ◌+◌, ◌≤◌, length, drop};
-ghost use Rattle.assembling.specs.View.{converted_of, letters_before, judged_of, given_by, assembly_of, Good};
+ghost use Rattle.std.specs.Prelude.{◌≡◌};
+ghost use Rattle.assembling.specs.View.{converted_of, judged_of, given_by, assembly_of, Good};
 ghost use Rattle.definition_listings.specs.Assembling.{assembled};
-ghost use Rattle.text.specs.View.{Written};
+ghost use Rattle.text.specs.View.{Puts};
 
 use names::Names;
 use refusals::{Refusal, Refused};
+use text::Lent;
 
-// Where the word that starts at an index ends: at the next space, or with the listing.
-fn word_end(listing: &[u8], start: usize) -> usize
-    requires { start ≤ length listing.now }
-    ensures same { result ≡ start + letters_before (drop start listing.now) }
-    ensures within { (start ≤ result) × (result ≤ length listing.now) }
-{
-    let rest = &listing[start..];
-    start
-        + rest
-            .iter()
-            .position(|&letter| letter == b' ')
-            .unwrap_or(rest.len())
-}
-
-// How many bytes the words of a listing give, or where the first strange word is.
+// How many bytes the words of a listing give, or where the first strange word is. Apart from `put_words`, which judges no digit: with
+// the digits judged in both passes one long push took 2.49 times as long as in a plain version.
 fn judge(listing: &[u8], names: &Names) -> Result<usize, Refused>
     ensures { result ≡ judged_of (assembly_of listing.now) }
 {
     if listing.is_empty() {
         return Ok(0);
     }
-    let mut at = 0;
+    let mut offset = 0;
     let mut size = 0;
-    loop {
-        let end = word_end(listing, at);
-        let Some(count) = words::word_size(&listing[at..end], names) else {
+    for word in listing.split(|&letter| letter == b' ') {
+        let Some(count) = words::word_size(word, names) else {
             return Err(Refused {
-                offset: at,
+                offset,
                 refusal: Refusal::StrangeWord,
             });
         };
         size += count;
-        if end == listing.len() {
-            return Ok(size);
-        }
-        at = end + 1;
+        offset += word.len() + 1;
     }
+    Ok(size)
 }
 
-// Writes the bytes of all words of a listing.
-fn write_words(out: &mut [u8], listing: &[u8], names: &Names) -> usize
-    requires good { Good listing.now }
-    requires room { length (given_by (assembly_of listing.now)) ≤ length out.old }
-    ensures { Written out.old 0 (given_by (assembly_of listing.now)) out.new result }
+// Puts the bytes of all words of a listing.
+fn put_words(text: &mut Lent, listing: &[u8], names: &Names)
+    requires { Good listing.now }
+    ensures { Puts text.old (given_by (assembly_of listing.now)) text.new }
 {
     if listing.is_empty() {
-        return 0;
+        return;
     }
-    let mut at = 0;
-    let mut next = 0;
-    loop {
-        let end = word_end(listing, at);
-        next = word_bytes::write_bytes(out, next, &listing[at..end], names);
-        if end == listing.len() {
-            return next;
-        }
-        at = end + 1;
+    for word in listing.split(|&letter| letter == b' ') {
+        word_bytes::put_bytes(text, word, names);
     }
 }
 
@@ -80,6 +57,6 @@ pub fn assemble(listing: &[u8], out: &mut [u8]) -> Result<usize, Refused>
     if out.len() < size {
         return Err(Refusal::OutputShort.into());
     }
-    write_words(out, listing, &names);
+    put_words(&mut Lent::new(out), listing, &names);
     Ok(size)
 }

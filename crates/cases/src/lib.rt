@@ -3,7 +3,8 @@
 
 #![tactic(auto)]
 
-ghost use Rattle.std.specs.Prelude.{◌≡◌, ◌<◌, ◌≤◌, length, IfSome};
+ghost use Rattle.std.specs.Prelude.{◌≡◌, ◌<◌, ◌≤◌, length, IfSome, IfNone, Some, None};
+ghost use Rattle.cases.specs.Decimals.{decimal, numbers_in};
 ghost use Rattle.cases.specs.Digits.{hex_digit, octet_at};
 ghost use Rattle.cases.specs.Ranges.{IsBehind};
 
@@ -22,8 +23,11 @@ pub struct Part<'a> {
 }
 
 // A decimal number: one digit or more, below 2^32, and nothing else.
-fn number(text: &[u8]) -> Option<u32> {
-    if !text.iter().all(u8::is_ascii_digit) {
+fn number(text: &[u8]) -> Option<u32>
+    ensures { result ≡ decimal text.now }
+{
+    // a plus sign is taken by `parse`, and by no case
+    if text.starts_with(b"+") {
         return None;
     }
     str::from_utf8(text).ok()?.parse::<u32>().ok()
@@ -116,12 +120,23 @@ pub fn next_part<'a>(line: &'a [u8], code: &mut [u8]) -> Option<Part<'a>>
     })
 }
 
-/// The numbers to the end of the line, parted by spaces, if they are so many.
-pub fn numbers<const N: usize>(line: &[u8]) -> Option<[u32; N]> {
+// The numbers to the end of the line, parted by spaces, if they are as many as values.
+fn read_numbers(line: &[u8], values: &mut [u32]) -> Option<()>
+    ensures some { IfSome result (λ u. numbers_in (length values.new) line.now ≡ Some values.new) }
+    ensures none { IfNone result (numbers_in (length values.new) line.now ≡ None) }
+{
     let mut texts = line.split(|&b| b == b' ');
-    let mut values = [0; N];
-    for value in &mut values {
+    for value in &mut *values {
         *value = number(texts.next()?)?;
     }
-    texts.next().is_none().then_some(values)
+    texts.next().is_none().then_some(())
+}
+
+/// The numbers to the end of the line, parted by spaces, if they are so many.
+pub fn numbers<const N: usize>(line: &[u8]) -> Option<[u32; N]>
+    ensures { result ≡ numbers_in N line.now }
+{
+    let mut values = [0; N];
+    read_numbers(line, &mut values)?;
+    Some(values)
 }

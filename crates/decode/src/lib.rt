@@ -16,6 +16,7 @@ use refusals::{Refusal, Refused};
 use thiserror::Error;
 
 /// What is known of an item: nothing, or its length and its bytes as one number, the first byte the lowest.
+// It has names of its own, and is no `Option` of a pair: a form of the project.
 #[derive(Clone, Copy, Debug, PartialEq, Eq)]
 pub enum Value {
     Unknown,
@@ -209,6 +210,7 @@ pub fn count_instructions(fragment: &[u8]) -> Result<usize, Malformed>
 {
     let mut offset = 0;
     let mut count = 0;
+    // no `for`: where the next instruction starts is in the last one, and an iterator would have to keep that it has failed besides
     while let Some(instruction) = decode_at(fragment, offset)? {
         offset = instruction.next;
         count += 1;

@@ -20,15 +20,13 @@ ghost use Rattle.tally.specs.View.{Gives};
 ghost use Rattle.places.specs.View.{lent_options, written, verdict_numbers, end_numbers, answer_numbers, paper_numbers, sums_numbers, converted_numbers, display_start, part_numbers, tally_from, tally_numbers};
 
 use places::{
-    display_start, tally_from, write, write_answer, write_converted, write_lines, write_paper,
-    write_part, write_size, write_sums, write_text, write_verdict,
+    display_start, lent_options, paper_number, tally_from, write, write_answer, write_lines,
+    write_outcome, write_paper, write_part, write_size, write_sums, write_text, write_verdict,
 };
-use text::Line;
-use walk::Options;
 
 /// The analysis of a fragment from main and alt unknown items: the verdict's number, its other numbers in `out`, and a row
 /// for each instruction met in `log`.
-#[tactic(auto, unfolding(stack_analysis::specs::View::summarized))]
+#[tactic(auto, using(places::proofs::Items::verdicts))]
 #[unsafe(no_mangle)]
 pub extern "C" fn listochur_analyze(
     fragment: &[u8],
@@ -112,10 +110,7 @@ pub extern "C" fn listochur_analyze_with(
         (analysis_with map.now (lent_options limit mode) fragment.now main alt log.old).verdict)
         out.old }
 {
-    let options = Options {
-        limit,
-        examined: mode != 0,
-    };
+    let options = lent_options(limit, mode);
     let v = stack_analysis::analyze_with(fragment, main, alt, map, options, log);
     write_verdict(&v, items, out)
 }
@@ -147,7 +142,6 @@ pub extern "C" fn listochur_check_limits(bytecode: &[u8], out: &mut [u64]) -> u3
 
 /// The marking of a paper: the verdict's number, its numbers and the entry that it is about in `out`, and the rows of all
 /// fragments in `log`.
-#[tactic(auto, unfolding(paper::specs::View::paper_of))]
 #[unsafe(no_mangle)]
 pub extern "C" fn listochur_mark_paper(paper: &[u8], log: &mut [u16], out: &mut [u64]) -> u32
     ensures number { result
@@ -163,7 +157,6 @@ pub extern "C" fn listochur_mark_paper(paper: &[u8], log: &mut [u16], out: &mut 
 }
 
 /// The marking of a paper by a lent map and a lent limit, in a mode: as `listochur_mark_paper`, 28 and then 29 before all else.
-#[tactic(auto, unfolding(paper::specs::View::paper_of))]
 #[unsafe(no_mangle)]
 pub extern "C" fn listochur_mark_paper_with(
     paper: &[u8],
@@ -181,10 +174,7 @@ pub extern "C" fn listochur_mark_paper_with(
         (paper_numbers (mark_paper_with map.now (lent_options limit mode) paper.now log.old).paper)
         out.old }
 {
-    let options = Options {
-        limit,
-        examined: mode != 0,
-    };
+    let options = lent_options(limit, mode);
     let v = paper::mark_paper_with(paper, map, options, log);
     write_paper(v, out)
 }
@@ -269,10 +259,7 @@ pub extern "C" fn listochur_mark_lines_with(
         out.old }
     ensures short { length (printed_with map.now (lent_options limit mode) paper.now log.old) ≤ 4096 }
 {
-    let options = Options {
-        limit,
-        examined: mode != 0,
-    };
+    let options = lent_options(limit, mode);
     let l = lines::mark_lines_with(paper, map, options, log);
     write_lines(&l, text, out)
 }
@@ -299,7 +286,7 @@ pub extern "C" fn listochur_log_lines(
 {
     let l = log_text::write_log(paper, log, text);
     write_size(l.size, out);
-    l.number
+    paper_number(&l.verdict)
 }
 
 /// The same by a lent map and a lent limit, in a mode, 28 and then 29 before all else.
@@ -326,13 +313,10 @@ pub extern "C" fn listochur_log_lines_with(
         (length (log_text_with map.now (lent_options limit mode) paper.now log.old) ∷ [])
         out.old }
 {
-    let options = Options {
-        limit,
-        examined: mode != 0,
-    };
+    let options = lent_options(limit, mode);
     let w = log_text::write_log_with(paper, map, options, log, text);
     write_size(w.size, out);
-    w.number
+    paper_number(&w.verdict)
 }
 
 /// A verdict's number and figures in words, in `text` where it has room: the number, and the size of the words in `out`. A number
@@ -350,9 +334,7 @@ pub extern "C" fn listochur_reason(
     ensures written { out.new ≡ written (length (reason number first second) ∷ []) out.old }
     ensures short { length (reason number first second) ≤ 80 }
 {
-    let mut words = Line::<80>::new();
-    reasons::push_reason(&mut words, number, first, second);
-    write_text(&words, text, out);
+    write_text(&reasons::reason(number, first, second), text, out);
     number
 }
 
@@ -397,7 +379,7 @@ pub extern "C" fn listochur_assemble(text: &[u8], fragment: &mut [u8], out: &mut
         (converted_numbers (assembled text.now fragment.old))
         out.old }
 {
-    write_converted(assembling::assemble(text, fragment), out)
+    write_outcome(assembling::assemble(text, fragment), out)
 }
 
 /// A fragment listed into a lent text: 0, 3 or 27, and number, offset and bytes written in `out`. A refusal leaves the text as it
@@ -409,5 +391,5 @@ pub extern "C" fn listochur_list(fragment: &[u8], text: &mut [u8], out: &mut [u6
     ensures written { out.new
         ≡ written (converted_numbers (listed fragment.now text.old)) out.old }
 {
-    write_converted(listing::list(fragment, text), out)
+    write_outcome(listing::list(fragment, text), out)
 }

@@ -2,17 +2,15 @@
 
 #![tactic(auto)]
 
-ghost use Rattle.std.proofs.Math.Option.{some};
-ghost use Rattle.std.specs.Prelude.{◌≡◌, ◌++◌, ℕ, ◌+◌, ◌-◌, ◌^◌, ◌≤◌, length};
+ghost use Rattle.std.specs.Prelude.{◌≡◌, ℕ, ◌-◌, ◌^◌, ◌≤◌, length};
 ghost use Rattle.good_header.specs.View.{parts_from};
 ghost use Rattle.header.specs.View.{part_of};
-ghost use Rattle.arrayvec.specs.ArrayVec.{array_vec_len};
 ghost use Rattle.faults.specs.Faults.{short_paper, bad_count, cut_header, in_header, past_paper, sharing, shared_with};
-ghost use Rattle.faults.specs.Faults.{part_fault, fault, part_name, fault_words};
+ghost use Rattle.faults.specs.Faults.{part_fault, fault, part_name, fault_text, fault_words};
 ghost use Rattle.faults.specs.View.{fault_of, found_of, shared_of};
 
 use header::{Part, nth_part};
-use text::{Line, push_labelled, push_word};
+use text::{Line, push_labelled, push_number, push_word};
 
 /// A fault; parts are counted from 0, the initialiser and then the bodies.
 #[derive(Clone, Copy, Debug, PartialEq, Eq)]
@@ -80,67 +78,66 @@ pub fn find(paper: &[u8]) -> Option<Fault>
     }
 }
 
-// Appends the name of a part.
+// The name of a part.
 #[tactic(auto, using(crate::proofs::Words::body_name))]
-fn push_part<const N: usize>(line: &mut Line<N>, part: usize)
-    requires { array_vec_len line.old + 38 ≤ N }
-    ensures items { line.new.items ≡ line.old.items ++ part_name part }
-    ensures short { array_vec_len line.new ≤ array_vec_len line.old + 38 }
+fn part_name(part: usize) -> Line<38>
+    ensures { result.items ≡ part_name part }
 {
+    let mut line = Line::new();
     if part == 0 {
-        push_word(line, b"the initialiser");
+        push_word(&mut line, b"the initialiser");
     } else {
-        push_labelled(line, b"the body of entry ", (part - 1) as u64);
+        push_labelled(&mut line, b"the body of entry ", (part - 1) as u64);
     }
+    line
 }
 
-// Appends the words of a fault behind `: `.
-#[tactic(auto, unfolding(crate::specs::Faults::fault_words))]
-fn push_words<const N: usize>(line: &mut Line<N>, f: Fault)
-    requires { array_vec_len line.old + 110 ≤ N }
-    ensures items { line.new.items ≡ line.old.items ++ fault_words (some (fault_of f)) }
-    ensures short { array_vec_len line.new ≤ array_vec_len line.old + 110 }
+// A fault in words.
+#[tactic(auto, using(text::proofs::Texts::printed))]
+fn fault_text(f: Fault) -> Line<108>
+    ensures { result.items ≡ fault_text (fault_of f) }
 {
+    let mut line = Line::new();
     match f {
         Fault::Short { bytes } => {
-            push_labelled(line, b": ", bytes as u64);
-            push_word(line, b" bytes, fewer than 8");
+            push_number(&mut line, bytes as u64);
+            push_word(&mut line, b" bytes, fewer than 8");
         }
         Fault::Count { entries } => {
-            push_labelled(line, b": entries ", u64::from(entries));
-            push_word(line, b", 1 to 32 allowed");
+            push_labelled(&mut line, b"entries ", u64::from(entries));
+            push_word(&mut line, b", 1 to 32 allowed");
         }
         Fault::Cut { entries, bytes } => {
-            push_labelled(line, b": ", u64::from(entries));
-            push_labelled(line, b" entries need ", 8 + 6 * u64::from(entries));
-            push_labelled(line, b" bytes, the paper has ", bytes as u64);
+            push_number(&mut line, u64::from(entries));
+            push_labelled(&mut line, b" entries need ", 8 + 6 * u64::from(entries));
+            push_labelled(&mut line, b" bytes, the paper has ", bytes as u64);
         }
         Fault::Inside { part } => {
-            push_word(line, b": ");
-            push_part(line, part);
-            push_word(line, b" starts in the header");
+            push_word(&mut line, &part_name(part));
+            push_word(&mut line, b" starts in the header");
         }
         Fault::Past { part } => {
-            push_word(line, b": ");
-            push_part(line, part);
-            push_word(line, b" ends past the paper");
+            push_word(&mut line, &part_name(part));
+            push_word(&mut line, b" ends past the paper");
         }
         Fault::Shared { part, other } => {
-            push_word(line, b": ");
-            push_part(line, part);
-            push_word(line, b" shares a byte with ");
-            push_part(line, other);
+            push_word(&mut line, &part_name(part));
+            push_word(&mut line, b" shares a byte with ");
+            push_word(&mut line, &part_name(other));
         }
     }
+    line
 }
 
-/// Appends what is wrong with the header of a paper, in words behind `: `; nothing where nothing is.
-pub fn push_fault<const N: usize>(line: &mut Line<N>, paper: &[u8])
-    requires { array_vec_len line.old + 110 ≤ N }
-    ensures items { line.new.items ≡ line.old.items ++ fault_words (fault paper.now) }
-    ensures short { array_vec_len line.new ≤ array_vec_len line.old + 110 }
+/// What is wrong with the header of a paper, in words behind `: `; nothing where nothing is.
+#[tactic(auto, unfolding(crate::specs::Faults::fault_words))]
+pub fn fault_words(paper: &[u8]) -> Line<110>
+    ensures { result.items ≡ fault_words (fault paper.now) }
 {
+    let mut line = Line::new();
     if let Some(fault) = find(paper) {
-        push_words(line, fault);
+        push_word(&mut line, b": ");
+        push_word(&mut line, &fault_text(fault));
     }
+    line
 }

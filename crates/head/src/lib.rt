@@ -11,6 +11,8 @@ ghost use Rattle.head.specs.View.{left, offset_after};
 
 use decode::{Instruction, Malformed};
 
+/// The head, over a fragment and at an offset of it: a form of the project.
+// It is no `Iterator`: at a malformed instruction it would give the same error for ever.
 #[derive(Clone, Copy, Debug)]
 pub struct Head<'a> {
     pub fragment: &'a [u8],

@@ -1,4 +1,5 @@
 // Reading a paper: its fields, its parts, its entries, the dispatch check.
+// A paper is a slice, and no struct over one: it would have no fact to keep.
 
 #![tactic(auto)]
 
@@ -49,7 +50,7 @@ impl Part {
     pub fn end(self) -> usize
         ensures { result ≡ self.offset + self.size }
     {
-        usize::from(self.offset) + usize::from(self.size)
+        self.start() + usize::from(self.size)
     }
 
     /// The bytes of the part, as far as the paper has them.

@@ -20,6 +20,7 @@ pub fn read_input<R: Read>(source: &mut R, buf: &mut [u8]) -> io::Result<usize>
     ensures end { IfOk result (λ size. size < length buf.new → IsAtEnd (R.remaining source.new)) }
 {
     let mut n = 0;
+    // No `for`: how far a turn goes is what its read gives.
     while n < buf.len() {
         let more = source.read(&mut buf[n..])?;
         if more == 0 {

@@ -1,26 +1,28 @@
--- Laws of the lines: their parts by the tests of the code, and the lines of a paper one behind another.
-use mathlib.Core.Bool.{Bool, true, false}
-use mathlib.Core.List.{List, [], ◌∷◌, ◌++◌, append_assoc, append-nil}
+-- Laws of the lines: their parts by the tests of the code, and the lines of a marked paper one behind another.
+use mathlib.Core.List.{List, [], ◌∷◌, ◌++◌, map, append_assoc, append-nil}
 use mathlib.Core.Path.{◌≡◌, refl, sym, ap, ◌∙◌}
-use Prim.Native.Nat.{ℕ, ◌+◌, ◌*◌, ◌≤◌, ◌<◌, max}
+use Prim.Native.Nat.{ℕ, suc, ◌+◌, ◌≤◌, ◌<◌}
 use native.Mathlib.Omega.{arith}
 use borrow.Author.Tests.{lt-ltb, le-ltb, ne_eqb}
-use lib.ListN.{length, drop, drop_of_length-le}
+use lib.ListN.{length, take, get_or, length-take}
+use Rattle.std.proofs.lemmas.List.{take_more}
+use Rattle.std.specs.Prelude.{Ok, Err}
 use Rattle.definition.specs.Basics.{Bytes}
-use Rattle.definition.specs.Lines.{text, labelled, name, ending, line, lines, refused_line, last_line}
-use Rattle.definition.specs.Papers.{fragments, entry_count, PaperMarked, mark_from}
+use Rattle.definition.specs.Lines.{text, labelled, name, ending, line, lines, refused_line, last_line, lines_of}
+use Rattle.definition.specs.Papers.{PaperMarked}
 use Rattle.definition.specs.Papers as P
-use Rattle.definition.specs.Refusals.{answer}
-use Rattle.definition.specs.Stacks.{Rules}
 use Rattle.definition.specs.Walk.{Arm, dead, live}
 use Rattle.definition.specs.Walk as W
-use Rattle.stack_analysis.specs.View.{has_end, end_main, end_alt, summarized}
-use Rattle.stack_analysis.specs.declared.Summary.{Summary}
-use Rattle.paper.specs.View.{fragment_analysis, paper_of}
-use Rattle.paper.proofs.Fragments.{Marks}
-use Rattle.paper.specs.declared.PaperVerdict.{PaperVerdict}
-use Rattle.paper.proofs.Markings.{Marking, Answers, marking-none, marking-more, marking-stops, marking-end, onto, told}
-use Rattle.lines.specs.View.{end_text, line_text, Prints}
+use Rattle.refusals.proofs.OneForm.{refused-some}
+use Rattle.refusals.specs.View.{answer_of}
+use Rattle.stack_analysis.specs.View.{Told, end_as, told_of, heights_of}
+use Rattle.stack_analysis.specs.declared.Accepted.{Accepted}
+use Rattle.stack_analysis.specs.declared.Heights.{Heights}
+use Rattle.paper.specs.View.{paper_of, told_accepted, Holds}
+use Rattle.paper.specs.declared.AcceptedPaper.{AcceptedPaper}
+use Rattle.paper.specs.declared.Marked.{Marked}
+use Rattle.paper.specs.declared.RejectedPaper.{RejectedPaper}
+use Rattle.lines.specs.View.{end_text, told_line}
 
 -- The parts of a line
 
@@ -30,110 +32,73 @@ name-entry entries k h = rw (lt-ltb k entries h)
 pub name-state : (entries k : ℕ) → entries ≤ k → name entries k ≡ text "state"
 name-state entries k h = rw (le-ltb k entries h)
 
-pub end-live : (ended : Bool) (main alt : ℕ) → ended ≡ true → end_text ended main alt ≡ labelled " end " main ++ labelled " " alt
-end-live ended main alt e = rw e
-
-pub end-dead : (ended : Bool) (main alt : ℕ) → ended ≡ false → end_text ended main alt ≡ text " end none"
-end-dead ended main alt e = rw e
-
 pub ruleset names = (name-entry, name-state)
 
-pub ruleset ends = (end-live, end-dead, append_assoc)
+-- The lines of the fragments accepted, the first of them fragment k
 
--- the parts of the line of a refusal, one behind another
-six-joined : (a r s t u v w : Bytes) → (((((a ++ r) ++ s) ++ t) ++ u) ++ v) ++ w ≡ a ++ (((((r ++ s) ++ t) ++ u) ++ v) ++ w)
-six-joined a r s t u v w = simp append_assoc
+abbrev pub told_lines : ℕ → ℕ → List (Accepted Heights) → Bytes
+told_lines entries k [] = []
+told_lines entries k (a ∷ l) = told_line entries k a.peak a.end ++ told_lines entries (k + 1) l
 
-pub refused-joined : (a : Bytes) {b c d e f g : Bytes} (n number entry offset first second : ℕ) → n ≡ number → b ≡ a ++ labelled "refused " n → c ≡ b ++ labelled " at " entry
-    → d ≡ c ++ labelled " " offset → e ≡ d ++ labelled " " first → f ≡ e ++ labelled " " second → g ≡ f ++ text "\n"
-    → g ≡ a ++ refused_line entry (answer number offset first second)
-unfolding refused_line
-refused-joined a n number entry offset first second q h i j k l m =
-    rw (m, l, k, j, i, h, q) (six-joined a (labelled "refused " number) (labelled " at " entry) (labelled " " offset) (labelled " " first) (labelled " " second) (text "\n"))
+pub lines-more : (entries k : ℕ) (l : List (Accepted Heights)) (a : Accepted Heights)
+    → told_lines entries k (l ++ (a ∷ [])) ≡ told_lines entries k l ++ told_line entries (k + length l) a.peak a.end
+lines-more entries k [] a =
+    let n : k + 0 ≡ k = omega arith in
+    append-nil (told_line entries k a.peak a.end) ∙ rw n
+lines-more entries k (b ∷ l) a =
+    let n : k + 1 + length l ≡ k + suc (length l) = omega arith in
+    ap (λ (t : Bytes). told_line entries k b.peak b.end ++ t) (lines-more entries (k + 1) l a)
+    ∙ sym (append_assoc (told_line entries k b.peak b.end) (told_lines entries (k + 1) l) (told_line entries (k + 1 + length l) a.peak a.end))
+    ∙ ap (λ x. (told_line entries k b.peak b.end ++ told_lines entries (k + 1) l) ++ told_line entries x a.peak a.end) n
 
--- the line of a verdict is that of the struct's numbers
+pub lines-next : (entries k : ℕ) (l : List (Accepted Heights)) (none : Accepted Heights) → k < length l
+    → told_lines entries 0 (take (k + 1) l) ≡ told_lines entries 0 (take k l) ++ told_line entries k (get_or l k none).peak (get_or l k none).end
+lines-next entries k l none h =
+    let n : 0 + length (take k l) ≡ k = omega (arith, length-take k l) in
+    ap (told_lines entries 0) (take_more l k none h) ∙ lines-more entries 0 (take k l) (get_or l k none)
+    ∙ ap (λ x. told_lines entries 0 (take k l) ++ told_line entries x (get_or l k none).peak (get_or l k none).end) n
 
-end_is : (c : Arm) → end_text (has_end c) (end_main c) (end_alt c) ≡ ending c
+-- by the definition's verdicts
+end_is : (c : Arm) → end_text (end_as heights_of c) ≡ ending c
 end_is dead = refl
 end_is (live s) = refl
 
-line-is : (entries k : ℕ) (w : W.Verdict) (v : Summary) → v ≡ summarized w
-    → line_text entries k v.peak (end_text v.ended v.main v.alt) ≡ line entries k w
-unfolding summarized line
-line-is entries k w v e =
-    ap (λ (u : Summary). line_text entries k u.peak (end_text u.ended u.main u.alt)) e
-    ∙ ap (λ (t : Bytes). line_text entries k w.peak t) (end_is w.end)
+line-is : (entries k : ℕ) (w : W.Verdict) → told_line entries k w.peak (end_as heights_of w.end) ≡ line entries k w
+unfolding line
+line-is entries k w = ap (λ (t : Bytes). name entries k ++ labelled " peak " w.peak ++ t ++ text "\n") (end_is w.end)
 
--- The lines of a paper one behind another
+head_is : {A : Type 0} {x y : A} {l m : List A} → (x ∷ l) ≡ (y ∷ m) → (x ≡ y) × (l ≡ m)
+head_is {A} {x} {y} {l} {m} e = (ap (front x) e, ap rest e)
+  where
+    front : A → List A → A
+    front d [] = d
+    front d (z ∷ n) = z
 
--- the fragments before k are accepted, and their lines are printed
-pub record Printing (R : Rules) (p : Bytes) (lent : List ℕ) (k rows : ℕ) (log : List ℕ) (out : Bytes) : Type 0 where
-  pub peak : ℕ
-  pub marking : Marking R p lent k rows peak log
-  pub printed : lines (entry_count p) 0 (mark_from R 0 0 0 (fragments p) lent).verdicts
-      ≡ out ++ lines (entry_count p) k (mark_from R k rows peak (drop k (fragments p)) log).verdicts
-  pub short : length out ≤ 100 * k
+    rest : List A → List A
+    rest [] = []
+    rest (z ∷ n) = n
 
-pub last-refused : (r : PaperVerdict) → (r.number ≡ 0 → ⊥) → last_line (paper_of r) ≡ refused_line r.entry (answer r.number r.offset r.first r.second)
+pub lines-are : (entries k : ℕ) (l : List (Accepted Heights)) (vs : List W.Verdict) → map told_accepted l ≡ map (told_of heights_of) vs
+    → told_lines entries k l ≡ lines entries k vs
+lines-are entries k [] [] e = refl
+lines-are entries k [] (v ∷ vs) e = cc
+lines-are entries k (a ∷ l) [] e = cc
+lines-are entries k (a ∷ l) (v ∷ vs) e =
+    let h = head_is e in
+    rw (ap (λ (t : Told Heights). t.peak) h.0, ap (λ (t : Told Heights). t.end) h.0, lines-are entries (k + 1) l vs h.1, line-is entries k v)
+
+-- The last line
+
+pub last-accepted : (a : AcceptedPaper) → last_line (paper_of (Ok a)) ≡ text "accepted\n"
 unfolding last_line paper_of
-last-refused r h = rw (ne_eqb r.number 0 h)
+last-accepted a = refl
 
-module _ (R : Rules) (p : Bytes) (lent : List ℕ) where
-  pub printing-none : {out : Bytes} → out ≡ [] → Printing R p lent 0 0 lent out
-  printing-none e = record {
-    peak = 0;
-    marking = marking-none R p lent;
-    printed = rw e;
-    short = rw e (omega arith);
-  }
+pub last-refused : (r : RejectedPaper) → last_line (paper_of (Err r)) ≡ refused_line r.entry (answer_of r.refused)
+unfolding last_line paper_of
+last-refused r = rw (ne_eqb (answer_of r.refused).number 0 (refused-some r.refused))
 
-  module _ (k rows : ℕ) (log : List ℕ) (out : Bytes) (i : Printing R p lent k rows log out) where
-    -- the last line behind those printed
-    ended : (r : PaperVerdict) (new : List ℕ) → Answers r new (mark_from R 0 0 0 (fragments p) lent)
-        → (mark_from R k rows i.peak (drop k (fragments p)) log).verdicts ≡ [] → {t : Bytes} → last_line (paper_of r) ≡ t
-        → {out' : Bytes} → out' ≡ out ++ t → Prints (entry_count p) (mark_from R 0 0 0 (fragments p) lent) out' r.number new
-    unfolding paper_of
-    ended r new a none {t} e {out'} w =
-        let s : lines (entry_count p) 0 (mark_from R 0 0 0 (fragments p) lent).verdicts ≡ out =
-        i.printed ∙ ap (λ (vs : List W.Verdict). out ++ lines (entry_count p) k vs) none ∙ append-nil out in
-        let l : last_line (mark_from R 0 0 0 (fragments p) lent).paper ≡ t = ap last_line (sym a.same) ∙ e in
-        record {
-          same = w ∙ sym (ap (λ (u : Bytes). u ++ last_line (mark_from R 0 0 0 (fragments p) lent).paper) s ∙ ap (λ (u : Bytes). out ++ u) l);
-          numbered = ap (λ (u : P.PaperVerdict). u.verdict.answer.number) a.same;
-          logged = a.logged;
-        }
-
-    pub printing-end : length (fragments p) ≤ k → {out' : Bytes} → out' ≡ out ++ text "accepted\n"
-        → Prints (entry_count p) (mark_from R 0 0 0 (fragments p) lent) out' 0 log
-    unfolding mark_from last_line paper_of
-    printing-end h w =
-        ended _ _ (marking-end R p lent k rows i.peak log i.marking h)
-        (ap (λ fs. (mark_from R k rows i.peak fs log).verdicts) (drop_of_length-le (fragments p) h)) refl w
-
-    module _ (more : k < length (fragments p)) (v : Summary) (new : List ℕ) (m : Marks (fragment_analysis R p k rows log) (3 * rows) log v new) where
-      pub printing-stops : (v.number ≡ 0 → ⊥) → {out' : Bytes} → out' ≡ out ++ refused_line k (answer v.number v.offset v.first v.second)
-          → Prints (entry_count p) (mark_from R 0 0 0 (fragments p) lent) out' v.number new
-      printing-stops z w =
-          ended _ _ (marking-stops R p lent k rows i.peak log i.marking more v new m z)
-          (ap (λ (x : PaperMarked). x.verdicts) (told R p lent k rows i.peak log i.marking more v new m z))
-          (last-refused _ z) w
-
-      pub printing-more : length new ≡ length log → v.number ≡ 0 → (entries : ℕ) → entries ≡ entry_count p → {out' : Bytes}
-          → out' ≡ out ++ line_text entries k v.peak (end_text v.ended v.main v.alt) → length out' ≤ length out + 100
-          → Printing R p lent (k + 1) (rows + v.rows) new out'
-      printing-more l z entries e {out'} w s =
-          let verdict : W.Verdict = (fragment_analysis R p k rows log).verdict in
-          let next : ℕ = max i.peak v.peak in
-          let E : ℕ = entry_count p in
-          let rest : List W.Verdict = (mark_from R (k + 1) (rows + v.rows) next (drop (k + 1) (fragments p)) new).verdicts in
-          let o : (mark_from R k rows i.peak (drop k (fragments p)) log).verdicts ≡ verdict ∷ rest =
-          sym (ap (λ (x : PaperMarked). x.verdicts) (onto R p lent k rows i.peak log i.marking more v new m z next refl)) in
-          let q : line_text entries k v.peak (end_text v.ended v.main v.alt) ≡ line E k verdict =
-          line-is entries k verdict v m.same ∙ ap (λ n. line n k verdict) e in
-          record {
-            peak = next;
-            marking = marking-more R p lent k rows i.peak log i.marking more v new m l z next refl;
-            printed = i.printed ∙ ap (λ (vs : List W.Verdict). out ++ lines E k vs) o ∙ sym (append_assoc out (line E k verdict) (lines E (k + 1) rest))
-                ∙ ap (λ (t : Bytes). t ++ lines E (k + 1) rest) (sym (w ∙ ap (λ (t : Bytes). out ++ t) q));
-            short = omega (arith, i.short, s);
-          }
+-- all of them
+pub lines-of-marked : (entries : ℕ) (r : Marked) (t last : Bytes) → t ≡ told_lines entries 0 r.accepted.items → last ≡ last_line (paper_of r.verdict)
+    → (m : PaperMarked) (log : List ℕ) → Holds m r log → t ++ last ≡ lines_of entries m
+lines-of-marked entries r t last e f m log h =
+    rw (e, f, lines-are entries 0 r.accepted.items m.verdicts h.accepted) (ap (λ (p : P.PaperVerdict). lines entries 0 m.verdicts ++ last_line p) h.verdict)

@@ -1,3 +1,2 @@
--- What is proved of lines for this crate's functions.
+-- What is proved of lines.
 pub mod Fragments
-pub mod Papers

@@ -1,3 +1,2 @@
--- What is proved of texts put into lent bytes, for this crate's functions and for callers.
-pub mod Puts
+-- What is proved of the rows of a fragment for this crate's functions.
 pub mod Rows

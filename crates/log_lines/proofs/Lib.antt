@@ -1,3 +1,3 @@
 -- What is proved of the lines for this crate's functions.
-pub mod Arms
+pub mod Conditionals
 pub mod Verdicts

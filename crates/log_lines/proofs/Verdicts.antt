@@ -1,45 +1,29 @@
--- Laws of the line of a verdict.
-use mathlib.Core.List.{List, [], ◌++◌}
+-- Laws of the line of a verdict: a refusal's case by its number.
+use mathlib.Core.Bool.{false}
 use mathlib.Core.Path.{◌≡◌, ap, sym, ◌∙◌}
-use Prim.Native.Nat.{ℕ, ◌-◌}
-use borrow.Author.Tests.{eq-eqb, ne_eqb}
-use Rattle.definition.specs.Basics.{Bytes}
-use Rattle.definition.specs.Lines.{text}
-use Rattle.definition.specs.Papers.{display}
-use Rattle.definition.specs.Stacks.{Rules}
-use Rattle.log_lines.specs.declared.Told.{Told}
-use Rattle.log_lines.specs.Log.{accepted_line, refusal_line, malformed_line, arms, verdict_line}
+use Prim.Native.Nat.{ℕ}
+use borrow.Author.Tests.{ne_eqb}
+use lib.Dec.{eqb}
+use Rattle.refusals.proofs.OneForm.{refused_back, refused-is, refused-some}
+use Rattle.refusals.specs.View.{answer_of}
+use Rattle.refusals.specs.declared.Refused.{Refused}
+use Rattle.refusals.specs.declared.Refusal.{Refusal}
+use Rattle.refusals.specs.declared.Refusal.TheVariants.{Malformed, ArmsDiffer}
 
-module _ (before : Bytes) {new : Bytes} (R : Rules) (fragment : Bytes) (log : List ℕ) (from : ℕ) (t : Told) where
-  pub verdict-accepted : t.number ≡ 0 → new ≡ before ++ (accepted_line t.peak t.ended t.main t.alt)
-      → new ≡ before ++ verdict_line R fragment log from t
-  unfolding verdict_line
-  verdict-accepted z w = rw (eq-eqb t.number 0 z) w
+-- the refusal of this number, with the figures of `r`
+abbrev pub refusal_by : Refused → ℕ → Refusal
+refusal_by r n = (refused_back (record { number = n; offset = r.offset; first = (answer_of r).first; second = (answer_of r).second })).refusal
 
-  module _ (accepted : t.number ≡ 0 → ⊥) where
-    pub verdict-malformed : {bytes : Bytes} → t.number ≡ 3 → bytes ≡ display fragment fragment t.offset 0
-        → new ≡ before ++ malformed_line t.offset bytes → new ≡ before ++ verdict_line R fragment log from t
-    unfolding verdict_line
-    verdict-malformed {bytes} z d w =
-        rw (ne_eqb t.number 0 accepted, eq-eqb t.number 3 z) (w ∙ ap (λ (b : Bytes). before ++ malformed_line t.offset b) d)
+pub number-is : (r : Refused) {n : ℕ} → (answer_of r).number ≡ n → r.refusal ≡ refusal_by r n
+number-is r e = sym (ap (λ (x : Refused). x.refusal) (refused-is r)) ∙ ap (refusal_by r) e
 
-    module _ (malformed : t.number ≡ 3 → ⊥) where
-      pub verdict-before : t.rows ≡ 0 → new ≡ before ++ (refusal_line [] t.number t.first t.second [])
-          → new ≡ before ++ verdict_line R fragment log from t
-      unfolding verdict_line
-      verdict-before z w = rw (ne_eqb t.number 0 accepted, ne_eqb t.number 3 malformed, eq-eqb t.rows 0 z) w
+pub number-0 : (r : Refused) → eqb (answer_of r).number 0 ≡ false
+number-0 r = ne_eqb (answer_of r).number 0 (refused-some r)
 
-      module _ (some : t.rows ≡ 0 → ⊥) where
-        pub verdict-arms : t.number ≡ 12
-            → new ≡ before ++ (refusal_line (text "     ^ ") 12 t.first t.second (arms R fragment log from (t.rows - 1)))
-            → new ≡ before ++ verdict_line R fragment log from t
-        unfolding verdict_line
-        verdict-arms z w =
-            rw (ne_eqb t.number 0 accepted, ne_eqb t.number 3 malformed, ne_eqb t.rows 0 some, eq-eqb t.number 12 z)
-            (w ∙ ap (λ n. before ++ refusal_line (text "     ^ ") n t.first t.second (arms R fragment log from (t.rows - 1))) (sym z))
+pub number-3 : (r : Refused) → (r.refusal ≡ Malformed → ⊥) → eqb (answer_of r).number 3 ≡ false
+number-3 r h = ne_eqb (answer_of r).number 3 (λ e. h (number-is r e))
 
-        pub verdict-walk : (t.number ≡ 12 → ⊥) → new ≡ before ++ (refusal_line (text "     ^ ") t.number t.first t.second [])
-            → new ≡ before ++ verdict_line R fragment log from t
-        unfolding verdict_line
-        verdict-walk z w =
-            rw (ne_eqb t.number 0 accepted, ne_eqb t.number 3 malformed, ne_eqb t.rows 0 some, ne_eqb t.number 12 z) w
+pub number-12 : (r : Refused) → (r.refusal ≡ ArmsDiffer → ⊥) → eqb (answer_of r).number 12 ≡ false
+number-12 r h = ne_eqb (answer_of r).number 12 (λ e. h (number-is r e))
+
+pub ruleset refusals = (number-0, number-3, number-12)

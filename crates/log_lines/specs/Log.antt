@@ -1,16 +1,17 @@
 -- The lines that `stacklog` prints around the rows, as bytes. Numbers and texts are those of the lines of `stackmark`.
-use Rattle.std.specs.Prelude.{Bool, true, false, ◌&&◌, ◌||◌, List, [], ◌++◌, ℕ, zero, suc, ◌+◌, ◌-◌, eqb, length}
+use Rattle.std.specs.Prelude.{Option, Some, None, ◌&&◌, ◌||◌, List, [], ◌++◌, ℕ, zero, suc, ◌+◌, ◌-◌, eqb, length}
 use Rattle.definition.specs.Basics.{Bytes, pick}
 use Rattle.definition.specs.Classes.{Class}
 use Rattle.definition.specs.Lines.{text, labelled, name}
 use Rattle.definition.specs.Papers.{entry_count, display}
+use Rattle.definition.specs.Refusals.{Answer}
 use Rattle.definition.specs.Stacks.{Rules}
-use Rattle.definition.specs.Walk.{Arm, dead, live, Verdict}
 use Rattle.header.specs.View.{fragment_at}
 use Rattle.faults.specs.Faults.{fault, fault_words}
 use Rattle.log_rows.specs.Rows.{main_at, alt_at, class_in, is_if, is_else, is_endif, instruction}
 use Rattle.reasons.specs.Reasons.{reason}
-use Rattle.log_lines.specs.declared.Told.{Told}
+use Rattle.stack_analysis.specs.View.{Told}
+use Rattle.stack_analysis.specs.declared.Heights.{Heights}
 
 -- A fragment
 
@@ -25,12 +26,13 @@ start paper k =
     start_line (entry_count paper) k (length (fragment_at paper k).bytes) (fragment_at paper k).main (fragment_at paper k).alt
 
 -- how it ends: whether it has an end, or every run returns before it, and its heights there
-abbrev pub ending : Bool → ℕ → ℕ → Bytes
-ending ended main alt = pick ended (labelled ", end main " main ++ labelled " alt " alt) (text ", end none")
+abbrev pub ending : Option Heights → Bytes
+ending (Some h) = labelled ", end main " h.main ++ labelled " alt " h.alt
+ending None = text ", end none"
 
 -- the line after the rows of an accepted one: its peak and how it ends
-unfoldable pub accepted_line : ℕ → Bool → ℕ → ℕ → Bytes
-accepted_line peak ended main alt = labelled "accepted: peak " peak ++ ending ended main alt ++ text "\n"
+unfoldable pub accepted_line : ℕ → Option Heights → Bytes
+accepted_line peak end = labelled "accepted: peak " peak ++ ending end ++ text "\n"
 
 -- A refusal in words
 
@@ -81,39 +83,13 @@ arms R fragment log from n =
 
 -- The verdict
 
--- whether a fragment has an end, and the heights there, 0 where there is none
-abbrev pub has_end : Arm → Bool
-has_end dead = false
-has_end (live s) = true
-
-abbrev pub end_main : Arm → ℕ
-end_main dead = 0
-end_main (live s) = length s.main
-
-abbrev pub end_alt : Arm → ℕ
-end_alt dead = 0
-end_alt (live s) = length s.alt
-
--- what is told of a verdict: `Told` is the struct of src/lib.rt that holds these numbers
-unfoldable pub told_of : Verdict → Told
-told_of v = record {
-  number = v.answer.number;
-  offset = v.answer.offset;
-  first = v.answer.first;
-  second = v.answer.second;
-  rows = v.rows;
-  peak = v.peak;
-  ended = has_end v.end;
-  main = end_main v.end;
-  alt = end_alt v.end;
-}
-
 -- The line after the rows of a fragment, the first of them row `from`: accepted; malformed; refused before the walk; refused at
 -- the last row, with an arrow under the last digit of its offset.
-unfoldable pub verdict_line : Rules → Bytes → List ℕ → ℕ → Told → Bytes
+unfoldable pub verdict_line : Rules → Bytes → List ℕ → ℕ → Told Heights → Bytes
 verdict_line R fragment log from t =
-    pick (eqb t.number 0) (accepted_line t.peak t.ended t.main t.alt)
-    (pick (eqb t.number 3) (malformed_line t.offset (display fragment fragment t.offset 0))
-    (pick (eqb t.rows 0) (refusal_line [] t.number t.first t.second [])
-    (refusal_line (text "     ^ ") t.number t.first t.second
-    (pick (eqb t.number 12) (arms R fragment log from (t.rows - 1)) []))))
+    let a : Answer = t.answer in
+    pick (eqb a.number 0) (accepted_line t.peak t.end)
+    (pick (eqb a.number 3) (malformed_line a.offset (display fragment fragment a.offset 0))
+    (pick (eqb t.rows 0) (refusal_line [] a.number a.first a.second [])
+    (refusal_line (text "     ^ ") a.number a.first a.second
+    (pick (eqb a.number 12) (arms R fragment log from (t.rows - 1)) []))))

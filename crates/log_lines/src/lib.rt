@@ -1,181 +1,132 @@
-// The lines that `stacklog` prints around the rows, each appended to a line, and the function that does it says which line it is.
+// The lines that `stacklog` prints around the rows: a function gives a line, and says which it is.
 // Conditionals go by the classes of lent rows: a line is the same beside whatever options.
 
 #![tactic(auto)]
 
-ghost use Rattle.std.specs.Prelude.{[], ◌≡◌, ◌++◌, ◌+◌, ◌-◌, ◌*◌, ◌≤◌, length};
-ghost use Rattle.arrayvec.specs.ArrayVec.{array_vec_len};
-ghost use Rattle.definition.specs.Lines.{text};
+ghost use Rattle.std.specs.Prelude.{Err, ◌≡◌, ◌+◌, ◌*◌, ◌≤◌, length};
 ghost use Rattle.definition_rules.specs.Maps.{Options, rules_by};
 ghost use Rattle.opcodes.specs.Classes.{rows_of};
-ghost use Rattle.log_lines.specs.Log.{start_line, start, ending, accepted_line, refusal, refusal_line, header_line, dispatch_line, malformed_line};
+ghost use Rattle.log_lines.specs.Log.{start, ending, accepted_line, refusal_line};
+ghost use Rattle.log_lines.specs.Log.{header_line, dispatch_line, malformed_line};
+ghost use Rattle.stack_analysis.specs.View.{told};
 ghost use Rattle.log_lines.specs.Log.{opener, other_main, arms, verdict_line};
 
-use opcodes::{Class, Classes};
+use log_rows::Logged;
+use opcodes::Class;
+use refusals::{Answer, Refusal};
+use stack_analysis::{Accepted, Heights, Rejected, Verdict};
 use text::{Line, push_labelled, push_word};
 
-/// What is told of a fragment's verdict: number, offset and two figures, the rows written, the peak, whether it has an end, and
-/// the heights there.
-#[derive(Clone, Copy)]
-pub struct Told {
-    pub number: u32,
-    pub offset: usize,
-    pub first: u64,
-    pub second: u64,
-    pub rows: usize,
-    pub peak: u32,
-    pub ended: bool,
-    pub main: u32,
-    pub alt: u32,
-}
-
-// Appends the line before the rows of a fragment.
-#[tactic(auto, unfolding(crate::specs::Log::start_line))]
-fn push_start<const N: usize>(
-    line: &mut Line<N>,
-    entries: usize,
-    k: usize,
-    size: usize,
-    main: u32,
-    alt: u32,
-)
-    requires { array_vec_len line.old + 256 ≤ N }
-    ensures items { line.new.items ≡ line.old.items ++ start_line entries k size main alt }
-    ensures short { array_vec_len line.new ≤ array_vec_len line.old + 256 }
+/// The line before the rows of fragment k of a paper.
+#[tactic(auto, unfolding(crate::specs::Log::start, crate::specs::Log::start_line))]
+pub fn start(paper: &[u8], k: usize) -> Line<256>
+    ensures { result.items ≡ start paper.now k }
 {
-    lines::push_name(line, entries, k);
-    push_labelled(line, b": length ", size as u64);
-    push_labelled(line, b", from main ", u64::from(main));
-    push_labelled(line, b" alt ", u64::from(alt));
-    push_word(line, b"\n");
-}
-
-/// Appends that of fragment k of a paper.
-pub fn push_head<const N: usize>(line: &mut Line<N>, paper: &[u8], k: usize)
-    requires { array_vec_len line.old + 256 ≤ N }
-    ensures items { line.new.items ≡ line.old.items ++ start paper.now k }
-    ensures short { array_vec_len line.new ≤ array_vec_len line.old + 256 }
-{
-    let entries = header::entry_count(paper);
     let fragment = fragments::fragment_at(paper, k);
-    push_start(
-        line,
-        entries,
-        k,
-        fragment.bytes.len(),
-        fragment.main,
-        fragment.alt,
-    );
+    let mut line = Line::new();
+    push_word(&mut line, &lines::name(header::entry_count(paper), k));
+    push_labelled(&mut line, b": length ", fragment.bytes.len() as u64);
+    push_labelled(&mut line, b", from main ", u64::from(fragment.main));
+    push_labelled(&mut line, b" alt ", u64::from(fragment.alt));
+    push_word(&mut line, b"\n");
+    line
 }
 
-// Appends how an accepted fragment ends.
-fn push_ending<const N: usize>(line: &mut Line<N>, ended: bool, main: u32, alt: u32)
-    requires { array_vec_len line.old + 60 ≤ N }
-    ensures items { line.new.items ≡ line.old.items ++ ending ended main alt }
-    ensures short { array_vec_len line.new ≤ array_vec_len line.old + 60 }
+// How an accepted fragment ends. `end_text` of lines says it in other words: with the words as parameters neither is shorter.
+fn ending(end: Option<Heights>) -> Line<60>
+    ensures { result.items ≡ ending end }
 {
-    if ended {
-        push_labelled(line, b", end main ", u64::from(main));
-        push_labelled(line, b" alt ", u64::from(alt));
-    } else {
-        push_word(line, b", end none");
+    let mut line = Line::new();
+    match end {
+        Some(heights) => {
+            push_labelled(&mut line, b", end main ", u64::from(heights.main));
+            push_labelled(&mut line, b" alt ", u64::from(heights.alt));
+        }
+        None => push_word(&mut line, b", end none"),
     }
+    line
 }
 
-// Appends the line after the rows of an accepted fragment.
+// The line after the rows of an accepted fragment.
 #[tactic(auto, unfolding(crate::specs::Log::accepted_line))]
-fn push_accepted<const N: usize>(line: &mut Line<N>, peak: u32, ended: bool, main: u32, alt: u32)
-    requires { array_vec_len line.old + 256 ≤ N }
-    ensures items { line.new.items ≡ line.old.items ++ accepted_line peak ended main alt }
-    ensures short { array_vec_len line.new ≤ array_vec_len line.old + 256 }
+fn accepted_line(fragment: Accepted<Heights>) -> Line<256>
+    ensures { result.items ≡ accepted_line fragment.peak fragment.end }
 {
-    push_labelled(line, b"accepted: peak ", u64::from(peak));
-    push_ending(line, ended, main, alt);
-    push_word(line, b"\n");
+    let mut line = Line::new();
+    push_labelled(&mut line, b"accepted: peak ", u64::from(fragment.peak));
+    push_word(&mut line, &ending(fragment.end));
+    push_word(&mut line, b"\n");
+    line
 }
 
-// Appends number and word.
-#[tactic(auto, unfolding(crate::specs::Log::refusal))]
-fn push_refusal<const N: usize>(line: &mut Line<N>, number: u32, first: u64, second: u64)
-    requires { array_vec_len line.old + 110 ≤ N }
-    ensures items { line.new.items ≡ line.old.items ++ refusal number first second }
-    ensures short { array_vec_len line.new ≤ array_vec_len line.old + 110 }
+/// The line of a refusal: what leads to it, number and word, and what more is said.
+#[tactic(auto, unfolding(crate::specs::Log::refusal, crate::specs::Log::refusal_line))]
+pub fn refusal_line(lead: &[u8], answer: Answer, more: &[u8]) -> Line<256>
+    requires { length lead.now + length more.now ≤ 145 }
+    ensures { result.items ≡ refusal_line lead.now answer.number answer.first answer.second more.now }
 {
-    push_labelled(line, b"refused ", u64::from(number));
-    push_word(line, b", ");
-    reasons::push_reason(line, number, first, second);
+    let mut line = Line::new();
+    push_word(&mut line, lead);
+    push_labelled(&mut line, b"refused ", u64::from(answer.number));
+    push_word(&mut line, b", ");
+    let reason = reasons::reason(answer.number, answer.first, answer.second);
+    push_word(&mut line, &reason);
+    push_word(&mut line, more);
+    push_word(&mut line, b"\n");
+    line
 }
 
-/// Appends the line of a refusal with nothing more, behind what leads to it.
-#[tactic(auto, unfolding(crate::specs::Log::refusal_line))]
-pub fn push_refusal_line<const N: usize>(
-    line: &mut Line<N>,
-    lead: &[u8],
-    number: u32,
-    first: u64,
-    second: u64,
-)
-    requires room { array_vec_len line.old + 256 ≤ N }
-    requires lead { length lead.now ≤ 100 }
-    ensures items { line.new.items ≡ line.old.items ++ refusal_line lead.now number first second [] }
-    ensures short { array_vec_len line.new ≤ array_vec_len line.old + 256 }
+/// The line of a refused header.
+#[tactic(auto, unfolding(crate::specs::Log::header_line))]
+pub fn header_line(paper: &[u8]) -> Line<256>
+    ensures { result.items ≡ header_line paper.now }
 {
-    push_word(line, lead);
-    push_refusal(line, number, first, second);
-    push_word(line, b"\n");
+    let answer = Err(Refusal::BadHeader.into()).into();
+    refusal_line(b"", answer, &faults::fault_words(paper))
 }
 
-/// Appends the line of a refused header.
-#[tactic(auto, unfolding(crate::specs::Log::refusal_line, crate::specs::Log::header_line))]
-pub fn push_header<const N: usize>(line: &mut Line<N>, paper: &[u8])
-    requires { array_vec_len line.old + 256 ≤ N }
-    ensures items { line.new.items ≡ line.old.items ++ header_line paper.now }
-    ensures short { array_vec_len line.new ≤ array_vec_len line.old + 256 }
+/// The line of the dispatch check: which entry, and the sum and the limit of its refusal.
+#[tactic(auto, unfolding(crate::specs::Log::dispatch_line))]
+pub fn dispatch_line(entry: usize, answer: Answer) -> Line<256>
+    ensures { answer.number ≡ 20 → result.items ≡ dispatch_line entry answer.first answer.second }
 {
-    push_refusal(line, 19, 0, 0);
-    faults::push_fault(line, paper);
-    push_word(line, b"\n");
+    let mut lead: Line<28> = Line::new();
+    push_labelled(&mut lead, b"entry ", entry as u64);
+    push_word(&mut lead, b": ");
+    refusal_line(&lead, answer, b"")
 }
 
-/// Appends the line of the dispatch check.
-#[tactic(auto, unfolding(crate::specs::Log::refusal_line, crate::specs::Log::dispatch_line))]
-pub fn push_dispatch<const N: usize>(line: &mut Line<N>, entry: usize, sum: u64, limit: u64)
-    requires { array_vec_len line.old + 256 ≤ N }
-    ensures items { line.new.items ≡ line.old.items ++ dispatch_line entry sum limit }
-    ensures short { array_vec_len line.new ≤ array_vec_len line.old + 256 }
+// The line of a malformed fragment.
+#[tactic(auto, unfolding(crate::specs::Log::malformed_line))]
+fn malformed_line(offset: usize, bytes: &[u8]) -> Line<256>
+    ensures { result.items ≡ malformed_line offset bytes.now }
 {
-    push_labelled(line, b"entry ", entry as u64);
-    push_word(line, b": ");
-    push_refusal(line, 20, sum, limit);
-    push_word(line, b"\n");
-}
-
-// Appends the line of a malformed fragment.
-#[tactic(auto, unfolding(crate::specs::Log::refusal_line, crate::specs::Log::malformed_line))]
-fn push_malformed<const N: usize>(line: &mut Line<N>, offset: usize, bytes: &[u8])
-    requires { array_vec_len line.old + 256 ≤ N }
-    ensures items { line.new.items ≡ line.old.items ++ malformed_line offset bytes.now }
-    ensures short { array_vec_len line.new ≤ array_vec_len line.old + 256 }
-{
-    push_refusal(line, 3, 0, 0);
-    push_labelled(line, b" at ", offset as u64);
-    push_word(line, b":");
-    log_rows::push_instruction(line, bytes);
-    push_word(line, b"\n");
+    let mut more: Line<40> = Line::new();
+    push_labelled(&mut more, b" at ", offset as u64);
+    push_word(&mut more, b":");
+    push_word(&mut more, &log_rows::instruction(bytes));
+    refusal_line(b"", Err(Refusal::Malformed.into()).into(), &more)
 }
 
 // The row of the ELSE, or where there is none the IF, of the conditional that is open behind `count` rows from row `from` on.
-#[tactic(auto, using(crate::proofs::Arms::opening))]
-fn opener(fragment: &[u8], log: &[u16], classes: Classes, from: usize, count: usize) -> usize
-    requires { 3 * (from + count) ≤ length log.now }
+#[tactic(auto, using(crate::proofs::Conditionals::opening))]
+fn opener(fragment: Logged, from: usize, count: usize) -> usize
+    requires { 3 * (from + count) ≤ length fragment.log.now }
     ensures same { (options : Options)
-        → result ≡ opener (rules_by (rows_of classes.entry) options) fragment.now log.now from count 0 }
+        → result
+        ≡ opener
+        (rules_by (rows_of fragment.entry.classes) options)
+        fragment.entry.bytes.now
+        fragment.entry.log.now
+        from
+        count
+        0 }
     ensures within { result ≤ from + count }
 {
     let mut inner: usize = 0;
     for n in (0..count).rev() {
         let row = from + n;
-        match log_rows::class_of_row(fragment, log, classes, row) {
+        match fragment.class_of_row(row) {
             Class::EndIf => inner += 1,
             Class::If | Class::NotIf => {
                 if inner == 0 {
@@ -195,112 +146,92 @@ fn opener(fragment: &[u8], log: &[u16], classes: Classes, from: usize, count: us
 }
 
 // The main height of the other arm: IF pops one item.
-fn other_main(fragment: &[u8], log: &[u16], classes: Classes, row: usize) -> u32
-    requires { 3 * row + 3 ≤ length log.now }
+#[tactic(auto, unfolding(crate::specs::Log::other_main))]
+fn other_main(fragment: Logged, row: usize) -> u16
+    requires { 3 * row + 3 ≤ length fragment.log.now }
     ensures { (options : Options)
-        → result ≡ other_main (rules_by (rows_of classes.entry) options) fragment.now log.now row }
+        → result
+        ≡ other_main
+        (rules_by (rows_of fragment.entry.classes) options)
+        fragment.entry.bytes.now
+        fragment.entry.log.now
+        row }
 {
-    let main = log_rows::main_at(log, row);
-    if log_rows::is_if(log_rows::class_of_row(fragment, log, classes, row)) {
-        main.saturating_sub(1)
-    } else {
-        main
+    let main = log_rows::row_at(fragment.log, row).main;
+    let popped = log_rows::opens(fragment.class_of_row(row));
+    main.saturating_sub(u16::from(popped))
+}
+
+// Both arms, where `count` rows come before ENDIF's.
+#[tactic(auto, unfolding(crate::specs::Log::arms))]
+fn arms(fragment: Logged, from: usize, count: usize) -> Line<120>
+    requires { 3 * (from + count) + 3 ≤ length fragment.log.now }
+    ensures { (options : Options)
+        → result.items
+        ≡ arms
+        (rules_by (rows_of fragment.entry.classes) options)
+        fragment.entry.bytes.now
+        fragment.entry.log.now
+        from
+        count }
+{
+    let other = opener(fragment, from, count);
+    let main = other_main(fragment, other);
+    let one = log_rows::row_at(fragment.log, from + count);
+    let mut line = Line::new();
+    push_labelled(&mut line, b": main ", u64::from(one.main));
+    push_labelled(&mut line, b" alt ", u64::from(one.alt));
+    push_labelled(&mut line, b" against main ", u64::from(main));
+    push_labelled(
+        &mut line,
+        b" alt ",
+        u64::from(log_rows::row_at(fragment.log, other).alt),
+    );
+    line
+}
+
+// That of a refused fragment.
+#[tactic(auto, using(crate::proofs::Verdicts::refusals), unfolding(crate::specs::Log::verdict_line))]
+fn rejected_line(fragment: Logged, from: usize, rejected: Rejected) -> Line<256>
+    requires { 3 * (from + rejected.rows) ≤ length fragment.log.now }
+    ensures { (options : Options)
+        → result.items
+        ≡ verdict_line
+        (rules_by (rows_of fragment.entry.classes) options)
+        fragment.entry.bytes.now
+        fragment.entry.log.now
+        from
+        (told {E = Heights} (Err rejected)) }
+{
+    let Rejected { rows, refused } = rejected;
+    let answer = Answer::from(Err(refused));
+    let offset = refused.offset;
+    match refused.refusal {
+        Refusal::Malformed => malformed_line(
+            offset,
+            display::display(fragment.bytes, fragment.bytes, offset, 0),
+        ),
+        _ if rows == 0 => refusal_line(b"", answer, b""),
+        Refusal::ArmsDiffer => { refusal_line(b"     ^ ", answer, &arms(fragment, from, rows - 1)) }
+        _ => refusal_line(b"     ^ ", answer, b""),
     }
 }
 
-// Appends both arms, where `count` rows come before ENDIF's.
-fn push_arms<const N: usize>(
-    line: &mut Line<N>,
-    fragment: &[u8],
-    log: &[u16],
-    classes: Classes,
-    from: usize,
-    count: usize,
-)
-    requires room { array_vec_len line.old + 120 ≤ N }
-    requires rows { 3 * (from + count) + 3 ≤ length log.now }
-    ensures items { (options : Options)
-        → line.new.items
-        ≡ line.old.items ++ arms (rules_by (rows_of classes.entry) options) fragment.now log.now from count }
-    ensures short { array_vec_len line.new ≤ array_vec_len line.old + 120 }
+/// The line after the rows of a fragment, the first of them row `from`: 1 to 4 come before any row.
+#[tactic(auto, unfolding(crate::specs::Log::verdict_line))]
+pub fn verdict_line(fragment: Logged, from: usize, verdict: Verdict<Heights>) -> Line<256>
+    requires { 3 * (from + (told verdict).rows) ≤ length fragment.log.now }
+    ensures { (options : Options)
+        → result.items
+        ≡ verdict_line
+        (rules_by (rows_of fragment.entry.classes) options)
+        fragment.entry.bytes.now
+        fragment.entry.log.now
+        from
+        (told verdict) }
 {
-    let last = from + count;
-    let other = opener(fragment, log, classes, from, count);
-    let main = other_main(fragment, log, classes, other);
-    push_labelled(line, b": main ", u64::from(log_rows::main_at(log, last)));
-    push_labelled(line, b" alt ", u64::from(log_rows::alt_at(log, last)));
-    push_labelled(line, b" against main ", u64::from(main));
-    push_labelled(line, b" alt ", u64::from(log_rows::alt_at(log, other)));
-}
-
-// Appends the line of 12.
-fn push_differ<const N: usize>(
-    line: &mut Line<N>,
-    fragment: &[u8],
-    log: &[u16],
-    classes: Classes,
-    from: usize,
-    count: usize,
-    first: u64,
-    second: u64,
-)
-    requires room { array_vec_len line.old + 256 ≤ N }
-    requires rows { 3 * (from + count) + 3 ≤ length log.now }
-    ensures items { (options : Options)
-        → line.new.items
-        ≡ line.old.items
-        ++ refusal_line
-        (text "     ^ ")
-        12
-        first
-        second
-        (arms (rules_by (rows_of classes.entry) options) fragment.now log.now from count) }
-    ensures short { array_vec_len line.new ≤ array_vec_len line.old + 256 }
-{
-    push_word(line, b"     ^ ");
-    push_refusal(line, 12, first, second);
-    push_arms(line, fragment, log, classes, from, count);
-    push_word(line, b"\n");
-}
-
-/// Appends the line after the rows of a fragment, the first of them row `from`: 1 to 4 come before any row.
-pub fn push_verdict<const N: usize>(
-    line: &mut Line<N>,
-    fragment: &[u8],
-    log: &[u16],
-    classes: Classes,
-    from: usize,
-    t: Told,
-)
-    requires room { array_vec_len line.old + 256 ≤ N }
-    requires rows { 3 * (from + t.rows) ≤ length log.now }
-    ensures items { (options : Options)
-        → line.new.items
-        ≡ line.old.items ++ verdict_line (rules_by (rows_of classes.entry) options) fragment.now log.now from t }
-    ensures short { array_vec_len line.new ≤ array_vec_len line.old + 256 }
-{
-    if t.number == 0 {
-        push_accepted(line, t.peak, t.ended, t.main, t.alt);
-    } else if t.number == 3 {
-        push_malformed(
-            line,
-            t.offset,
-            display::display(fragment, fragment, t.offset, 0),
-        );
-    } else if t.rows == 0 {
-        push_refusal_line(line, b"", t.number, t.first, t.second);
-    } else if t.number == 12 {
-        push_differ(
-            line,
-            fragment,
-            log,
-            classes,
-            from,
-            t.rows - 1,
-            t.first,
-            t.second,
-        );
-    } else {
-        push_refusal_line(line, b"     ^ ", t.number, t.first, t.second);
+    match verdict {
+        Ok(accepted) => accepted_line(accepted),
+        Err(rejected) => rejected_line(fragment, from, rejected),
     }
 }

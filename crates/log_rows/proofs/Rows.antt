@@ -1,18 +1,18 @@
 -- Laws of the rows: how many digits stand in a column, what a bar stands for, bytes in hexadecimal.
-use mathlib.Core.List.{List, [], ◌∷◌, ◌++◌, append_assoc}
+use mathlib.Core.Bool.{Bool, true, false}
+use mathlib.Core.List.{List, [], ◌∷◌, ◌++◌, append_assoc, append-nil}
 use mathlib.Core.Path.{◌≡◌, refl, sym, ap, subst, ◌∙◌}
 use Prim.Native.Nat.{ℕ, suc, ◌+◌, ◌-◌, ◌*◌, ◌≤◌, ◌<◌, max}
 use native.Mathlib.Omega.{arith}
-use lib.ListN.{length, take, get_or, replicate, length-append, length-replicate, replicate-append-replicate}
-use lib.Seq.{take-suc}
-use Rattle.definition.specs.Basics.{Bytes}
-use Rattle.definition.specs.Lines.{decimal}
+use borrow.Author.Tests.{ltb-true, ltb-false}
+use lib.Dec.{ltb}
+use lib.ListN.{length, take, get_or, replicate, length-append, length-replicate, length-take, replicate-append-replicate}
+use lib.Seq.{take-suc, take_all}
+use Rattle.definition.specs.Basics.{Bytes, pick}
+use Rattle.definition.specs.Lines.{text, decimal}
 use Rattle.definition_listings.specs.Hex.{hex_byte}
 use Rattle.text.proofs.Texts.{decimal-length}
-use Rattle.definition.specs.Classes.{class_at}
-use Rattle.definition.specs.Papers.{display}
-use Rattle.definition_rules.specs.Maps.{Options, rules_by}
-use Rattle.log_rows.specs.Rows.{offset_at, main_at, alt_at, opcode_at, total_of, greatest, scale_of, hex, indent, row_line, row}
+use Rattle.log_rows.specs.Rows.{main_at, alt_at, total_of, greatest, scale_of, blanks, hex, instruction, bytes_field, row}
 
 -- how many digits stand in a column
 
@@ -28,6 +28,34 @@ pub ruleset columns = (digits_5, digits_6)
 pub hex-push : (l : Bytes) (b : ℕ) → hex (l ++ (b ∷ [])) ≡ hex l ++ (32 ∷ hex_byte b)
 hex-push [] b = refl
 hex-push (c ∷ l) b = ap (λ (x : Bytes). 32 ∷ (hex_byte c ++ x)) (hex-push l b) ∙ ap (λ (x : Bytes). 32 ∷ x) (sym (append_assoc (hex_byte c) (hex l) (32 ∷ hex_byte b)))
+
+-- how long that is
+pub hex-length : (l : Bytes) → length (hex l) ≡ 3 * length l
+hex-length [] = refl
+hex-length (b ∷ l) = omega (arith, hex-length l, length-append (hex_byte b) (hex l))
+
+-- what is shown of bytes: the instruction's 4, and those of a field of 12 columns, with the blanks behind
+pub instruction-is : (l line : Bytes) → line ≡ pick (ltb 4 (length l)) (hex (take 4 l) ++ text " ..") (hex l) → line ≡ instruction l
+unfolding instruction
+instruction-is l line = by (ltb 4 (length l)) refl
+  where
+    by : (b : Bool) → ltb 4 (length l) ≡ b → line ≡ pick b (hex (take 4 l) ++ text " ..") (hex l) → line ≡ hex (take 4 l) ++ pick b (text " ..") []
+    by true e h = h
+    by false e h = h ∙ ap hex (sym (take_all 4 l (ltb-false 4 (length l) e))) ∙ sym (append-nil (hex (take 4 l)))
+
+pub field-is : (l line new : Bytes) → line ≡ pick (ltb 4 (length l)) (hex (take 3 l) ++ text " ..") (hex l) → new ≡ line ++ replicate (12 - length line) 32 → new ≡ bytes_field l
+unfolding bytes_field
+field-is l line new = by (ltb 4 (length l)) refl
+  where
+    by : (b : Bool) → ltb 4 (length l) ≡ b → line ≡ pick b (hex (take 3 l) ++ text " ..") (hex l) → new ≡ line ++ replicate (12 - length line) 32
+        → new ≡ pick b (hex (take 3 l) ++ text " ..") (hex l ++ blanks (12 - 3 * length l))
+    by true e h g =
+        let n : 12 - length line ≡ 0 =
+        omega (arith, ap length h, length-append (hex (take 3 l)) (text " .."), hex-length (take 3 l), length-take 3 l, ltb-true 4 (length l) e) in
+        g ∙ rw n (append-nil line) ∙ h
+    by false e h g = g ∙ rw (h, hex-length l) refl
+
+pub ruleset shown = (instruction-is, field-is)
 
 -- what a whole bar stands for: the rows before `from + j` are seen
 
@@ -91,18 +119,4 @@ scaling-row peak log from count scale row main alt total scale' i l h m a t s =
     let k : row - from + 1 ≡ row + 1 - from = omega arith in
     subst (Scaling peak log from count scale') k (scaling-more peak log from count scale (row - from) row main alt total scale' i (omega arith) (omega arith) m a t s)
 
--- the line of a row
-pub row-pushed : (before : Bytes) {new : Bytes} {offset main alt class right : ℕ} {bytes : Bytes} (classes : List ℕ) (fragment : Bytes) (log : List ℕ) (scale depth j : ℕ)
-    → offset ≡ offset_at log j → main ≡ main_at log j → alt ≡ alt_at log j → class ≡ get_or classes (opcode_at fragment log j) 0
-    → right ≡ indent (class_at class) depth → bytes ≡ display fragment fragment offset 0
-    → new ≡ before ++ row_line scale offset main alt right bytes
-    → (options : Options) → new ≡ before ++ row (rules_by classes options) fragment log scale depth j
-unfolding row
-row-pushed before {new} {offset} {main} {alt} {class} {right} {bytes} classes fragment log scale depth j e f g o r h w options =
-    let k : ℕ = indent (class_at (get_or classes (opcode_at fragment log j) 0)) depth in
-    w ∙ ap (λ (x : Bytes). before ++ x)
-    (ap (λ (b : Bytes). row_line scale offset main alt right b) h
-    ∙ ap (λ x. row_line scale offset main alt x (display fragment fragment offset 0)) (r ∙ ap (λ x. indent (class_at x) depth) o)
-    ∙ ap (λ x. row_line scale x main alt k (display fragment fragment x 0)) e
-    ∙ ap (λ x. row_line scale (offset_at log j) x alt k (display fragment fragment (offset_at log j) 0)) f
-    ∙ ap (λ x. row_line scale (offset_at log j) (main_at log j) x k (display fragment fragment (offset_at log j) 0)) g)
+pub ruleset loops = (same-more, scaling-row)

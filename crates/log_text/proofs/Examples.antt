@@ -20,10 +20,9 @@ use Rattle.definition_rules.proofs.UnderEveryMap.{built_in_map_paper}
 use Rattle.faults.specs.Faults.{fault, fault_words}
 use Rattle.reasons.specs.Reasons.{reason}
 use Rattle.log_rows.specs.Rows.{total_of, column, bar, live_heights, instruction, bytes_field, shown_data, word, indented, depth_after, indent, heading, row_line, row, rows}
-use Rattle.log_lines.specs.Log.{start_line, start, accepted_line, refusal, refusal_line, header_line, malformed_line, opener, other_main, arms, told_of, verdict_line}
+use Rattle.log_lines.specs.Log.{start_line, start, accepted_line, refusal, refusal_line, header_line, malformed_line, opener, other_main, arms, verdict_line}
 use Rattle.log_blocks.specs.Blocks.{block}
-use Rattle.log_marks.specs.Marks.{refused_told}
-use Rattle.log_text.specs.LogText.{refused, log_of, log_text, log_text_with}
+use Rattle.log_text.specs.LogText.{refused, refused_told, log_of, log_text, log_text_with}
 
 -- two arms that leave different heights
 unfoldable pub arms_differ : Bytes
@@ -42,7 +41,7 @@ pub arms_differ_logged : log_text built_in arms_differ (replicate 18 0)
     ++ text "     ^ refused 12, arms differ: main 0 alt 0 against main 2 alt 0\n"
     ++ text "\n"
     ++ text "refused 12 at 0 4 0 0\n"
-unfolding arms_differ log_text refused block refused_told told_of verdict_line start_line start accepted_line refusal refusal_line malformed_line opener other_main arms rows row row_line heading indent depth_after instruction bytes_field word shown_data indented name_of name_table live_heights bar column total_of reason display last_line refused_line decimal good_header fragments mark_from dispatch mark_paper analysis analysis_of walk log_row join_stacks step plain_step push_item drop_items copy_items rotate_items tuck_top nip_second move_to_alt move_from_alt class_of class_number decode front serialize deserialize
+unfolding arms_differ log_text refused block refused_told verdict_line start_line start accepted_line refusal refusal_line malformed_line opener other_main arms rows row row_line heading indent depth_after instruction bytes_field word shown_data indented name_of name_table live_heights bar column total_of reason display last_line refused_line decimal good_header fragments mark_from dispatch mark_paper analysis analysis_of walk log_row join_stacks step plain_step push_item drop_items copy_items rotate_items tuck_top nip_second move_to_alt move_from_alt class_of class_number decode front serialize deserialize
 arms_differ_logged = refl
 
 -- a dead arm, an entry that has no rows, and the initialiser: entries of 1 parameter and none, 1 state field
@@ -74,12 +73,12 @@ pub three_fragments_logged : log_text built_in three_fragments (replicate 24 0)
     ++ text "accepted: peak 2, end main 2 alt 0\n"
     ++ text "\n"
     ++ text "accepted\n"
-unfolding three_fragments log_text refused block refused_told told_of verdict_line start_line start accepted_line refusal refusal_line malformed_line opener other_main arms rows row row_line heading indent depth_after instruction bytes_field word shown_data indented name_of name_table live_heights bar column total_of reason display last_line refused_line decimal good_header fragments mark_from dispatch mark_paper analysis analysis_of walk log_row join_stacks step plain_step push_item drop_items copy_items rotate_items tuck_top nip_second move_to_alt move_from_alt class_of class_number decode front serialize deserialize
+unfolding three_fragments log_text refused block refused_told verdict_line start_line start accepted_line refusal refusal_line malformed_line opener other_main arms rows row row_line heading indent depth_after instruction bytes_field word shown_data indented name_of name_table live_heights bar column total_of reason display last_line refused_line decimal good_header fragments mark_from dispatch mark_paper analysis analysis_of walk log_row join_stacks step plain_step push_item drop_items copy_items rotate_items tuck_top nip_second move_to_alt move_from_alt class_of class_number decode front serialize deserialize
 three_fragments_logged = refl
 
 -- a header that is cut
 pub seven_bytes_logged : log_text built_in (replicate 7 0) [] ≡ text "refused 19, header: 7 bytes, fewer than 8\n\nrefused 19 at 0 0 0 0\n"
-unfolding log_text refused block refused_told told_of header_line refusal refusal_line fault fault_words reason last_line refused_line decimal good_header mark_paper
+unfolding log_text refused block refused_told header_line refusal refusal_line fault fault_words reason last_line refused_line decimal good_header mark_paper
 seven_bytes_logged = refl
 
 -- where ff is IF and the limit is 5: the rows and the other arm go by the class, the word is that of the code
@@ -100,12 +99,12 @@ pub other_if_logged : log_text ff_if other_if (replicate 9 0)
     ++ text "     ^ refused 12, arms differ: main 2 alt 0 against main 1 alt 0\n"
     ++ text "\n"
     ++ text "refused 12 at 0 2 0 0\n"
-unfolding other_if log_text refused block refused_told told_of verdict_line start_line start accepted_line refusal refusal_line malformed_line opener other_main arms rows row row_line heading indent depth_after instruction bytes_field word shown_data indented name_of name_table live_heights bar column total_of reason display last_line refused_line decimal good_header fragments mark_from dispatch mark_paper analysis analysis_of walk log_row join_stacks step plain_step push_item drop_items copy_items rotate_items tuck_top nip_second move_to_alt move_from_alt class_of class_number decode front serialize deserialize
+unfolding other_if log_text refused block refused_told verdict_line start_line start accepted_line refusal refusal_line malformed_line opener other_main arms rows row row_line heading indent depth_after instruction bytes_field word shown_data indented name_of name_table live_heights bar column total_of reason display last_line refused_line decimal good_header fragments mark_from dispatch mark_paper analysis analysis_of walk log_row join_stacks step plain_step push_item drop_items copy_items rotate_items tuck_top nip_second move_to_alt move_from_alt class_of class_number decode front serialize deserialize
 other_if_logged = refl
 
 -- a map of no bytes
 pub no_map_logged : (options : Options) (paper : Bytes) (log : List ℕ) → log_text_with [] options paper log ≡ text "refused 28, bad map\n\nrefused 28 at 0 0 0 0\n"
-unfolding log_text_with refused refused_told told_of refusal refusal_line reason last_line refused_line decimal mark_paper_with good_map
+unfolding log_text_with refused refused_told refusal refusal_line reason last_line refused_line decimal mark_paper_with good_map
 no_map_logged options paper log = refl
 
 -- the built-in map at 244: the same text

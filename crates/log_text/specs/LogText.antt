@@ -11,20 +11,36 @@
 --        ^ refused 12, arms differ: main 0 alt 0 against main 2 alt 0
 --
 --   refused 12 at 0 4 0 0
-use Rattle.std.specs.Prelude.{Bool, ◌||◌, List, [], ◌∷◌, ◌++◌, ℕ, ◌+◌, eqb, take, replicate}
+use Rattle.std.specs.Prelude.{Bool, ◌||◌, None, List, [], ◌∷◌, ◌++◌, map, ℕ, ◌+◌, ◌-◌, eqb, take, replicate}
 use Rattle.definition.specs.Basics.{Bytes, pick}
 use Rattle.definition.specs.Lines.{text, last_line}
 use Rattle.definition_rules.specs.Maps.{Options, rules_of, mark_paper_with}
 use Rattle.definition.specs.Papers.{PaperMarked, mark_paper}
+use Rattle.definition.specs.Refusals.{Answer}
 use Rattle.definition.specs.Stacks.{Rules, built_in}
-use Rattle.log_lines.specs.declared.Told.{Told}
+use Rattle.definition.specs.Walk.{Verdict}
+use Rattle.stack_analysis.specs.View.{Told, told_of, heights_of}
+use Rattle.stack_analysis.specs.declared.Heights.{Heights}
+use Rattle.paper.specs.View.{rows_of}
 use Rattle.log_lines.specs.Log.{refusal_line, header_line, dispatch_line}
 use Rattle.log_blocks.specs.Blocks.{block}
-use Rattle.log_marks.specs.Marks.{all_told, rows_of, refused_told}
+
+-- What is told of the fragments accepted, in their order
+abbrev pub all_told : List Verdict → List (Told Heights)
+all_told verdicts = map (told_of heights_of) verdicts
+
+-- and of the fragment that was refused: its rows are what the accepted ones leave of the paper's. "Refusals carry peak 0 and end none"
+unfoldable pub refused_told : PaperMarked → Told Heights
+refused_told m = record {
+  answer = m.paper.verdict.answer;
+  rows = m.paper.verdict.rows - rows_of (all_told m.verdicts);
+  peak = 0;
+  end = None;
+}
 
 -- The fragments accepted, with an empty line behind each. The first of them is fragment k, and its first row is row `from` of the
 -- log: "Rows of all fragments follow one another".
-abbrev pub blocks : Rules → Bytes → List ℕ → ℕ → ℕ → List Told → Bytes
+abbrev pub blocks : Rules → Bytes → List ℕ → ℕ → ℕ → List (Told Heights) → Bytes
 blocks R paper log k from [] = []
 blocks R paper log k from (t ∷ ts) = block R paper log k from t ++ text "\n" ++ blocks R paper log (k + 1) (from + t.rows) ts
 
@@ -34,11 +50,12 @@ alone number = eqb number 21 || (eqb number 28 || eqb number 29)
 
 -- What was refused, with what is told of it: one of these, the header (19), an entry by the dispatch check (20), or else the
 -- fragment of this number, whose first row is row `from`.
-unfoldable pub refused : Rules → Bytes → List ℕ → ℕ → ℕ → Told → Bytes
+unfoldable pub refused : Rules → Bytes → List ℕ → ℕ → ℕ → Told Heights → Bytes
 refused R paper log entry from t =
-    pick (alone t.number) (refusal_line [] t.number t.first t.second [])
-    (pick (eqb t.number 19) (header_line paper)
-    (pick (eqb t.number 20) (dispatch_line entry t.first t.second)
+    let a : Answer = t.answer in
+    pick (alone a.number) (refusal_line [] a.number a.first a.second [])
+    (pick (eqb a.number 19) (header_line paper)
+    (pick (eqb a.number 20) (dispatch_line entry a.first a.second)
     (block R paper log entry from t)))
 
 -- a marked paper: the fragments accepted; where something was refused, that and an empty line; the last line

@@ -1,37 +1,24 @@
 -- What the code promises of the text.
-use Rattle.std.specs.Prelude.{List, ◌++◌, ◌≡◌, ℕ, leb, eqb, length, take, drop}
+use Rattle.std.specs.Prelude.{List, ◌++◌, ◌≡◌, ℕ, leb, length, drop}
 use Rattle.definition.specs.Basics.{Bytes, pick}
-use Rattle.definition.specs.Lines.{text, refused_line}
 use Rattle.definition_rules.specs.Maps.{Options, mark_paper_with}
 use Rattle.definition.specs.Papers.{PaperMarked, mark_paper}
-use Rattle.definition.specs.Refusals.{answer}
+use Rattle.definition.specs.Papers as P
 use Rattle.definition.specs.Stacks.{Rules, built_in}
-use Rattle.log_lines.specs.declared.Told.{Told}
-use Rattle.log_marks.specs.declared.Marked.{Marked}
-use Rattle.log_marks.specs.Marks.{rows_of}
-use Rattle.log_text.specs.LogText.{blocks, refused, log_text, log_text_with}
+use Rattle.paper.specs.View.{paper_of}
+use Rattle.log_text.specs.LogText.{log_text, log_text_with}
 use Rattle.log_text.specs.declared.LogText.{LogText}
 
--- the text of a marked paper by what the struct holds
-abbrev pub last_by : ℕ → Told → Bytes
-last_by entry t = refused_line entry (answer t.number t.offset t.first t.second)
-
-unfoldable pub log_by : Rules → Bytes → List ℕ → Marked → Bytes
-log_by R paper log m =
-    blocks R paper log 0 0 (take m.count m.told)
-    ++ pick (eqb m.last.number 0) (text "accepted\n")
-    (refused R paper log m.entry (rows_of (take m.count m.told)) m.last ++ text "\n" ++ last_by m.entry m.last)
-
--- What is told of a text and done with it: a verdict's number, the size of the text, and the lent bytes: the text and then the rest
+-- What is told of a text and done with it: a paper's verdict, the size of the text, and the lent bytes: the text and then the rest
 -- as lent where there is room, all as lent where there is not.
-pub record Tells (verdict : ℕ) (t : Bytes) (lent : Bytes) (r : LogText) (new : Bytes) : Type 0 where
-  pub number : r.number ≡ verdict
+pub record Tells (v : P.PaperVerdict) (t : Bytes) (lent : Bytes) (r : LogText) (new : Bytes) : Type 0 where
+  pub verdict : paper_of r.verdict ≡ v
   pub size : r.size ≡ length t
   pub written : new ≡ pick (leb (length t) (length lent)) (t ++ drop (length t) lent) lent
 
--- The log of a marked paper: the verdict's number, the size of its text, the lent log afterwards, and the lent bytes as above.
+-- The log of a marked paper: its verdict, the size of its text, the lent log afterwards, and the lent bytes as above.
 pub record LogsOf (m : PaperMarked) (t : Bytes) (lent : Bytes) (r : LogText) (new_log : List ℕ) (new : Bytes) : Type 0 where
-  pub number : r.number ≡ m.paper.verdict.answer.number
+  pub verdict : paper_of r.verdict ≡ m.paper
   pub size : r.size ≡ length t
   pub logged : new_log ≡ m.log
   pub written : new ≡ pick (leb (length t) (length lent)) (t ++ drop (length t) lent) lent

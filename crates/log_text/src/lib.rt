@@ -2,214 +2,143 @@
 
 #![tactic(auto)]
 
-ghost use Rattle.std.specs.Prelude.{[], ◌≡◌, ◌+◌, ◌*◌, ◌≤◌, ◌<◌, length, take};
+ghost use Rattle.std.specs.Prelude.{[], Err, ◌≡◌, map, ◌+◌, ◌*◌, ◌≤◌, length};
+ghost use Rattle.definition.specs.Papers.{PaperMarked};
 ghost use Rattle.definition_rules.specs.Maps.{rules_by};
 ghost use Rattle.definition_rules.specs.Maps as Maps;
 ghost use Rattle.opcodes.specs.Classes.{rows_of as class_rows};
 ghost use Rattle.walk.specs.Runs.{options_of, rules_in};
-ghost use Rattle.log_lines.specs.Log.{refusal_line, header_line, dispatch_line};
-ghost use Rattle.log_blocks.specs.View.{Put};
-ghost use Rattle.log_marks.specs.Marks.{rows_of};
-ghost use Rattle.log_text.specs.LogText.{blocks, alone, refused};
-ghost use Rattle.log_text.specs.View.{last_by, log_by, Tells, LogsBy, Logs, LogsWith};
+ghost use Rattle.text.specs.View.{Puts};
+ghost use Rattle.stack_analysis.specs.View.{told};
+ghost use Rattle.paper.specs.View.{told_accepted, rows_of, Holds};
+ghost use Rattle.log_text.specs.LogText.{blocks, refused, log_of};
+ghost use Rattle.log_text.specs.View.{Tells, LogsBy, Logs, LogsWith};
 
-use log_lines::Told;
-use log_marks::Marked;
+use log_rows::Logged;
 use opcodes::Classes;
-use text::Line;
+use paper::{Marked, PaperVerdict};
+use refusals::{Answer, Refusal};
+use stack_analysis::{Accepted, Heights, Rejected};
+use text::Lent;
 use walk::{Options, Rules};
 
-// The verdict's number, and the size of the text.
-#[derive(Clone, Copy)]
+/// The verdict on the paper, and the size of the text.
+#[derive(Clone, Copy, Debug, PartialEq, Eq)]
 pub struct LogText {
-    pub number: u32,
+    pub verdict: PaperVerdict,
     pub size: usize,
 }
 
-// The line of a refused header.
-fn put_header(text: &mut [u8], at: usize, go: bool, paper: &[u8]) -> usize
-    requires { at ≤ 1099511627776 }
-    ensures same { Put go text.old at (header_line paper.now) text.new result }
-    ensures near { result ≤ at + 256 }
-{
-    let mut line: Line<256> = Line::new();
-    log_lines::push_header(&mut line, paper);
-    log_blocks::put(text, at, go, line.as_slice())
-}
-
-// The line of the dispatch check.
-fn put_dispatch(text: &mut [u8], at: usize, go: bool, entry: usize, sum: u64, limit: u64) -> usize
-    requires { at ≤ 1099511627776 }
-    ensures same { Put go text.old at (dispatch_line entry sum limit) text.new result }
-    ensures near { result ≤ at + 256 }
-{
-    let mut line: Line<256> = Line::new();
-    log_lines::push_dispatch(&mut line, entry, sum, limit);
-    log_blocks::put(text, at, go, line.as_slice())
-}
-
-// Whether the line of a refusal is number and word alone.
-fn alone(number: u32) -> bool
-    ensures { result ≡ alone number }
-{
-    matches!(number, 21 | 28 | 29)
-}
-
-// Such a line.
-fn put_alone(text: &mut [u8], at: usize, go: bool, number: u32, first: u64, second: u64) -> usize
-    requires { at ≤ 1099511627776 }
-    ensures same { Put go text.old at (refusal_line [] number first second []) text.new result }
-    ensures near { result ≤ at + 256 }
-{
-    let mut line: Line<256> = Line::new();
-    log_lines::push_refusal_line(&mut line, b"", number, first, second);
-    log_blocks::put(text, at, go, line.as_slice())
-}
-
-// The last line of a refused paper.
-fn put_last(text: &mut [u8], at: usize, go: bool, entry: usize, t: Told) -> usize
-    requires { at ≤ 1099511627776 }
-    ensures same { Put
-        go
-        text.old
-        at
-        (last_by entry t)
-        text.new
-        result }
-    ensures near { result ≤ at + 256 }
-{
-    let mut line: Line<256> = Line::new();
-    lines::push_refused(&mut line, t.number, entry, t.offset, t.first, t.second);
-    log_blocks::put(text, at, go, line.as_slice())
-}
-
-// The next index, and the next row.
-#[derive(Clone, Copy)]
-struct Place {
-    at: usize,
-    from: usize,
-}
-
-// The fragments accepted.
-fn put_blocks(
-    text: &mut [u8],
-    go: bool,
-    paper: &[u8],
-    log: &[u16],
-    classes: Classes,
-    count: usize,
-    told: [Told; 33],
-) -> Place
-    requires count_bound { (count ≤ 33) × (rows_of (take count told) ≤ 330000) }
-    requires told_in_bounds { 3 * rows_of (take count told) ≤ length log.now }
+// Puts the fragments accepted; the next row.
+#[tactic(auto, using(crate::proofs::Blocks::blockings))]
+fn put_blocks(out: &mut Lent, paper: Logged, accepted: &[Accepted<Heights>]) -> usize
+    requires { 3 * rows_of (map told_accepted accepted.now) ≤ length paper.log.now }
     ensures same { (options : Maps.Options)
-        → Put
-        go
-        text.old
+        → Puts
+        out.old
+        (blocks
+        (rules_by (class_rows paper.entry.classes) options)
+        paper.entry.bytes.now
+        paper.entry.log.now
         0
-        (blocks (rules_by (class_rows classes.entry) options) paper.now log.now 0 0 (take count told))
-        text.new
-        result.at }
-    ensures rows { result.from ≡ rows_of (take count told) }
-    ensures near { result.at ≤ 100000000 }
+        0
+        (map told_accepted accepted.now))
+        out.new }
+    ensures rows { result ≡ rows_of (map told_accepted accepted.now) }
+    ensures near { out.new.size ≤ out.old.size + 256 * result + 1024 * length accepted.now }
 {
-    let mut at = 0;
     let mut from = 0;
-    for k in 0..count {
-        let t = told[k];
-        let next = log_blocks::put_block(text, at, go, paper, log, classes, k, from, t);
-        at = log_blocks::put(text, next, go, b"\n");
-        from += t.rows;
+    for (k, &fragment) in accepted.iter().enumerate() {
+        log_blocks::put_block(out, paper, k, from, Ok(fragment));
+        out.put(b"\n");
+        from += fragment.rows;
     }
-    Place { at, from }
+    from
 }
 
-// What was refused.
-fn put_refused(
-    text: &mut [u8],
-    at: usize,
-    go: bool,
-    paper: &[u8],
-    log: &[u16],
-    classes: Classes,
-    entry: usize,
-    from: usize,
-    t: Told,
-) -> usize
-    requires at_bound { (at ≤ 100000000) × ((t.rows ≤ 330000) × (3 * (from + t.rows) ≤ length log.now)) }
+// Puts what was refused.
+fn put_refused(out: &mut Lent, paper: Logged, entry: usize, from: usize, rejected: Rejected)
+    requires { 3 * (from + rejected.rows) ≤ length paper.log.now }
     ensures same { (options : Maps.Options)
-        → Put
-        go
-        text.old
-        at
-        (refused (rules_by (class_rows classes.entry) options) paper.now log.now entry from t)
-        text.new
-        result }
-    ensures near { result ≤ 1000000000 }
+        → Puts
+        out.old
+        (refused
+        (rules_by (class_rows paper.entry.classes) options)
+        paper.entry.bytes.now
+        paper.entry.log.now
+        entry
+        from
+        (told {E = Heights} (Err rejected)))
+        out.new }
+    ensures near { out.new.size ≤ out.old.size + 256 * (rejected.rows + 3) }
 {
-    if alone(t.number) {
-        return put_alone(text, at, go, t.number, t.first, t.second);
+    let answer = Answer::from(Err(rejected.refused));
+    match rejected.refused.refusal {
+        Refusal::LongPaper { .. } | Refusal::BadMap | Refusal::BadLimit => {
+            out.put(&log_lines::refusal_line(b"", answer, b""))
+        }
+        Refusal::BadHeader => out.put(&log_lines::header_line(paper.bytes)),
+        Refusal::DispatchTooLarge { .. } => out.put(&log_lines::dispatch_line(entry, answer)),
+        _ => log_blocks::put_block(out, paper, entry, from, Err(rejected)),
     }
-    if t.number == 19 {
-        return put_header(text, at, go, paper);
-    }
-    if t.number == 20 {
-        return put_dispatch(text, at, go, entry, t.first, t.second);
-    }
-    log_blocks::put_block(text, at, go, paper, log, classes, entry, from, t)
 }
 
-// All of a marked paper.
-fn put_log(
-    text: &mut [u8],
-    go: bool,
-    paper: &[u8],
-    log: &[u16],
-    classes: Classes,
-    m: Marked,
-) -> usize
-    requires count_bound { (m.count ≤ 33) × (rows_of (take m.count m.told) + m.last.rows ≤ 330000) }
-    requires rows_in_bounds { 3 * (rows_of (take m.count m.told) + m.last.rows) ≤ length log.now }
-    ensures { (options : Maps.Options)
-        → Put
-        go
-        text.old
-        0
-        (log_by (rules_by (class_rows classes.entry) options) paper.now log.now m)
-        text.new
-        result }
+// Puts all of a marked paper, of at most 330,000 rows.
+#[tactic(auto, using(crate::proofs::Texts::rows_put))]
+fn put_log(out: &mut Lent, paper: Logged, marked: &Marked)
+    requires { (m : PaperMarked) × Holds m marked.now paper.log.now }
+    ensures same { (options : Maps.Options) (m : PaperMarked)
+        → Holds m marked.now paper.entry.log.now
+        → Puts
+        out.old
+        (log_of (rules_by (class_rows paper.entry.classes) options) paper.entry.bytes.now m)
+        out.new }
+    ensures near { out.new.size ≤ out.old.size + 100000000 }
 {
-    let told = m.told;
-    let t = m.last;
-    let p = put_blocks(text, go, paper, log, classes, m.count, told);
-    if t.number == 0 {
-        return log_blocks::put(text, p.at, go, b"accepted\n");
+    let from = put_blocks(out, paper, &marked.accepted);
+    match marked.verdict {
+        Ok(_) => out.put(b"accepted\n"),
+        Err(last) => {
+            let refused = last.refused;
+            let rows = last.rows - from;
+            put_refused(out, paper, last.entry, from, Rejected { rows, refused });
+            out.put(b"\n");
+            out.put(&lines::refused_line(last.entry, Err(refused).into()));
+        }
     }
-    let b = put_refused(text, p.at, go, paper, log, classes, m.entry, p.from, t);
-    let c = log_blocks::put(text, b, go, b"\n");
-    put_last(text, c, go, m.entry, t)
 }
 
 // Counts what is printed of a marked paper, and writes that where there is room.
-fn write_marked(paper: &[u8], log: &[u16], classes: Classes, m: Marked, text: &mut [u8]) -> LogText
-    requires count_bound { (m.count ≤ 33) × (rows_of (take m.count m.told) + m.last.rows ≤ 330000) }
-    requires rows_in_bounds { 3 * (rows_of (take m.count m.told) + m.last.rows) ≤ length log.now }
-    ensures { (options : Maps.Options)
+fn write_marked<'a>(
+    bytes: &'a [u8],
+    log: &'a [u16],
+    classes: Classes<'a>,
+    marked: &Marked,
+    text: &mut [u8],
+) -> LogText
+    requires { (m : PaperMarked) × Holds m marked.now log.now }
+    ensures { (options : Maps.Options) (m : PaperMarked)
+        → Holds m marked.now log.now
         → Tells
-        m.last.number
-        (log_by (rules_by (class_rows classes.entry) options) paper.now log.now m)
+        m.paper
+        (log_of (rules_by (class_rows classes.entry) options) bytes.now m)
         text.old
         result
         text.new }
 {
-    let t = m.last;
-    let number = t.number;
-    let size = put_log(text, false, paper, log, classes, m);
-    if size > text.len() {
-        return LogText { number, size };
+    let paper = Logged {
+        bytes,
+        log,
+        classes,
+    };
+    let verdict = marked.verdict;
+    let mut counted = Lent::new(&mut []);
+    put_log(&mut counted, paper, marked);
+    let size = counted.size();
+    if size <= text.len() {
+        put_log(&mut Lent::new(text), paper, marked);
     }
-    put_log(text, true, paper, log, classes, m);
-    LogText { number, size }
+    LogText { verdict, size }
 }
 
 /// Marks a paper by these rules, counts what is printed of it, and writes that where there is room.
@@ -223,11 +152,12 @@ pub fn write_log_rows(paper: &[u8], rules: Rules, log: &mut [u16], text: &mut [u
         log.new
         text.new }
 {
-    let m = log_marks::mark_rows(paper, rules, log);
-    write_marked(paper, log, rules.classes, m, text)
+    let marked = paper::mark_rows(paper, rules, log);
+    write_marked(paper, log, rules.classes, &marked, text)
 }
 
 /// The same by the built-in table at 244. Every input comes to its text.
+#[tactic(auto, using(crate::proofs::Texts::same_rules))]
 pub fn write_log(paper: &[u8], log: &mut [u16], text: &mut [u8]) -> LogText
     ensures { Logs
         paper.now
@@ -262,8 +192,8 @@ pub fn write_log_with(
     match maps::rules(map, options) {
         Ok(rules) => write_log_rows(paper, rules, log, text),
         Err(refusal) => {
-            let m = log_marks::refused(0, refusal);
-            write_marked(paper, log, Classes::built_in(), m, text)
+            let marked = paper::refused(0, refusal);
+            write_marked(paper, log, Classes::built_in(), &marked, text)
         }
     }
 }

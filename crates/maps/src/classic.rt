@@ -5,7 +5,8 @@ use opcodes::{
     TUCK, TWO_DUP, TWO_OVER, TWO_ROT, TWO_SWAP, UNMODELLED,
 };
 
-// The class of each opcode in the classic year as a table, each entry beside its code.
+// The class of each opcode in the classic year as a table, each entry beside its code. It is whole, and no list of
+// what differs from the built-in one, since a map is lent whole.
 pub const CLASSIC: [u8; 256] = [
     PUSH, // 00
     PUSH, // 01

@@ -53,6 +53,7 @@ fn classes(map: &[u8]) -> Option<Classes<'_>>
 }
 
 /// A lent limit; none where it is bad.
+// No `TryFrom`: which limits are good is said of maps, above the crate of `Limit`.
 fn limit(items: u32) -> Option<Limit>
     ensures some { IfSome result (λ l. (good_limit items ≡ true) × (l.items ≡ items)) }
     ensures none { IfNone result (good_limit items ≡ false) }
@@ -77,6 +78,7 @@ pub fn rules(map: &[u8], options: Options) -> Result<Rules<'_>, Refusal>
 }
 
 /// The rows of a year: 0 is the current one, which is built in, 1 the classic one. There is no other.
+// A year is a number and no enum: C callers hand it over so, and any other has its answer too.
 fn year_rows(year: u32) -> Option<&'static [u8; 256]>
     ensures some { IfSome result (λ rows. YearRows year rows.now) }
     ensures none { IfNone result (1 < year) }

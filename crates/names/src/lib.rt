@@ -415,7 +415,11 @@ pub struct Names {
 
 impl Names {
     /// The names of all codes.
-    pub fn new() -> Names {
+    pub fn new() -> Names
+        ensures letters { result.letters.now ≡ all_letters }
+        ensures starts { T (starts_right result.starts.now) }
+        ensures codes { T (codes_right result.codes.now) }
+    {
         Names {
             letters: &LETTERS,
             starts: &STARTS,

@@ -157,7 +157,7 @@ pub fn class_of(opcode: u8) -> Class
     }
 }
 
-// The class numbers, as the tables name them.
+// The class numbers, as the tables name them: a map that C callers lend has rows of bytes, and so have the built-in ones.
 pub const UNMODELLED: u8 = Class::Unmodelled as u8;
 
 pub const PUSH: u8 = Class::Push as u8;
@@ -222,7 +222,8 @@ pub const EFFECT_3_1: u8 = Class::Effect31 as u8;
 
 pub const EFFECT_2_1: u8 = Class::Effect21 as u8;
 
-// The class of each opcode as a table, each entry beside its code.
+// The class of each opcode as a table, each entry beside its code. It stands beside `class_of` since it is what a map is: 256 bytes
+// that are lent, and that `listochur_map` hands to C callers.
 pub const CLASSES: [u8; 256] = [
     PUSH, // 00
     PUSH, // 01

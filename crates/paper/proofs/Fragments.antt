@@ -12,10 +12,11 @@ use lib.Seq.{take_all}
 use Rattle.definition.specs.Basics.{Bytes}
 use Rattle.definition.specs.Decoding.{Instruction, decode, instructions, malformed_at}
 use Rattle.definition.specs.Papers.{Fragment, fragments}
+use Rattle.definition.specs.Refusals.{bad_header}
 use Rattle.definition.specs.Stacks.{Rules, Stacks}
-use Rattle.definition.specs.Walk.{Item, Move, moves, refuses, effect, Frame, State, met, onward, follow, at_end, walk, answered, begin, unknowns, tested, Marked, analysis_of, analysis}
-use Rattle.stack_analysis.specs.View.{summarized}
-use Rattle.stack_analysis.specs.declared.Summary.{Summary}
+use Rattle.definition.specs.Walk.{Item, Move, moves, refuses, effect, Frame, State, met, onward, follow, at_end, walk, answered, begin, unknowns, tested, Marked, analysis_of, analysis, refused_verdict}
+use Rattle.stack_analysis.specs.View.{Verdict, Told, told, told_of, heights_of}
+use Rattle.stack_analysis.specs.declared.Heights.{Heights}
 use Rattle.header.specs.View.{fragment_at}
 use Rattle.paper.specs.View.{fragment_analysis, fragment_marked}
 
@@ -86,56 +87,58 @@ module _ (log : List ℕ) (from : ℕ) where
   none_after rest = ap (λ l. rest ++ l) (drop_of_length-le (drop from log) {i = length log - from} (omega (arith, length-drop from log))) ∙ append-nil rest
 
 -- the answer r and the new log are those of the analysis m of what the log has from a number on, and its rows have room
-pub record Marks (m : Marked) (from : ℕ) (log : List ℕ) (r : Summary) (new : List ℕ) : Type 0 where
-  pub same : r ≡ summarized m.verdict
+pub record Marks (m : Marked) (from : ℕ) (log : List ℕ) (r : Verdict Heights) (new : List ℕ) : Type 0 where
+  pub same : told r ≡ told_of heights_of m.verdict
   pub logged : new ≡ take from log ++ m.log
-  pub room : from + 3 * r.rows ≤ length log
+  pub room : from + 3 * (told r).rows ≤ length log
 
 -- the analysis of s from there on
 module _ (R : Rules) (s : Bytes) (main alt from : ℕ) (log : List ℕ) where
   abbrev analysed : List ℕ → Marked
   analysed l = analysis R s main alt l
 
-  marks-part : (rest : List ℕ) (r : Summary) → from ≤ length log
-      → r ≡ summarized (analysed (take (length log - from) (drop from log))).verdict → rest ≡ (analysed (take (length log - from) (drop from log))).log
+  marks-part : (rest : List ℕ) (r : Verdict Heights) → from ≤ length log
+      → told r ≡ told_of heights_of (analysed (take (length log - from) (drop from log))).verdict → rest ≡ (analysed (take (length log - from) (drop from log))).log
       → Marks (analysed (drop from log)) from log r (take from log ++ (rest ++ drop (length log - from) (drop from log)))
-  unfolding summarized
   marks-part rest r h e f =
-      let e' : r ≡ summarized (analysed (drop from log)).verdict = e ∙ ap (λ l. summarized (analysed l).verdict) (all_left log from) in
+      let e' : told r ≡ told_of heights_of (analysed (drop from log)).verdict = e ∙ ap (λ l. told_of heights_of (analysed l).verdict) (all_left log from) in
       let f' : rest ≡ (analysed (drop from log)).log = f ∙ ap (λ l. (analysed l).log) (all_left log from) in
       record {
         same = e';
         logged = ap (λ l. take from log ++ l) (none_after log from rest ∙ f');
-        room = omega (arith, ap (λ (v : Summary). v.rows) e', rows-analysis R s main alt (drop from log), length-drop from log);
+        room = omega (arith, ap (λ (t : Told Heights). t.rows) e', rows-analysis R s main alt (drop from log), length-drop from log);
       }
 
 -- What is promised of a fragment
 
-pub record FragmentMarks (R : Rules) (p : Bytes) (k rows : ℕ) (log : List ℕ) (r : Summary) (new : List ℕ) : Type 0 where
-  pub same : r ≡ summarized (fragment_marked R p k rows log).verdict
+pub record FragmentMarks (R : Rules) (p : Bytes) (k rows : ℕ) (log : List ℕ) (r : Verdict Heights) (new : List ℕ) : Type 0 where
+  pub same : told r ≡ told_of heights_of (fragment_marked R p k rows log).verdict
   pub logged : new ≡ (fragment_marked R p k rows log).log
-  pub room : 3 * rows ≤ length log → 3 * (rows + r.rows) ≤ length log
+  pub room : 3 * rows ≤ length log → 3 * (rows + (told r).rows) ≤ length log
 
-pub fragment-marks-by : {R Q : Rules} → R ≡ Q → (p : Bytes) (k rows : ℕ) (log : List ℕ) (r : Summary) (new : List ℕ) → FragmentMarks R p k rows log r new
+pub fragment-marks-by : {R Q : Rules} → R ≡ Q → (p : Bytes) (k rows : ℕ) (log : List ℕ) (r : Verdict Heights) (new : List ℕ) → FragmentMarks R p k rows log r new
     → FragmentMarks Q p k rows log r new
 fragment-marks-by e p k rows log r new m = subst (λ (X : Rules). FragmentMarks X p k rows log r new) e m
 
 module _ (R : Rules) (p : Bytes) (k rows : ℕ) (log : List ℕ) where
-  pub no-fragment : length (fragments p) ≤ k
-      → FragmentMarks R p k rows log (record { number = 19; offset = 0; first = 0; second = 0; rows = 0; peak = 0; ended = false; main = 0; alt = 0 }) log
-  unfolding fragment_marked summarized
-  no-fragment h = record { same = rw (le-ltb k (length (fragments p)) h); logged = rw (le-ltb k (length (fragments p)) h); room = λ g. omega arith }
+  pub no-fragment : length (fragments p) ≤ k → (r : Verdict Heights) → told r ≡ told_of heights_of (refused_verdict 0 bad_header 0) → FragmentMarks R p k rows log r log
+  unfolding fragment_marked
+  no-fragment h r e = record {
+    same = rw (le-ltb k (length (fragments p)) h) e;
+    logged = rw (le-ltb k (length (fragments p)) h);
+    room = λ g. omega (arith, g, ap (λ (t : Told Heights). t.rows) e);
+  }
 
   module _ (there : k < length (fragments p)) where
     marked-there : fragment_marked R p k rows log ≡ record { verdict = (fragment_analysis R p k rows log).verdict; log = take (3 * rows) log ++ (fragment_analysis R p k rows log).log }
     unfolding fragment_marked
     marked-there = rw (lt-ltb k (length (fragments p)) there)
 
-    module _ (r : Summary) (new : List ℕ) where
+    module _ (r : Verdict Heights) (new : List ℕ) where
       -- for a caller whose rows lie within the log
       pub fragment-marks : FragmentMarks R p k rows log r new → 3 * rows ≤ length log → Marks (fragment_analysis R p k rows log) (3 * rows) log r new
       fragment-marks m h = record {
-        same = m.same ∙ ap (λ (x : Marked). summarized x.verdict) marked-there;
+        same = m.same ∙ ap (λ (x : Marked). told_of heights_of x.verdict) marked-there;
         logged = m.logged ∙ ap (λ (x : Marked). x.log) marked-there;
         room = omega (arith, m.room h);
       }
@@ -147,14 +150,14 @@ module _ (R : Rules) (p : Bytes) (k rows : ℕ) (log : List ℕ) where
             let t : take from log ≡ take (3 * rows) log = ap (λ n. take n log) start ∙ take_min (3 * rows) log in
             let a : analysis R f.bytes f.main f.alt (drop from log) ≡ fragment_analysis R p k rows log = rw (d, ← e) in
             record {
-              same = m.same ∙ ap (λ (x : Marked). summarized x.verdict) a ∙ sym (ap (λ (x : Marked). summarized x.verdict) marked-there);
+              same = m.same ∙ ap (λ (x : Marked). told_of heights_of x.verdict) a ∙ sym (ap (λ (x : Marked). told_of heights_of x.verdict) marked-there);
               logged = m.logged ∙ ap₂ (λ (x : List ℕ) (y : Marked). x ++ y.log) t a ∙ sym (ap (λ (x : Marked). x.log) marked-there);
               room = λ h. omega (arith, m.room, start);
             }
 
     -- the analysis of fragment k, on the log from where its rows start
-    pub marks-fragment : (f : Fragment) → f ≡ fragment_at p k → (from : ℕ) → from ≡ min (3 * rows) (length log) → (r : Summary) (rest : List ℕ)
-        → r ≡ summarized (analysis R f.bytes f.main f.alt (take (length log - from) (drop from log))).verdict
+    pub marks-fragment : (f : Fragment) → f ≡ fragment_at p k → (from : ℕ) → from ≡ min (3 * rows) (length log) → (r : Verdict Heights) (rest : List ℕ)
+        → told r ≡ told_of heights_of (analysis R f.bytes f.main f.alt (take (length log - from) (drop from log))).verdict
         → rest ≡ (analysis R f.bytes f.main f.alt (take (length log - from) (drop from log))).log
         → FragmentMarks R p k rows log r (take from log ++ (rest ++ drop (length log - from) (drop from log)))
     marks-fragment f e from start r rest g h =

@@ -2,31 +2,43 @@
 
 #![tactic(auto)]
 
-ghost use Rattle.std.specs.Prelude.{◌≡◌, ◌+◌, ◌*◌, ◌≤◌, min, length};
-ghost use Rattle.definition.specs.Papers.{fragments, mark_from, mark_paper, EachTrue};
+ghost use Rattle.std.specs.Prelude.{List, ◌≡◌, ℕ, ◌+◌, ◌*◌, ◌≤◌, ◌<◌, min, length, IsOk};
+ghost use Rattle.definition.specs.Papers.{fragments, mark_from, mark_paper, refused_paper, EachTrue};
 ghost use Rattle.definition_rules.specs.Maps.{rules_of, mark_paper_with};
 ghost use Rattle.definition.specs.Stacks.{built_in};
-ghost use Rattle.definition.specs.Walk.{refused_verdict};
 ghost use Rattle.refusals.specs.View.{refusal_of};
 ghost use Rattle.walk.specs.Runs.{options_of, rules_in};
-ghost use Rattle.stack_analysis.specs.View.{summarized};
-ghost use Rattle.paper.specs.View.{fragment_marked, paper_of};
+ghost use Rattle.stack_analysis.specs.View.{told, told_of, heights_of};
+ghost use Rattle.paper.specs.View.{fragment_marked, paper_of, Holds};
 
-use refusals::Refusal;
-use stack_analysis::Summary;
+use arrayvec::ArrayVec;
+use refusals::{Refusal, Refused};
+use stack_analysis::{Accepted, Heights, Rejected, Verdict};
 use walk::{Options, Rules};
 
-/// The verdict on a paper: the entry that it is about (E for the initialiser), number, offset and two figures, the rows
-/// written, the peak. A paper has no end stacks.
+/// An accepted paper: the rows written, and the greatest peak. A paper has no end stacks.
 #[derive(Clone, Copy, Debug, PartialEq, Eq)]
-pub struct PaperVerdict {
-    pub entry: usize,
-    pub number: u32,
-    pub offset: usize,
-    pub first: u64,
-    pub second: u64,
+pub struct AcceptedPaper {
     pub rows: usize,
     pub peak: u32,
+}
+
+/// A refused paper: the entry that it is about (E for the initialiser), the rows written, and why and where it is refused.
+#[derive(Clone, Copy, Debug, PartialEq, Eq)]
+pub struct RejectedPaper {
+    pub entry: usize,
+    pub rows: usize,
+    pub refused: Refused,
+}
+
+/// The verdict on a paper.
+pub type PaperVerdict = Result<AcceptedPaper, RejectedPaper>;
+
+/// A marked paper: its verdict, and the fragments accepted, in their order.
+#[derive(Clone, Drop)]
+pub struct Marked {
+    pub verdict: PaperVerdict,
+    pub accepted: ArrayVec<Accepted<Heights>, 33>,
 }
 
 // Where the rows behind so many others start in a log of so many numbers: at its end where it has not so many.
@@ -44,24 +56,15 @@ pub fn mark_fragment_rows(
     rows: usize,
     rules: Rules,
     log: &mut [u16],
-) -> Summary
-    ensures same { result ≡ summarized (fragment_marked (rules_in rules.entry) paper.now k rows log.old).verdict }
+) -> Verdict<Heights>
+    ensures same { told result
+        ≡ told_of heights_of (fragment_marked (rules_in rules.entry) paper.now k rows log.old).verdict }
     ensures logged { log.new ≡ (fragment_marked (rules_in rules.entry) paper.now k rows log.old).log }
     ensures room { 3 * rows ≤ length log.old
-        → 3 * (rows + result.rows) ≤ length log.old }
+        → 3 * (rows + (told result).rows) ≤ length log.old }
 {
     let Some(fragment) = fragments::nth_fragment(paper, k) else {
-        return Summary {
-            number: 19,
-            offset: 0,
-            first: 0,
-            second: 0,
-            rows: 0,
-            peak: 0,
-            ended: false,
-            main: 0,
-            alt: 0,
-        };
+        return Err(Refused::from(Refusal::BadHeader).into());
     };
     let from = rows_start(rows, log.len());
     stack_analysis::analyze_heights_rows(
@@ -75,77 +78,74 @@ pub fn mark_fragment_rows(
 
 /// The verdict of fragment k, the bodies in order and then the initialiser; its rows are written behind `rows` others. 19
 /// where the paper has no fragment k. By the built-in table at 244; every input comes to a verdict.
-pub fn mark_fragment(paper: &[u8], k: usize, rows: usize, log: &mut [u16]) -> Summary
-    ensures same { result
-        ≡ summarized (fragment_marked built_in paper.now k rows log.old).verdict }
+pub fn mark_fragment(paper: &[u8], k: usize, rows: usize, log: &mut [u16]) -> Verdict<Heights>
+    ensures same { told result
+        ≡ told_of heights_of (fragment_marked built_in paper.now k rows log.old).verdict }
     ensures logged { log.new ≡ (fragment_marked built_in paper.now k rows log.old).log }
     ensures room { 3 * rows ≤ length log.old
-        → 3 * (rows + result.rows) ≤ length log.old }
+        → 3 * (rows + (told result).rows) ≤ length log.old }
 {
     mark_fragment_rows(paper, k, rows, Rules::built_in(), log)
 }
 
-// All fragments, their rows one after another in the log.
-fn mark_fragments(paper: &[u8], rules: Rules, log: &mut [u16]) -> PaperVerdict
-    ensures same { paper_of result ≡ (mark_from (rules_in rules.entry) 0 0 0 (fragments paper.now) log.old).paper }
-    ensures logged { log.new ≡ (mark_from (rules_in rules.entry) 0 0 0 (fragments paper.now) log.old).log }
+// A paper that is refused in fragment k, behind so many rows.
+fn rejected(k: usize, rows: usize, fragment: Rejected) -> RejectedPaper
+    requires { rows + fragment.rows < 18446744073709551616 }
+    ensures { result ≡ record { entry = k; rows = rows + fragment.rows; refused = fragment.refused } }
 {
-    let mut rows = 0;
-    let mut peak = 0;
-    for k in 0..header::fragment_count(paper) {
-        let v = mark_fragment_rows(paper, k, rows, rules, log);
-        rows += v.rows;
-        if v.number != 0 {
-            return PaperVerdict {
-                entry: k,
-                number: v.number,
-                offset: v.offset,
-                first: v.first,
-                second: v.second,
-                rows,
-                peak: 0,
-            };
-        }
-        peak = v.peak.max(peak);
-    }
-    PaperVerdict {
-        entry: 0,
-        number: 0,
-        offset: 0,
-        first: 0,
-        second: 0,
-        rows,
-        peak,
+    RejectedPaper {
+        entry: k,
+        rows: rows + fragment.rows,
+        refused: fragment.refused,
     }
 }
 
-// A refusal of the paper itself, with no rows.
-#[tactic(auto, unfolding(crate::specs::View::paper_of))]
-fn refused(entry: usize, refusal: Refusal) -> PaperVerdict
-    ensures { paper_of result ≡ record { entry = entry; verdict = refused_verdict 0 (refusal_of refusal) 0 } }
+// All fragments, their rows one after another in the log.
+fn mark_fragments(paper: &[u8], rules: Rules, log: &mut [u16]) -> Marked
+    requires { length (fragments paper.now) ≤ 33 }
+    ensures { Holds
+        (mark_from (rules_in rules.entry) 0 0 0 (fragments paper.now) log.old)
+        result
+        log.new }
 {
-    PaperVerdict {
+    let mut accepted = ArrayVec::new();
+    let mut rows = 0;
+    let mut peak = 0;
+    for k in 0..header::fragment_count(paper) {
+        match mark_fragment_rows(paper, k, rows, rules, log) {
+            Ok(fragment) => {
+                rows += fragment.rows;
+                peak = fragment.peak.max(peak);
+                accepted.push(fragment);
+            }
+            Err(fragment) => {
+                let verdict = Err(rejected(k, rows, fragment));
+                return Marked { verdict, accepted };
+            }
+        }
+    }
+    let verdict = Ok(AcceptedPaper { rows, peak });
+    Marked { verdict, accepted }
+}
+
+/// A refusal of the paper itself, with no rows.
+pub fn refused(entry: usize, refusal: Refusal) -> Marked
+    ensures { (lent : List ℕ) → Holds (refused_paper entry (refusal_of refusal) lent) result lent }
+{
+    let verdict = Err(RejectedPaper {
         entry,
-        number: refusal.number(),
-        offset: 0,
-        first: refusal.first(),
-        second: refusal.second(),
         rows: 0,
-        peak: 0,
+        refused: refusal.into(),
+    });
+    Marked {
+        verdict,
+        accepted: ArrayVec::new(),
     }
 }
 
 /// Marks a paper: 21, 19, the dispatch check of each entry, the bodies in order, then the initialiser.
-pub fn mark_paper_rows(paper: &[u8], rules: Rules, log: &mut [u16]) -> PaperVerdict
-    ensures same { paper_of result ≡ (mark_paper (rules_in rules.entry) paper.now log.old).paper }
-    ensures logged { log.new ≡ (mark_paper (rules_in rules.entry) paper.now log.old).log }
-    ensures replayed { result.number ≡ 0
-        → EachTrue
-        (rules_in rules.entry)
-        0
-        (fragments paper.now)
-        (mark_paper (rules_in rules.entry) paper.now log.old).verdicts
-        log.new }
+pub fn mark_rows(paper: &[u8], rules: Rules, log: &mut [u16]) -> Marked
+    ensures { Holds (mark_paper (rules_in rules.entry) paper.now log.old) result log.new }
 {
     let length = paper.len();
     if length > 8000 {
@@ -167,11 +167,36 @@ pub fn mark_paper_rows(paper: &[u8], rules: Rules, log: &mut [u16]) -> PaperVerd
     }
 }
 
-/// Marks a paper by the built-in table at 244. Every input comes to a verdict.
+/// Marks a paper by a lent map and a lent limit, in a mode: 28 and then 29 before all else.
+pub fn mark_with(paper: &[u8], map: &[u8], options: Options, log: &mut [u16]) -> Marked
+    ensures { Holds (mark_paper_with map.now (options_of options) paper.now log.old) result log.new }
+{
+    match maps::rules(map, options) {
+        Ok(rules) => mark_rows(paper, rules, log),
+        Err(refusal) => refused(0, refusal),
+    }
+}
+
+/// The verdict on a paper by these rules.
+pub fn mark_paper_rows(paper: &[u8], rules: Rules, log: &mut [u16]) -> PaperVerdict
+    ensures same { paper_of result ≡ (mark_paper (rules_in rules.entry) paper.now log.old).paper }
+    ensures logged { log.new ≡ (mark_paper (rules_in rules.entry) paper.now log.old).log }
+    ensures replayed { IsOk result
+        → EachTrue
+        (rules_in rules.entry)
+        0
+        (fragments paper.now)
+        (mark_paper (rules_in rules.entry) paper.now log.old).verdicts
+        log.new }
+{
+    mark_rows(paper, rules, log).verdict
+}
+
+/// The verdict on a paper by the built-in table at 244. Every input comes to a verdict.
 pub fn mark_paper(paper: &[u8], log: &mut [u16]) -> PaperVerdict
     ensures same { paper_of result ≡ (mark_paper built_in paper.now log.old).paper }
     ensures logged { log.new ≡ (mark_paper built_in paper.now log.old).log }
-    ensures replayed { result.number ≡ 0
+    ensures replayed { IsOk result
         → EachTrue
         built_in
         0
@@ -182,11 +207,11 @@ pub fn mark_paper(paper: &[u8], log: &mut [u16]) -> PaperVerdict
     mark_paper_rows(paper, Rules::built_in(), log)
 }
 
-/// Marks a paper by a lent map and a lent limit, in a mode: 28 and then 29 before all else. Every input comes to a verdict.
+/// The verdict on a paper by a lent map and a lent limit, in a mode: 28 and then 29 before all else. Every input comes to a verdict.
 pub fn mark_paper_with(paper: &[u8], map: &[u8], options: Options, log: &mut [u16]) -> PaperVerdict
     ensures same { paper_of result ≡ (mark_paper_with map.now (options_of options) paper.now log.old).paper }
     ensures logged { log.new ≡ (mark_paper_with map.now (options_of options) paper.now log.old).log }
-    ensures replayed { result.number ≡ 0
+    ensures replayed { IsOk result
         → EachTrue
         (rules_of map.now (options_of options))
         0
@@ -194,8 +219,5 @@ pub fn mark_paper_with(paper: &[u8], map: &[u8], options: Options, log: &mut [u1
         (mark_paper_with map.now (options_of options) paper.now log.old).verdicts
         log.new }
 {
-    match maps::rules(map, options) {
-        Ok(rules) => mark_paper_rows(paper, rules, log),
-        Err(refusal) => refused(0, refusal),
-    }
+    mark_with(paper, map, options, log).verdict
 }

@@ -17,11 +17,11 @@ use Rattle.definition.specs.Walk as W
 use Rattle.decode.specs.View.{value_of}
 use Rattle.decode.specs.declared.Value.{Value}
 use Rattle.decode.specs.declared.Value.TheVariants.{Unknown, Exact}
-use Rattle.ends.specs.View.{items_of, packed_end, no_stacks}
+use Rattle.ends.specs.View.{items_of, packed_end}
 use Rattle.ends.proofs.Ends.{items-length, packed-main, packed-alt}
-use Rattle.stack_analysis.specs.View.{end_stacks, packed_verdict, end_main, end_alt}
-use Rattle.places.specs.View.{written, verdict_numbers, items_numbers, end_numbers}
-use Rattle.places.specs.Parts.{value_numbers, summary_numbers, in_heights, struct_numbers}
+use Rattle.stack_analysis.specs.View.{end_as, told_of, heights_of}
+use Rattle.places.specs.View.{written, flag, has_end, end_main, end_alt, verdict_numbers, items_numbers, end_numbers}
+use Rattle.places.specs.Parts.{value_numbers, heights_numbers, told_numbers, end_heights, in_heights, struct_numbers, ends_numbers}
 use Rattle.places.proofs.Places.{too_few, all-written}
 
 -- The loop over the items
@@ -87,30 +87,27 @@ struct_is s =
     let n : length s.main + length s.alt ≡ length (map value_of (items_of s)) = sym (length-map (items_of s) value_of ∙ items-length s) in
     ap (flat_map value_numbers) (take_at (map value_of (items_of s)) _ _ (sym n)) ∙ value-is (items_of s)
 
-end_is : (c : Arm) → struct_numbers (end_stacks c) ≡ end_numbers c
-end_is dead = struct_is no_stacks
-end_is (live s) = struct_is s
-
--- by the verdict with its end
+-- by the verdict with its end, in either form
 module _ (u : W.Verdict) where
-  main-is : (c : Arm) → (end_stacks c).main ≡ end_main c
-  main-is dead = packed-main no_stacks
-  main-is (live s) = packed-main s
+  items-by : (c : Arm) → ends_numbers (end_as packed_end c) ≡ end_numbers c
+  items-by dead = refl
+  items-by (live s) = struct_is s
 
-  alt-is : (c : Arm) → (end_stacks c).alt ≡ end_alt c
-  alt-is dead = packed-alt no_stacks
-  alt-is (live s) = packed-alt s
+  packed-by : (c : Arm) → heights_numbers (end_heights (end_as packed_end c)) ≡ flag (has_end c) ∷ end_main c ∷ end_alt c ∷ []
+  packed-by dead = refl
+  packed-by (live s) = rw (packed-main s, packed-alt s)
 
-  pub verdict-number : (packed_verdict u).number ≡ u.answer.number
-  unfolding packed_verdict
-  verdict-number = refl
+  heights-by : (c : Arm) → heights_numbers (end_as heights_of c) ≡ flag (has_end c) ∷ end_main c ∷ end_alt c ∷ []
+  heights-by dead = refl
+  heights-by (live s) = refl
 
-  pub verdict-heights : summary_numbers (in_heights (packed_verdict u)) ≡ verdict_numbers u
-  unfolding packed_verdict
-  verdict-heights = rw (main-is u.end, alt-is u.end)
+  pub verdict-items : ends_numbers (end_as packed_end u.end) ≡ end_numbers u.end
+  verdict-items = items-by u.end
 
-  pub verdict-items : struct_numbers (packed_verdict u).end ≡ end_numbers u.end
-  unfolding packed_verdict
-  verdict-items = end_is u.end
+  pub verdict-packed : told_numbers (in_heights (told_of packed_end u)) ≡ verdict_numbers u
+  verdict-packed = ap (λ (l : List ℕ). u.answer.number ∷ u.answer.offset ∷ u.answer.first ∷ u.answer.second ∷ u.rows ∷ u.peak ∷ l) (packed-by u.end)
 
-pub ruleset verdicts = (verdict-number, verdict-heights, verdict-items)
+  pub verdict-heights : told_numbers (told_of heights_of u) ≡ verdict_numbers u
+  verdict-heights = ap (λ (l : List ℕ). u.answer.number ∷ u.answer.offset ∷ u.answer.first ∷ u.answer.second ∷ u.rows ∷ u.peak ∷ l) (heights-by u.end)
+
+pub ruleset verdicts = (verdict-items, verdict-packed, verdict-heights)

@@ -1,8 +1,9 @@
 -- Stores into lent places.
 use mathlib.Core.Bool.{Bool, true, false}
-use mathlib.Core.List.{List, ◌++◌}
+use mathlib.Core.List.{List, [], ◌++◌}
 use mathlib.Core.Path.{◌≡◌, refl}
 use Prim.Native.Nat.{◌≤◌, ◌<◌}
+use native.Mathlib.Omega.{arith}
 use borrow.Author.Tests.{lt-ltb, le-ltb, leb-true, leb-false}
 use lib.Dec.{leb}
 use lib.ListN.{length, drop}
@@ -18,6 +19,11 @@ too_few values out h = rw (lt-ltb (length out) (length values) h)
 pub all-written : {A : Type 0} (values out : List A) → length values ≤ length out → (values ++ drop (length values) out) ≡ written values out
 unfolding written
 all-written values out h = rw (le-ltb (length out) (length values) h)
+
+-- no value leaves all as lent
+pub none_written : {A : Type 0} (out : List A) → written [] out ≡ out
+unfolding written
+none_written out = rw (le-ltb (length out) 0 (omega arith))
 
 pub ruleset values = (too_few, all-written)
 

@@ -8,7 +8,6 @@ use Rattle.definition.specs.Refusals.{Answer}
 use Rattle.definition_sums.specs.Sums.{SittingSums}
 use Rattle.definition.specs.Walk.{Item, Arm, dead, live, Verdict, Tally}
 use Rattle.ends.specs.View.{items_of, item_length, item_number}
-use Rattle.stack_analysis.specs.View.{has_end, end_main, end_alt}
 
 -- what is lent beside a map: this limit, and this mode, 0 for plain and any other number for the examined one
 abbrev pub lent_options : ℕ → ℕ → Options
@@ -21,6 +20,20 @@ flag false = 0
 -- the lent places afterwards: these values in the first of them, the rest as lent; all as lent where there are fewer
 unfoldable pub written : {A : Type 0} → List A → List A → List A
 written values out = pick (ltb (length out) (length values)) out (values ++ drop (length values) out)
+
+-- whether there is an end, and its heights; 0 and 0 where there is none
+
+abbrev pub has_end : Arm → Bool
+has_end dead = false
+has_end (live s) = true
+
+abbrev pub end_main : Arm → ℕ
+end_main dead = 0
+end_main (live s) = length s.main
+
+abbrev pub end_alt : Arm → ℕ
+end_alt dead = 0
+end_alt (live s) = length s.alt
 
 -- the nine numbers of a verdict on a fragment; where there is no end its heights are 0 and 0
 abbrev pub verdict_numbers : Verdict → List ℕ

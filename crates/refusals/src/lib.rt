@@ -138,6 +138,7 @@ impl From<Refusal> for Refused {
 }
 
 /// An answer in numbers: the verdict number, the offset and the two figures, all 0 where nothing is refused.
+// Numbers, and no `Result`: it is what C callers read, and what is printed.
 #[derive(Clone, Copy, Debug, PartialEq, Eq)]
 pub struct Answer {
     pub number: u32,

@@ -1,15 +1,16 @@
 -- What two slots have in common.
 use mathlib.Core.Bool.{Bool, true, false, ◌&&◌, or-true}
 use mathlib.Core.Path.{◌≡◌, refl, sym, ap, ◌∙◌}
-use mathlib.Core.List.{[], ◌∷◌}
+use mathlib.Core.List.{List, [], ◌∷◌}
 use Prim.Native.Nat.{ℕ, zero, suc, ◌<◌}
 use native.Mathlib.Omega.{arith}
 use borrow.Author.Tests.{eq-eqb, ne_eqb, eqb-true}
 use lib.Dec.{eqb}
+use lib.ListN.{get_or}
 use Rattle.definition.specs.Basics.{Bytes, pick}
 use Rattle.definition.specs.Walk.{Item, unknown, exact, same_bytes, join_item, join_items}
-use Rattle.slots.specs.View.{slot_item, sufficient, tops, Canon}
-use Rattle.slots.specs.Parts.{Joined, common_code, settled_code}
+use Rattle.slots.specs.View.{Slots, slot_item, sufficient, tops, Canon, Sound}
+use Rattle.slots.specs.Parts.{Each, Joined, JoinedAt, common_code, CommonAt, settled_code, SettledAt}
 use Rattle.slots.proofs.Codes.{either, sufficient-high, canon-unknown, same_item, slot_code, slot_bytes, code_is, bytes-are}
 
 -- Bytes
@@ -80,7 +81,7 @@ module _ (code code' : ℕ) where
   common-none e = rw (ne_eqb code code' e)
 
 module _ (code n n' : ℕ) where
-  pub settled-suffices : sufficient code ≡ true → settled_code code n n' ≡ code
+  settled-suffices : sufficient code ≡ true → settled_code code n n' ≡ code
   unfolding settled_code
   settled-suffices e = rw e
 
@@ -93,7 +94,7 @@ module _ (code n n' : ℕ) where
   settled-none e h = rw (e, ne_eqb n n' h)
 
 -- after both halves the slot has what the two have in common
-pub settled-joined : (code n code' n' : ℕ) → Canon code n → Canon code' n' → Joined code n code' n' (settled_code (common_code code code') n n')
+settled-joined : (code n code' n' : ℕ) → Canon code n → Canon code' n' → Joined code n code' n' (settled_code (common_code code code') n n')
 settled-joined code n code' n' c c' = either code code' (Joined code n code' n' (settled_code (common_code code code') n n'))
     (λ e. rw (common-same code code' e) (by e (sufficient code) refl))
     (λ h. rw (common-none code code' h, settled-suffices 9 n n' (sufficient-high 9 (omega arith))) (joined-code code n code' n' c c' h))
@@ -103,6 +104,30 @@ settled-joined code n code' n' c c' = either code code' (Joined code n code' n' 
     by e false s = either n n' (Joined code n code' n' (settled_code code n n'))
         (λ g. rw (settled-same code n n' g) (joined_same code n code' n' c c' e g))
         (λ h. rw (settled-none code n n' s h) (joined_bytes code n code' n' c c' e s h))
+
+-- the codes d of the first half, and those of both
+module _ (p t : Slots) (sp : Sound p) (st : Sound t) (d : List ℕ) (v : Each (CommonAt p.codes t.codes) p.codes 0 244 d) where
+  joined : (j : ℕ) → JoinedAt p t j (settled_code (common_code (get_or p.codes j 0) (get_or t.codes j 0)) (get_or p.bytes j 0) (get_or t.bytes j 0))
+  joined j = settled-joined (get_or p.codes j 0) (get_or p.bytes j 0) (get_or t.codes j 0) (get_or t.bytes j 0) (sp.canon j) (st.canon j)
+
+  -- they differ in bytes
+  pub joined-both : (x : List ℕ) → Each (SettledAt d p.bytes t.bytes) d 0 244 x → Each (JoinedAt p t) p.codes 0 244 x
+  joined-both x w = record {
+    whole = w.whole ∙ v.whole;
+    each = λ j a b. rw (w.each j a b, v.each j a b) (joined j);
+    below = λ j a. w.below j a ∙ v.below j a;
+    above = λ j a. w.above j a ∙ v.above j a;
+  }
+
+  -- the codes alone say it
+  pub joined-codes : ((j : ℕ) → j < 244 → sufficient (get_or d j 0) ≡ true) → Each (JoinedAt p t) p.codes 0 244 d
+  joined-codes k = record {
+    whole = v.whole;
+    each = λ j a b. rw (sym (settled-suffices (get_or d j 0) (get_or p.bytes j 0) (get_or t.bytes j 0) (k j b))
+        ∙ ap (λ x. settled_code x (get_or p.bytes j 0) (get_or t.bytes j 0)) (v.each j a b)) (joined j);
+    below = v.below;
+    above = v.above;
+  }
 
 pub tops-join : (f g h : ℕ → Item) (n : ℕ) → ((j : ℕ) → j < n → h j ≡ join_item (f j) (g j)) → tops h n ≡ join_items (tops f n) (tops g n)
 tops-join f g h zero k = refl

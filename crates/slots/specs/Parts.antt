@@ -32,6 +32,10 @@ pub record Joined (code bytes code1 bytes1 r : ℕ) : Type 0 where
   pub item : slot_item r bytes ≡ join_item (slot_item code bytes) (slot_item code1 bytes1)
   pub canon : Canon r bytes
 
+-- the code x at j is that of what the slots j of p and t have in common
+abbrev pub JoinedAt : Slots → Slots → ℕ → ℕ → Type 0
+JoinedAt p t j x = Joined (get_or p.codes j 0) (get_or p.bytes j 0) (get_or t.codes j 0) (get_or t.bytes j 0) x
+
 -- the code that two slots have in common by their codes alone
 unfoldable pub common_code : ℕ → ℕ → ℕ
 common_code code code1 = pick (eqb code code1) code 9

@@ -1,12 +1,13 @@
 // A slot of the stacks: a code and bytes, in two arrays of 244. A code of 0 to 8 is an exact item of so many bytes, which
 // stand in `bytes` as one number, the first byte the lowest; 9 is an unknown item; 10 + v is the exact item of the one byte
 // v, and such an item, v at most 245, is always written so.
+// A code is a number and no enum: in one array of values a join takes ten times the instructions.
 
 #![tactic(auto)]
 
 ghost use Rattle.std.specs.Prelude.{◌≡◌, true, ℕ, ◌<◌, get_or};
-ghost use Rattle.slots.specs.View.{code_of, sufficient, Canon};
-ghost use Rattle.slots.specs.Parts.{Each, common_code, CommonAt, settled_code, SettledAt, InSlot, code_length};
+ghost use Rattle.slots.specs.View.{slots, code_of, sufficient, Canon, Sound};
+ghost use Rattle.slots.specs.Parts.{Each, common_code, CommonAt, settled_code, SettledAt, JoinedAt, InSlot, code_length};
 
 use decode::Value;
 
@@ -55,7 +56,7 @@ fn settled(code: u8, bytes: u64, other: u64) -> u8
 
 /// The first half of a join of slots, by their codes: those that differ become unknown. Whether the codes that are left say
 /// their items by themselves.
-pub fn join_codes(codes: &mut [u8; 244], other: &[u8; 244]) -> bool
+pub fn common_codes(codes: &mut [u8; 244], other: &[u8; 244]) -> bool
     ensures common { Each (CommonAt codes.old other.now) codes.old 0 244 codes.new }
     ensures suffice { result ≡ true → (j : ℕ) → j < 244 → sufficient (get_or codes.new j 0) ≡ true }
 {
@@ -68,11 +69,27 @@ pub fn join_codes(codes: &mut [u8; 244], other: &[u8; 244]) -> bool
 }
 
 /// The second half, by their bytes.
-pub fn join_bytes(codes: &mut [u8; 244], bytes: &[u64; 244], other: &[u64; 244])
+pub fn settle_codes(codes: &mut [u8; 244], bytes: &[u64; 244], other: &[u64; 244])
     ensures { Each (SettledAt codes.old bytes.now other.now) codes.old 0 244 codes.new }
 {
     for i in 0..244 {
         codes[i] = settled(codes[i], bytes[i], other[i]);
+    }
+}
+
+/// A join of slots: with its code each has what it and the other have in common. The bytes stay, and are read only where a code
+/// that is left does not say its item.
+pub fn join_codes(
+    codes: &mut [u8; 244],
+    bytes: &[u64; 244],
+    other: &[u8; 244],
+    other_bytes: &[u64; 244],
+)
+    requires { Sound (slots bytes.now codes.old) × Sound (slots other_bytes.now other.now) }
+    ensures { Each (JoinedAt (slots bytes.now codes.old) (slots other_bytes.now other.now)) codes.old 0 244 codes.new }
+{
+    if !common_codes(codes, other) {
+        settle_codes(codes, bytes, other_bytes);
     }
 }
 

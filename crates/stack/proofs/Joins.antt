@@ -1,21 +1,19 @@
 -- The join of two stacks.
-use mathlib.Core.Bool.{true}
-use mathlib.Core.Path.{◌≡◌, sym, ap, ◌∙◌}
+use mathlib.Core.Path.{◌≡◌, ◌∙◌}
 use mathlib.Core.List.{List}
 use Prim.Native.Nat.{ℕ, ◌+◌, ◌-◌, ◌≤◌, ◌<◌}
 use native.Mathlib.Omega.{arith}
 use borrow.Author.Tests.{eq-eqb, ne_eqb}
-use lib.ListN.{get_or, get_or-eq_default}
+use lib.ListN.{get_or}
 use Rattle.definition.specs.Refusals.{arms_differ}
 use Rattle.definition.specs.Stacks as S
 use Rattle.definition.specs.Walk.{join_item, join_stacks}
-use Rattle.slots.specs.View.{Slots, slots, sufficient, cells, backs, Sound, Canon}
-use Rattle.slots.specs.Parts.{Each, Joined, CommonAt, SettledAt, common_code, settled_code}
+use Rattle.slots.specs.View.{Slots, slots, cells, backs, Sound, Canon}
+use Rattle.slots.specs.Parts.{Each, JoinedAt}
 use Rattle.slots.proofs.Codes.{either-le}
-use Rattle.slots.proofs.Joins.{settled-joined, settled-suffices, tops-join}
+use Rattle.slots.proofs.Joins.{tops-join}
 use Rattle.slots.proofs.Laws.{length-tops}
 use Rattle.stack.specs.View.{stacks_in, slots_of, view}
-use Rattle.stack.specs.Parts.{HasCommon}
 use Rattle.stack.specs.declared.Stacks.{Stacks}
 
 module _ (p t : Slots) (m a n b : ℕ) where
@@ -43,35 +41,16 @@ module _ (p t : Slots) (m a n b : ℕ) where
     ← g,
   )
 
--- the codes d of the first half, and those of both
-module _ (s t : Stacks) (d : List ℕ) (v : Each (CommonAt s.codes t.codes) s.codes 0 244 d) where
-  joined : (j : ℕ) → Joined (get_or s.codes j 0) (get_or s.bytes j 0) (get_or t.codes j 0) (get_or t.bytes j 0)
-      (settled_code (common_code (get_or s.codes j 0) (get_or t.codes j 0)) (get_or s.bytes j 0) (get_or t.bytes j 0))
-  joined j = settled-joined (get_or s.codes j 0) (get_or s.bytes j 0) (get_or t.codes j 0) (get_or t.bytes j 0) (s.sound.canon j) (t.sound.canon j)
-
-  -- they differ in bytes
-  pub common-both : (x : List ℕ) → Each (SettledAt d s.bytes t.bytes) d 0 244 x → HasCommon s t x
-  common-both x w = record { whole = w.whole ∙ v.whole ∙ s.sound.whole_codes; each = λ j lt. rw (w.each j (omega arith) lt, v.each j (omega arith) lt) (joined j) }
-
-  -- the codes alone say it
-  pub common-codes : ((j : ℕ) → j < 244 → sufficient (get_or d j 0) ≡ true) → HasCommon s t d
-  common-codes k = record {
-    whole = v.whole ∙ s.sound.whole_codes;
-    each = λ j lt. rw (sym (settled-suffices (get_or d j 0) (get_or s.bytes j 0) (get_or t.bytes j 0) (k j lt))
-        ∙ ap (λ x. settled_code x (get_or s.bytes j 0) (get_or t.bytes j 0)) (v.each j (omega arith) lt)) (joined j);
-  }
-
-module _ (s t : Stacks) (x : List ℕ) (w : HasCommon s t x) where
-  pub common-sound : Sound (slots s.bytes x)
-  common-sound = record {
+-- with the codes x each slot of s has what it and that of t have in common
+module _ (s t : Stacks) (x : List ℕ) (w : Each (JoinedAt (slots_of s) (slots_of t)) s.codes 0 244 x) where
+  pub joined-sound : Sound (slots s.bytes x)
+  joined-sound = record {
     whole_bytes = s.sound.whole_bytes;
-    whole_codes = w.whole;
+    whole_codes = w.whole ∙ s.sound.whole_codes;
     canon = λ j. either-le 244 j (Canon (get_or x j 0) (get_or s.bytes j 0))
-        (λ h.
-        let k : get_or x j 0 ≡ get_or s.codes j 0 = get_or-eq_default x 0 {n = j} (omega (arith, w.whole)) ∙ sym (get_or-eq_default s.codes 0 {n = j} (omega (arith, s.sound.whole_codes))) in
-        rw k (s.sound.canon j))
-        (λ lt. (w.each j lt).canon);
+        (λ h. rw (w.above j h) (s.sound.canon j))
+        (λ lt. (w.each j (omega arith) lt).canon);
   }
 
-  pub join-common : s.mains ≡ t.mains → s.alts ≡ t.alts → S.done (stacks_in (slots s.bytes x) s.mains s.alts) ≡ join_stacks (view s) (view t)
-  join-common e g = join-done (slots_of s) (slots_of t) s.mains s.alts t.mains t.alts e g s.room (slots s.bytes x) (λ j lt. (w.each j lt).item)
+  pub joined-stacks : s.mains ≡ t.mains → s.alts ≡ t.alts → S.done (stacks_in (slots s.bytes x) s.mains s.alts) ≡ join_stacks (view s) (view t)
+  joined-stacks e g = join-done (slots_of s) (slots_of t) s.mains s.alts t.mains t.alts e g s.room (slots s.bytes x) (λ j lt. (w.each j (omega arith) lt).item)

@@ -1,5 +1,5 @@
 -- What the private functions of this crate ensure.
-use Rattle.std.specs.Prelude.{◌≡◌, List, length, get_or, ℕ, ◌+◌, ◌-◌, ◌^◌, ◌≤◌, ◌<◌, ltb, Result, Ok, Err}
+use Rattle.std.specs.Prelude.{◌≡◌, ℕ, ◌+◌, ◌-◌, ◌^◌, ◌≤◌, ◌<◌, ltb, Result, Ok, Err}
 use Rattle.definition.specs.Basics.{pick}
 use Rattle.definition.specs.Stacks as S
 use Rattle.definition.specs.Walk.{Item, marking, bytes_known}
@@ -9,7 +9,7 @@ use Rattle.refusals.specs.View.{refusal_of}
 use Rattle.refusals.specs.declared.Refusal.{Refusal}
 use Rattle.refusals.specs.declared.Refusal.TheVariants.{MainDry, StacksFull}
 use Rattle.slots.specs.View.{Slots, slot_item}
-use Rattle.slots.specs.Parts.{Placed, Joined}
+use Rattle.slots.specs.Parts.{Placed}
 use Rattle.stack.specs.View.{slots_of, stacks_in}
 use Rattle.stack.specs.declared.Stacks.{Stacks}
 
@@ -48,8 +48,3 @@ Pops s r = PopsIn (slots_of s) s.mains s.alts r
 -- v is what SIZE pushes over the item in a slot of this code
 abbrev pub Sizes : ℕ → Value → Type 0
 Sizes code v = (n : ℕ) → v ≡ value_of (S.size_item marking (bytes_known (slot_item code n)))
-
--- with the codes r, each slot of s has what it and that of t have in common
-pub record HasCommon (s t : Stacks) (r : List ℕ) : Type 0 where
-  pub whole : length r ≡ 244
-  pub each : (j : ℕ) → j < 244 → Joined (get_or s.codes j 0) (get_or s.bytes j 0) (get_or t.codes j 0) (get_or t.bytes j 0) (get_or r j 0)

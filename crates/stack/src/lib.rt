@@ -8,7 +8,7 @@ ghost use Rattle.slots.specs.View.{slots, Sound};
 use decode::Value;
 use number_form::{number_value, read_index};
 use refusals::Refusal;
-use slots::{UNKNOWN, code_length, code_of, join_bytes, join_codes, slot_value};
+use slots::{UNKNOWN, code_length, code_of, join_codes, slot_value};
 
 /// How many items the two stacks may hold together, as a caller lends it.
 #[derive(Clone, Copy, Debug, PartialEq, Eq)]
@@ -68,7 +68,7 @@ impl Stacks {
     ghost use Rattle.slots.specs.View.{slot_item, code_of, sufficient, Canon};
     ghost use Rattle.slots.specs.Parts.{apart, turn};
     ghost use Rattle.stack.specs.View.{view, Yields, YieldsStep, Says, Steps};
-    ghost use Rattle.stack.specs.Parts.{needed, roomy, Moves, Pops, Sizes, HasCommon};
+    ghost use Rattle.stack.specs.Parts.{needed, roomy, Moves, Pops, Sizes};
 
     /// So many unknown items on each stack.
     pub fn new(main: u32, alt: u32) -> Stacks
@@ -282,17 +282,6 @@ impl Stacks {
         Ok(())
     }
 
-    // The codes with which each slot has what it and the other have in common.
-    fn common_codes(&self, other: &Stacks) -> [u8; 244]
-        ensures { HasCommon self.now other.now result }
-    {
-        let mut codes = self.codes;
-        if !join_codes(&mut codes, &other.codes) {
-            join_bytes(&mut codes, &self.bytes, &other.bytes);
-        }
-        codes
-    }
-
     /// Leaves what two stacks of equal heights have in common.
     pub fn try_join(&mut self, other: &Stacks) -> Result<(), Refusal>
         ensures { Yields result self.new (join_stacks (view self.old) (view other.now)) }
@@ -300,7 +289,9 @@ impl Stacks {
         if self.mains != other.mains || self.alts != other.alts {
             return Err(Refusal::ArmsDiffer);
         }
-        self.codes = self.common_codes(other);
+        let mut codes = self.codes;
+        join_codes(&mut codes, &self.bytes, &other.codes, &other.bytes);
+        self.codes = codes;
         Ok(())
     }
 
@@ -390,7 +381,7 @@ impl Stacks {
         }
     }
 
-    // The same operations by value
+    // The same operations by value: a form of the project. Each is one call, and a closure handed to one function is no shorter.
 
     pub fn push(mut self, v: Value, limit: Limit) -> Stepped
         requires { Held v }

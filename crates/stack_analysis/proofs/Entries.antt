@@ -1,42 +1,49 @@
 -- The entry point: its answer is the definition's analysis, and demand 3 holds of it.
-use mathlib.Core.Bool.{Bool, true, false}
 use mathlib.Core.List.{List, []}
 use mathlib.Core.Option as O
 use mathlib.Core.Option.{none, some}
-use mathlib.Core.Path.{◌≡◌, refl, sym, ap, ap₂, subst, ◌∙◌}
+use mathlib.Core.Path.{◌≡◌, refl, sym, ap, subst, ◌∙◌}
 use Prim.Native.Nat.{ℕ, ◌+◌, ◌*◌, ◌-◌, ◌≤◌, ◌<◌, max}
 use native.Mathlib.Omega.{arith}
 use borrow.Author.Tests.{lt-ltb, le-ltb, le-leb, lt-leb}
 use lib.ListN.{length, replicate, length-replicate}
-use Rattle.std.specs.Prelude.{Option, Some, None, Result, Ok, Err}
+use Rattle.std.specs.Prelude.{Option, Result, Ok, Err, IsOk}
 use Rattle.definition.specs.Basics.{Bytes}
 use Rattle.definition.specs.Decoding.{decode, instructions, malformed_at}
 use Rattle.definition.specs.Refusals as D
 use Rattle.definition.specs.Replay.{Demand3}
 use Rattle.definition.specs.Stacks.{Rules}
-use Rattle.definition.specs.Walk.{Arm, dead, live, Marked, answered, begin, walk, unknowns, analysis_of, analysis, refused_early, refused_verdict, tested}
+use Rattle.definition.specs.Stacks as S
+use Rattle.definition.specs.Walk.{Item, Arm, dead, live, Marked, answered, begin, walk, unknowns, analysis_of, analysis, refused_early, refused_verdict, tested}
 use Rattle.definition.specs.Walk as W
 use Rattle.definition.proofs.TrueOfEveryReplay.{true_of_analysis}
 use Rattle.decode.specs.View.{code_at, Count, counted_of, count_by, count_in}
 use Rattle.decode.specs.declared.Malformed.{Malformed}
 use Rattle.decode.proofs.Codes.{code-start, code-length}
 use Rattle.refusals.specs.declared.Refusal.{Refusal}
-use Rattle.ends.specs.View.{packed_end, no_stacks}
+use Rattle.ends.specs.View.{packed_end}
 use Rattle.ends.specs.declared.EndStacks.{EndStacks}
 use Rattle.stack.specs.View.{view}
 use Rattle.ends.proofs.Ends.{packed-main, packed-alt}
 use Rattle.stack.specs.declared.Stacks.{Stacks}
-use Rattle.ends.proofs.Packing.{main-length, alt-length, ends-back}
-use Rattle.stack_analysis.specs.View.{end_of, verdict_of, has_end, end_stacks, packed_verdict, summarized}
-use Rattle.stack_analysis.specs.Entry.{MayWalk, Begins, with_end}
-use Rattle.walk.specs.Runs.{arm_of, running, stand, resume, Ready}
+use Rattle.ends.proofs.Packing.{main-length, alt-length}
+use Rattle.stack_analysis.specs.View.{Verdict, told, end_as, told_of, heights_of, arm_in, verdict_in, verdict_of}
+use Rattle.stack_analysis.specs.Entry.{MayWalk, Begins}
+use Rattle.walk.specs.Runs.{ending, running, stand, resume, Ready}
 use Rattle.arms.specs.Walkers.{Walks, concluded}
 use Rattle.walk.specs.declared.ArmEnd.{ArmEnd}
 use Rattle.walk.specs.declared.ArmEnd.TheVariants.{End, Else, Endif}
-use Rattle.stack_analysis.specs.declared.Summary.{Summary}
-use Rattle.stack_analysis.specs.declared.Verdict.{Verdict}
+use Rattle.stack_analysis.specs.declared.Accepted.{Accepted}
+use Rattle.stack_analysis.specs.declared.Rejected.{Rejected}
 use Rattle.walk.specs.declared.Walk.{Walk}
-use Rattle.stack_analysis.proofs.Answers.{concluded-is}
+
+-- what is left of the definition's walk, where no conditional is open
+concluded-is : (R : Rules) (s : Bytes) (w : Walk) (log : List ℕ) (r : Result ArmEnd Refusal)
+    → resume R s (stand w (ending r)) [] log ≡ record { verdict = concluded r w; log = log }
+concluded-is R s w log (Ok End) = refl
+concluded-is R s w log (Ok Else) = refl
+concluded-is R s w log (Ok Endif) = refl
+concluded-is R s w log (Err r) = refl
 
 -- a walk from main and alt unknown items
 module _ (R : Rules) (s : Bytes) (main alt : ℕ) (log : List ℕ) where
@@ -96,125 +103,38 @@ module _ (R : Rules) (s : Bytes) (main alt : ℕ) (log : List ℕ) where
           pub may-walk : 3 * n ≤ lent → MayWalk R s main alt log
           may-walk h = record { short = short; low = omega (arith, limited, low); room = omega (arith, counts s n c, l); same = in-walk ∙ rw (← (counts s n c), l, le-leb (3 * n) lent h) }
 
--- The verdict that is answered
+-- The verdict with its end in another form
 
--- what an entry point promises of its answer r and the log afterwards, where `a` is the definition's and Q the claim about it
-pub record Shows (Q : Marked → Type 0) (a : Marked) (r : Verdict) (new : List ℕ) : Type 0 where
-  pub same : r ≡ packed_verdict a.verdict
-  pub shows : verdict_of r ≡ a.verdict
-  pub within : r.end.main + r.end.alt ≤ 244
-  pub logged : new ≡ a.log
-  pub replayed : r.number ≡ 0 → Q (record { verdict = verdict_of r; log = new })
+-- a fragment's verdict d, where the code's has the stacks that its walk ends with
+module _ {E : Type 0} (form : S.Stacks Item → E) (d : W.Verdict) where
+  pub refused-form : (r : Rejected) → verdict_in view (Err r) ≡ d → told {E = E} (Err r) ≡ told_of form d
+  refused-form r e = ap (λ (v : W.Verdict). told_of form v) e
 
-abbrev pub Analysed : Rules → Bytes → ℕ → ℕ → List ℕ → Verdict → List ℕ → Type 0
-Analysed R s main alt log r new = Shows (Demand3 R (instructions (decode s)) (unknowns main alt)) (analysis R s main alt log) r new
+  pub accepted-form : (a : Accepted Stacks) → verdict_in view (Ok a) ≡ d → (end : Option E) → end ≡ end_as form (arm_in view a.end)
+      → told (Ok (record { rows = a.rows; peak = a.peak; end = end })) ≡ told_of form d
+  accepted-form a e end h = rw h (ap (λ (v : W.Verdict). told_of form v) e)
 
--- the same by equal rules
-pub analysed-by : {R Q : Rules} → R ≡ Q → (s : Bytes) (main alt : ℕ) (log : List ℕ) (r : Verdict) (new : List ℕ) → Analysed R s main alt log r new → Analysed Q s main alt log r new
-analysed-by e s main alt log r new a = subst (λ (X : Rules). Analysed X s main alt log r new) e a
+-- the heights of stacks are their counts
+pub heights-form : (t : Stacks) → record { main = t.mains; alt = t.alts } ≡ heights_of (view t)
+heights-form t = rw (main-length t, alt-length t)
 
-pub summed_by : {R Q : Rules} → R ≡ Q → (s : Bytes) (main alt : ℕ) (log : List ℕ) (v : Summary) (new : List ℕ)
-    → (v ≡ summarized (analysis R s main alt log).verdict) × (new ≡ (analysis R s main alt log).log)
-    → (v ≡ summarized (analysis Q s main alt log).verdict) × (new ≡ (analysis Q s main alt log).log)
-summed_by e s main alt log v new a =
-    subst (λ (X : Rules). (v ≡ summarized (analysis X s main alt log).verdict) × (new ≡ (analysis X s main alt log).log)) e a
+-- an end has room
+pub packed-within : (t : Stacks) (e : EndStacks) → e ≡ packed_end (view t) → e.main + e.alt ≤ 244
+packed-within t e k = omega (arith, ap (λ (x : EndStacks). x.main) k, ap (λ (x : EndStacks). x.alt) k, packed-main (view t), packed-alt (view t), main-length t, alt-length t, t.room)
 
--- an end that the struct shows
-abbrev Shown : Arm → Type 0
-Shown c = end_of (has_end c) (end_stacks c) ≡ c
-
--- the end of a walk: live with its stacks, or none
-live_end : (r : Result ArmEnd Refusal) (w : Walk) (t : Stacks) → w.stacks ≡ Some t → has_end (concluded r w).end ≡ true → (concluded r w).end ≡ live (view t)
-live_end (Ok End) w t e h = rw e
-live_end (Ok Else) w t e h = cc
-live_end (Ok Endif) w t e h = cc
-live_end (Err x) w t e h = cc
-
-none_end : (r : Result ArmEnd Refusal) (w : Walk) → ((t : Stacks) → w.stacks ≡ Some t → ⊥) → has_end (concluded r w).end ≡ false
-none_end (Ok End) w h = by w.stacks h
-  where
-    by : (o : Option Stacks) → ((t : Stacks) → o ≡ Some t → ⊥) → has_end (arm_of o) ≡ false
-    by None g = refl
-    by (Some t) g = absurd (g t refl)
-none_end (Ok Else) w h = refl
-none_end (Ok Endif) w h = refl
-none_end (Err x) w h = refl
-
--- its items have room
-few-items : (t : Stacks) → (e : EndStacks) → e ≡ packed_end (view t) → e.main + e.alt ≤ 244
-few-items t e k = omega (arith, ap (λ (x : EndStacks). x.main) k, ap (λ (x : EndStacks). x.alt) k, packed-main (view t), packed-alt (view t), main-length t, alt-length t, t.room)
-
-no_items : (e : EndStacks) → e ≡ packed_end no_stacks → e.main + e.alt ≤ 244
-no_items e k = omega (arith, ap (λ (x : EndStacks). x.main) k, ap (λ (x : EndStacks). x.alt) k, packed-main no_stacks, packed-alt no_stacks)
-
-dead_end : (c : Arm) → has_end c ≡ false → c ≡ dead
-dead_end dead h = refl
-dead_end (live s) h = cc
-
+-- what is claimed of an accepted fragment's definition a holds of the code's verdict v and its log
 module _ (Q : Marked → Type 0) (a : Marked) (claim : a.verdict.answer.number ≡ 0 → Q a) where
-  shows-as : (m : Marked) → a ≡ m → (v : Summary) → v ≡ summarized m.verdict
-      → (e : EndStacks) → e ≡ end_stacks m.verdict.end → Shown m.verdict.end → e.main + e.alt ≤ 244
-      → (r : Verdict) → r ≡ with_end v e → Shows Q a r m.log
-  unfolding verdict_of packed_verdict summarized
-  shows-as m c v same e k b few r is =
-      let u : W.Verdict = m.verdict in
-      let packs : r ≡ packed_verdict u = is ∙ ap₂ (λ x y. with_end x y) same k in
-      let shows : verdict_of r ≡ u = ap verdict_of packs ∙ (λ i. record { answer = u.answer; rows = u.rows; peak = u.peak; end = b i }) in
-      record {
-        same = rw c packs;
-        shows = rw c shows;
-        within = rw is few;
-        logged = rw c;
-        replayed = λ z.
-            let q : record { verdict = verdict_of r; log = m.log } ≡ a = (λ i. record { verdict = shows i; log = m.log }) ∙ sym c in
-            subst Q (sym q) (claim (ap (λ (x : Marked). x.verdict.answer.number) c ∙ sym (ap (λ (x : Verdict). x.number) packs) ∙ z));
-      }
+  pub replayed-as : (v : Verdict EndStacks) (new : List ℕ) → verdict_of v ≡ a.verdict → new ≡ a.log → IsOk v → Q (record { verdict = verdict_of v; log = new })
+  replayed-as (Ok x) new e l k =
+      let q : record { verdict = verdict_of (Ok x); log = new } ≡ a = (λ i. record { verdict = e i; log = l i }) in
+      subst Q (sym q) (claim (sym (ap (λ (y : W.Verdict). y.answer.number) e)))
+  replayed-as (Err x) new e l k = cc
 
-  -- refused before all else
-  pub shows-refusal : (x : D.Refusal) (log : List ℕ) → a ≡ refused_early 0 x log → (v : Summary) → v ≡ summarized (refused_verdict 0 x 0)
-      → (e : EndStacks) → e ≡ packed_end no_stacks → (r : Verdict) → r ≡ with_end v e → Shows Q a r log
-  shows-refusal x log c v same e k r is = shows-as (refused_early 0 x log) c v same e k refl (no_items e k) r is
-
-module _ (R : Rules) (small : R.limit ≤ 244) (s : Bytes) (main alt : ℕ) (log : List ℕ) where
-  answers : (m : Marked) → analysis R s main alt log ≡ m → (v : Summary) → v ≡ summarized m.verdict
-      → (e : EndStacks) → e ≡ end_stacks m.verdict.end → Shown m.verdict.end → e.main + e.alt ≤ 244
-      → (r : Verdict) → r ≡ with_end v e → Analysed R s main alt log r m.log
-  answers =
-      shows-as (Demand3 R (instructions (decode s)) (unknowns main alt)) (analysis R s main alt log)
-      (true_of_analysis R (omega (arith, small)) s main alt log)
-
-  -- refused before the walk
-  module _ (offset : ℕ) (x : D.Refusal) (early : analysis R s main alt log ≡ refused_early offset x log) (v : Summary) (same : v ≡ summarized (refused_verdict offset x 0)) where
-    pub answers-early : (e : EndStacks) → e ≡ packed_end no_stacks → (r : Verdict) → r ≡ with_end v e → Analysed R s main alt log r log
-    answers-early e k r is = answers (refused_early offset x log) early v same e k refl (no_items e k) r is
-
-    pub summed-early : (v ≡ summarized (analysis R s main alt log).verdict) × (log ≡ (analysis R s main alt log).log)
-    summed-early = (rw early same, rw early)
-
-  module _ (may : MayWalk R s main alt log) (w : Walk) (o : Result ArmEnd Refusal) (new : List ℕ)
-      (ends : walked R s main alt log ≡ record { verdict = concluded o w; log = new }) (v : Summary) (same : v ≡ summarized (concluded o w)) where
-    comes-to : analysis R s main alt log ≡ record { verdict = concluded o w; log = new }
-    comes-to = may.same ∙ ends
-
-    ended-is : v.ended ≡ has_end (concluded o w).end
-    unfolding summarized
-    ended-is = ap (λ (x : Summary). x.ended) same
-
-    pub answers-live : (t : Stacks) → w.stacks ≡ Some t → v.ended ≡ true → (e : EndStacks) → e ≡ packed_end (view t) → (r : Verdict) → r ≡ with_end v e → Analysed R s main alt log r new
-    answers-live t q h e k r is =
-        let c : (concluded o w).end ≡ live (view t) = live_end o w t q (sym ended-is ∙ h) in
-        answers (record { verdict = concluded o w; log = new }) comes-to v same e (rw c k) (rw c (ap live (ends-back t))) (few-items t e k) r is
-
-    pub answers-dead : v.ended ≡ false → (e : EndStacks) → e ≡ packed_end no_stacks → (r : Verdict) → r ≡ with_end v e → Analysed R s main alt log r new
-    answers-dead h e k r is =
-        let c : (concluded o w).end ≡ dead = dead_end (concluded o w).end (sym ended-is ∙ h) in
-        answers (record { verdict = concluded o w; log = new }) comes-to v same e (rw c k) (rw c) (no_items e k) r is
-
-    pub answers-none : ((t : Stacks) → w.stacks ≡ Some t → ⊥) → (e : EndStacks) → e ≡ packed_end no_stacks → (r : Verdict) → r ≡ with_end v e → Analysed R s main alt log r new
-    answers-none h = answers-dead (ended-is ∙ none_end o w h)
-
-    pub summed : (v ≡ summarized (analysis R s main alt log).verdict) × (new ≡ (analysis R s main alt log).log)
-    summed = (rw comes-to same, rw comes-to)
+pub replayed-by : (R : Rules) → R.limit ≤ 244 → (s : Bytes) (main alt : ℕ) (log : List ℕ) (v : Verdict EndStacks) (new : List ℕ)
+    → verdict_of v ≡ (analysis R s main alt log).verdict → new ≡ (analysis R s main alt log).log → IsOk v
+    → Demand3 R (instructions (decode s)) (unknowns main alt) (record { verdict = verdict_of v; log = new })
+replayed-by R small s main alt log =
+    replayed-as (Demand3 R (instructions (decode s)) (unknowns main alt)) (analysis R s main alt log) (true_of_analysis R (omega (arith, small)) s main alt log)
 
 -- the walk may start
 pub ready-start : (s : Bytes) (log : List ℕ) (main alt : ℕ) (v : Walk) → Begins main alt v → length s ≤ 10000 → 3 * length (instructions (decode s)) ≤ length log → Ready s log v

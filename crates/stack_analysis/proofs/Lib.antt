@@ -1,5 +1,5 @@
 -- What the entries' proofs go by.
-pub mod Answers
 pub mod Entries
 pub mod WithMap
+pub mod OneForm
 pub mod LongData

@@ -4,13 +4,10 @@ use Rattle.definition.specs.Basics.{Bytes}
 use Rattle.definition.specs.Decoding.{decode, instructions}
 use Rattle.definition.specs.Stacks.{Rules}
 use Rattle.definition.specs.Walk.{live, unknowns, begin, walk, answered, analysis, refused_early}
-use Rattle.ends.specs.declared.EndStacks.{EndStacks}
 use Rattle.refusals.specs.View.{refusal_of}
 use Rattle.refusals.specs.declared.Refused.{Refused}
 use Rattle.walk.specs.Runs.{arm_of}
 use Rattle.walk.specs.declared.Walk.{Walk}
-use Rattle.stack_analysis.specs.declared.Summary.{Summary}
-use Rattle.stack_analysis.specs.declared.Verdict.{Verdict}
 
 -- nothing is against the walk, and the analysis is the walk
 pub record MayWalk (R : Rules) (s : Bytes) (main alt : ℕ) (log : List ℕ) : Type 0 where
@@ -31,16 +28,3 @@ pub record Begins (main alt : ℕ) (w : Walk) : Type 0 where
   pub last : w.place.last ≡ 0
   pub rows : w.place.rows ≡ 0
   pub peak : w.peak ≡ main + alt
-
--- the struct of a summary and end stacks
-abbrev pub with_end : Summary → EndStacks → Verdict
-with_end v e = record {
-  number = v.number;
-  offset = v.offset;
-  first = v.first;
-  second = v.second;
-  rows = v.rows;
-  peak = v.peak;
-  ended = v.ended;
-  end = e;
-}

@@ -1,67 +1,57 @@
--- What the structs `Verdict` and `Summary` stand for in the definitions of document 01.
-use Rattle.std.specs.Prelude.{Bool, true, false, ℕ, length}
-use Rattle.definition.specs.Walk.{Arm, dead, live}
+-- What is told of a fragment's verdict, by the code's `Verdict<E>` and by the definition's: the end in a form E.
+use Rattle.std.specs.Prelude.{Option, Some, None, Result, Ok, Err, ◌≡◌, ℕ, ◌+◌, ◌≤◌, length}
+use Rattle.definition.specs.Refusals.{Answer, accepted}
+use Rattle.definition.specs.Stacks.{Stacks}
+use Rattle.definition.specs.Walk.{Item, Arm, dead, live, refused_verdict}
 use Rattle.definition.specs.Walk as W
-use Rattle.ends.specs.View.{end_stacks_of, packed_end, no_stacks}
+use Rattle.ends.specs.View.{end_stacks_of}
 use Rattle.ends.specs.declared.EndStacks.{EndStacks}
-use Rattle.stack_analysis.specs.declared.Summary.{Summary}
-use Rattle.stack_analysis.specs.declared.Verdict.{Verdict}
+use Rattle.refusals.specs.View.{refusal_of, answer_of}
+use Rattle.stack_analysis.specs.declared.Accepted.{Accepted}
+use Rattle.stack_analysis.specs.declared.Heights.{Heights}
+use Rattle.stack_analysis.specs.declared.Rejected.{Rejected}
 
--- end stacks, or none
-abbrev pub end_of : Bool → EndStacks → Arm
-end_of true e = live (end_stacks_of e)
-end_of false e = dead
+abbrev pub Verdict : Type 0 → Type 0
+Verdict E = Result (Accepted E) Rejected
 
--- the verdict that the struct stands for
-unfoldable pub verdict_of : Verdict → W.Verdict
-verdict_of v = record {
-  answer = record { number = v.number; offset = v.offset; first = v.first; second = v.second };
-  rows = v.rows;
-  peak = v.peak;
-  end = end_of v.ended v.end;
-}
+-- Number, offset and figures, the rows written, the peak, and the end, where there is one
+pub record Told (E : Type 0) : Type 0 where
+  pub answer : Answer
+  pub rows : ℕ
+  pub peak : ℕ
+  pub end : Option E
 
--- The one struct for a verdict, with nothing left to choose: the end stacks in their one form, the empty ones for none.
+-- By the code's verdict. "Refusals carry peak 0 and end none"
+abbrev pub told : {E : Type 0} → Verdict E → Told E
+told (Ok a) = record { answer = accepted; rows = a.rows; peak = a.peak; end = a.end }
+told (Err r) = record { answer = answer_of r.refused; rows = r.rows; peak = 0; end = None }
 
-abbrev pub has_end : Arm → Bool
-has_end dead = false
-has_end (live s) = true
+-- By the definition's, where `form` makes the form of the end: nothing is left to choose
 
-abbrev pub end_stacks : Arm → EndStacks
-end_stacks dead = packed_end no_stacks
-end_stacks (live s) = packed_end s
+abbrev pub end_as : {E : Type 0} → (Stacks Item → E) → Arm → Option E
+end_as form dead = None
+end_as form (live s) = Some (form s)
 
-unfoldable pub packed_verdict : W.Verdict → Verdict
-packed_verdict v = record {
-  number = v.answer.number;
-  offset = v.answer.offset;
-  first = v.answer.first;
-  second = v.answer.second;
-  rows = v.rows;
-  peak = v.peak;
-  ended = has_end v.end;
-  end = end_stacks v.end;
-}
+abbrev pub told_of : {E : Type 0} → (Stacks Item → E) → W.Verdict → Told E
+told_of form v = record { answer = v.answer; rows = v.rows; peak = v.peak; end = end_as form v.end }
 
--- The same with the heights of the end; 0 and 0 for none.
+-- the heights of stacks
+abbrev pub heights_of : Stacks Item → Heights
+heights_of s = record { main = length s.main; alt = length s.alt }
 
-abbrev pub end_main : Arm → ℕ
-end_main dead = 0
-end_main (live s) = length s.main
+-- The verdict of the definition that the code's stands for, where `view` reads the stacks of the end
 
-abbrev pub end_alt : Arm → ℕ
-end_alt dead = 0
-end_alt (live s) = length s.alt
+abbrev pub arm_in : {E : Type 0} → (E → Stacks Item) → Option E → Arm
+arm_in view (Some e) = live (view e)
+arm_in view None = dead
 
-unfoldable pub summarized : W.Verdict → Summary
-summarized v = record {
-  number = v.answer.number;
-  offset = v.answer.offset;
-  first = v.answer.first;
-  second = v.answer.second;
-  rows = v.rows;
-  peak = v.peak;
-  ended = has_end v.end;
-  main = end_main v.end;
-  alt = end_alt v.end;
-}
+abbrev pub verdict_in : {E : Type 0} → (E → Stacks Item) → Verdict E → W.Verdict
+verdict_in view (Ok a) = record { answer = accepted; rows = a.rows; peak = a.peak; end = arm_in view a.end }
+verdict_in view (Err r) = refused_verdict r.refused.offset (refusal_of r.refused.refusal) r.rows
+
+abbrev pub verdict_of : Verdict EndStacks → W.Verdict
+verdict_of v = verdict_in end_stacks_of v
+
+-- an end has at most 244 items
+abbrev pub EndWithin : Verdict EndStacks → Type 0
+EndWithin v = (e : EndStacks) → (told v).end ≡ Some e → e.main + e.alt ≤ 244

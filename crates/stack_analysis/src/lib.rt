@@ -2,134 +2,84 @@
 
 #![tactic(auto)]
 
-ghost use Rattle.std.specs.Prelude.{List, ◌≡◌, ℕ, ◌+◌, ◌≤◌, length};
+ghost use Rattle.std.specs.Prelude.{List, ◌≡◌, ℕ, ◌+◌, ◌≤◌, length, IsOk};
 ghost use Rattle.definition.specs.Stacks.{Rules, built_in};
 ghost use Rattle.definition.specs.Decoding.{decode, instructions};
-ghost use Rattle.definition.specs.Refusals.{answer};
 ghost use Rattle.definition.specs.Replay.{Demand3};
-ghost use Rattle.definition.specs.Walk.{unknowns, analysis, refused_verdict};
+ghost use Rattle.definition.specs.Walk.{unknowns, analysis};
 ghost use Rattle.definition_rules.specs.Maps.{rules_of, analysis_with};
-ghost use Rattle.refusals.specs.View.{refusal_of};
-ghost use Rattle.walk.specs.Runs.{options_of, rules_in, arm_of};
+ghost use Rattle.ends.specs.View.{packed_end};
+ghost use Rattle.stack.specs.View.{view};
+ghost use Rattle.walk.specs.Runs.{options_of, rules_in};
 ghost use Rattle.arms.specs.Walkers.{concluded};
-ghost use Rattle.stack_analysis.specs.View.{verdict_of, packed_verdict, summarized};
-ghost use Rattle.stack_analysis.specs.Entry.{Starts, Begins, with_end};
+ghost use Rattle.stack_analysis.specs.View.{told, told_of, heights_of, verdict_in, verdict_of, EndWithin};
+ghost use Rattle.stack_analysis.specs.Entry.{Starts, Begins};
 
 use arms::arm;
 use ends::EndStacks;
-use refusals::{Answer, Refusal, Refused};
+use refusals::{Refusal, Refused};
 use stack::{Limit, Stacks};
 use walk::{ArmEnd, Options, Place, Walk};
 
-/// The verdict: number, offset and two figures, the rows written, the peak, and the end stacks where there is an end.
-#[derive(Clone, Copy)]
-pub struct Verdict {
-    pub number: u32,
-    pub offset: usize,
-    pub first: u64,
-    pub second: u64,
+/// An accepted fragment: the rows written, the peak, and its end, where not every run returns before it.
+#[derive(Clone, Copy, Debug, PartialEq, Eq, Default)]
+pub struct Accepted<E> {
     pub rows: usize,
     pub peak: u32,
-    pub ended: bool,
-    pub end: EndStacks,
+    pub end: Option<E>,
 }
 
-/// The verdict with the heights of its end in place of the end stacks; 0 and 0 where there is none.
+/// A refused fragment: the rows written, and why and where it is refused.
 #[derive(Clone, Copy, Debug, PartialEq, Eq)]
-pub struct Summary {
-    pub number: u32,
-    pub offset: usize,
-    pub first: u64,
-    pub second: u64,
+pub struct Rejected {
     pub rows: usize,
-    pub peak: u32,
-    pub ended: bool,
+    pub refused: Refused,
+}
+
+/// The verdict on a fragment, with its end in the form `E`.
+pub type Verdict<E> = Result<Accepted<E>, Rejected>;
+
+/// The heights of an end, for callers that read no item.
+#[derive(Clone, Copy, Debug, PartialEq, Eq, Default)]
+pub struct Heights {
     pub main: u32,
     pub alt: u32,
 }
 
-// A refusal: peak 0 and no end.
-fn refused(refused: Refused, rows: usize) -> Summary
-    ensures { result ≡ summarized (refused_verdict refused.offset (refusal_of refused.refusal) rows) }
-{
-    let answer = Answer::from(Err(refused));
-    Summary {
-        number: answer.number,
-        offset: answer.offset,
-        first: answer.first,
-        second: answer.second,
-        rows,
-        peak: 0,
-        ended: false,
-        main: 0,
-        alt: 0,
-    }
-}
+impl From<Refused> for Rejected {
+    ghost from_gives = { λ refused rejected. rejected ≡ record { rows = 0; refused = refused } };
 
-// The acceptance of a walk that has come to the end.
-fn accepted(w: &Walk) -> Summary
-    ensures { result
-        ≡ summarized
-        (record { answer = answer 0 0 0 0; rows = w.now.place.rows; peak = w.now.peak; end = arm_of w.now.stacks }) }
-{
-    let summary = Summary {
-        number: 0,
-        offset: 0,
-        first: 0,
-        second: 0,
-        rows: w.place.rows,
-        peak: w.peak,
-        ended: false,
-        main: 0,
-        alt: 0,
-    };
-    match &w.stacks {
-        Some(stacks) => Summary {
-            ended: true,
-            main: stacks.mains,
-            alt: stacks.alts,
-            ..summary
-        },
-        None => summary,
+    fn from(refused: Refused) -> Rejected {
+        Rejected { rows: 0, refused }
     }
 }
 
 // The verdict where a walk has ended with no conditional open.
-fn conclude(w: &Walk, ended: Result<ArmEnd, Refusal>) -> Summary
-    ensures { result ≡ summarized (concluded ended w.now) }
+fn conclude(w: Walk, ended: Result<ArmEnd, Refusal>) -> Verdict<Stacks>
+    ensures { verdict_in view result ≡ concluded ended w }
 {
+    let rows = w.place.rows;
     let refusal = match ended {
-        Ok(ArmEnd::End) => return accepted(w),
+        Ok(ArmEnd::End) => {
+            return Ok(Accepted {
+                rows,
+                peak: w.peak,
+                end: w.stacks,
+            });
+        }
         Ok(ArmEnd::Else) => Refusal::StrayElse,
         Ok(ArmEnd::Endif) => Refusal::StrayEndif,
         Err(refusal) => refusal,
     };
-    refused(
-        Refused {
-            offset: w.place.last,
-            refusal,
-        },
-        w.place.rows,
-    )
+    let offset = w.place.last;
+    Err(Rejected {
+        rows,
+        refused: Refused { offset, refusal },
+    })
 }
 
-// The verdict of a summary and the end stacks.
-fn with_end(v: Summary, end: EndStacks) -> Verdict
-    ensures { result ≡ with_end v end }
-{
-    Verdict {
-        number: v.number,
-        offset: v.offset,
-        first: v.first,
-        second: v.second,
-        rows: v.rows,
-        peak: v.peak,
-        ended: v.ended,
-        end,
-    }
-}
-
-// The tests before the walk, in their order; so many numbers of the log are lent.
+// The tests before the walk, in their order; so many numbers of the log are lent. Here and in the entries main and alt are two
+// numbers, as the C interface has them: no fact holds of the pair before it is tested here.
 fn early(fragment: &[u8], main: u32, alt: u32, limit: Limit, lent: usize) -> Result<(), Refused>
     ensures { (R : Rules) (log : List ℕ)
         → R.limit ≡ limit.items → length log ≡ lent → Starts R fragment.now main alt log result }
@@ -170,6 +120,23 @@ fn start(main: u32, alt: u32) -> Walk
     }
 }
 
+// The analysis of a fragment by these rules, with the stacks that its walk ends with.
+fn analyze_stacks(
+    fragment: &[u8],
+    main: u32,
+    alt: u32,
+    rules: walk::Rules,
+    log: &mut [u16],
+) -> Verdict<Stacks>
+    ensures same { verdict_in view result ≡ (analysis (rules_in rules.entry) fragment.now main alt log.old).verdict }
+    ensures logged { log.new ≡ (analysis (rules_in rules.entry) fragment.now main alt log.old).log }
+{
+    early(fragment, main, alt, rules.limit, log.len())?;
+    let mut w = start(main, alt);
+    let ended = arm(fragment, log, rules, &mut w, 0);
+    conclude(w, ended)
+}
+
 /// The analysis of a fragment by these rules, from main and alt unknown items; one row of the lent log is written for each
 /// instruction met.
 pub fn analyze_rows(
@@ -178,69 +145,56 @@ pub fn analyze_rows(
     alt: u32,
     rules: walk::Rules,
     log: &mut [u16],
-) -> Verdict
-    ensures same { result
-        ≡ packed_verdict
-        (analysis (rules_in rules.entry) fragment.now main alt log.old).verdict }
+) -> Verdict<EndStacks>
+    ensures same { told result
+        ≡ told_of packed_end (analysis (rules_in rules.entry) fragment.now main alt log.old).verdict }
     ensures shows { verdict_of result
         ≡ (analysis (rules_in rules.entry) fragment.now main alt log.old).verdict }
-    ensures within { result.end.main + result.end.alt ≤ 244 }
+    ensures within { EndWithin result }
     ensures logged { log.new
         ≡ (analysis (rules_in rules.entry) fragment.now main alt log.old).log }
-    ensures replayed { result.number ≡ 0
+    ensures replayed { IsOk result
         → Demand3
         (rules_in rules.entry)
         (instructions (decode fragment.now))
         (unknowns main alt)
         (record { verdict = verdict_of result; log = log.new }) }
 {
-    if let Err(early) = early(fragment, main, alt, rules.limit, log.len()) {
-        return with_end(refused(early, 0), EndStacks::none());
-    }
-    let mut w = start(main, alt);
-    let ended = arm(fragment, log, rules, &mut w, 0);
-    let verdict = conclude(&w, ended);
-    let end = match &w.stacks {
-        Some(stacks) if verdict.ended => EndStacks::of(stacks),
-        _ => EndStacks::none(),
-    };
-    with_end(verdict, end)
+    let Accepted { rows, peak, end } = analyze_stacks(fragment, main, alt, rules, log)?;
+    let end = end.map(|stacks| EndStacks::of(&stacks));
+    Ok(Accepted { rows, peak, end })
 }
 
 /// The same with the heights of the end in place of the end stacks, for callers that read no item.
+// Beside `analyze_rows`: with the form of the end as a trait both would still stand, since that one promises more.
 pub fn analyze_heights_rows(
     fragment: &[u8],
     main: u32,
     alt: u32,
     rules: walk::Rules,
     log: &mut [u16],
-) -> Summary
-    ensures same { result
-        ≡ summarized
-        (analysis (rules_in rules.entry) fragment.now main alt log.old).verdict }
+) -> Verdict<Heights>
+    ensures same { told result
+        ≡ told_of heights_of (analysis (rules_in rules.entry) fragment.now main alt log.old).verdict }
     ensures logged { log.new
         ≡ (analysis (rules_in rules.entry) fragment.now main alt log.old).log }
 {
-    if let Err(early) = early(fragment, main, alt, rules.limit, log.len()) {
-        return refused(early, 0);
-    }
-    let mut w = start(main, alt);
-    let ended = arm(fragment, log, rules, &mut w, 0);
-    conclude(&w, ended)
+    let Accepted { rows, peak, end } = analyze_stacks(fragment, main, alt, rules, log)?;
+    let end = end.map(|stacks| Heights {
+        main: stacks.mains,
+        alt: stacks.alts,
+    });
+    Ok(Accepted { rows, peak, end })
 }
 
 /// The analysis of a fragment from main and alt unknown items, by the built-in table at 244; one row of the lent log is written
 /// for each instruction met. Every input comes to a verdict.
-pub fn analyze(fragment: &[u8], main: u32, alt: u32, log: &mut [u16]) -> Verdict
-    ensures same { result
-        ≡ packed_verdict
-        (analysis built_in fragment.now main alt log.old).verdict }
-    ensures shows { verdict_of result
-        ≡ (analysis built_in fragment.now main alt log.old).verdict }
-    ensures within { result.end.main + result.end.alt ≤ 244 }
-    ensures logged { log.new
-        ≡ (analysis built_in fragment.now main alt log.old).log }
-    ensures replayed { result.number ≡ 0
+pub fn analyze(fragment: &[u8], main: u32, alt: u32, log: &mut [u16]) -> Verdict<EndStacks>
+    ensures same { told result ≡ told_of packed_end (analysis built_in fragment.now main alt log.old).verdict }
+    ensures shows { verdict_of result ≡ (analysis built_in fragment.now main alt log.old).verdict }
+    ensures within { EndWithin result }
+    ensures logged { log.new ≡ (analysis built_in fragment.now main alt log.old).log }
+    ensures replayed { IsOk result
         → Demand3
         built_in
         (instructions (decode fragment.now))
@@ -251,12 +205,9 @@ pub fn analyze(fragment: &[u8], main: u32, alt: u32, log: &mut [u16]) -> Verdict
 }
 
 /// The same with the heights of the end in place of the end stacks, for callers that read no item.
-pub fn analyze_heights(fragment: &[u8], main: u32, alt: u32, log: &mut [u16]) -> Summary
-    ensures same { result
-        ≡ summarized
-        (analysis built_in fragment.now main alt log.old).verdict }
-    ensures logged { log.new
-        ≡ (analysis built_in fragment.now main alt log.old).log }
+pub fn analyze_heights(fragment: &[u8], main: u32, alt: u32, log: &mut [u16]) -> Verdict<Heights>
+    ensures same { told result ≡ told_of heights_of (analysis built_in fragment.now main alt log.old).verdict }
+    ensures logged { log.new ≡ (analysis built_in fragment.now main alt log.old).log }
 {
     analyze_heights_rows(fragment, main, alt, walk::Rules::built_in(), log)
 }
@@ -269,16 +220,15 @@ pub fn analyze_with(
     map: &[u8],
     options: Options,
     log: &mut [u16],
-) -> Verdict
-    ensures same { result
-        ≡ packed_verdict
-        (analysis_with map.now (options_of options) fragment.now main alt log.old).verdict }
+) -> Verdict<EndStacks>
+    ensures same { told result
+        ≡ told_of packed_end (analysis_with map.now (options_of options) fragment.now main alt log.old).verdict }
     ensures shows { verdict_of result
         ≡ (analysis_with map.now (options_of options) fragment.now main alt log.old).verdict }
-    ensures within { result.end.main + result.end.alt ≤ 244 }
+    ensures within { EndWithin result }
     ensures logged { log.new
         ≡ (analysis_with map.now (options_of options) fragment.now main alt log.old).log }
-    ensures replayed { result.number ≡ 0
+    ensures replayed { IsOk result
         → Demand3
         (rules_of map.now (options_of options))
         (instructions (decode fragment.now))
@@ -287,6 +237,6 @@ pub fn analyze_with(
 {
     match maps::rules(map, options) {
         Ok(rules) => analyze_rows(fragment, main, alt, rules, log),
-        Err(refusal) => with_end(refused(refusal.into(), 0), EndStacks::none()),
+        Err(refusal) => Err(Refused::from(refusal).into()),
     }
 }

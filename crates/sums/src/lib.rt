@@ -24,6 +24,7 @@ pub struct SittingSums {
     pub count: u32,
 }
 
+// Numbers by turns, and no pairs: so C callers lend them.
 /// The sums over a list of verdict numbers and peaks by turns: at most 8,192 numbers, an even count of them, and no verdict
 /// number above the greatest in use.
 pub fn sums(sitting: &[u32]) -> Result<SittingSums, Refusal>

@@ -36,6 +36,7 @@ impl Tally {
     }
 
     /// The tally with one verdict more, of this number, rows and peak. It is full where a count would pass 4,294,967,295.
+    // The verdict comes as numbers and no `Result`: so C callers hand it over. 0 is an accepted one.
     pub fn gained(self, number: u32, rows: usize, peak: u32) -> Result<Tally, Refusal>
         ensures { (v : Verdict) → Gives v number rows peak → gained_of (tally_of self) result ≡ Walk.gain (tally_of self) v }
     {

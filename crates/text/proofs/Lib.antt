@@ -1,2 +1,3 @@
 -- What is proved of texts for this crate's functions.
+pub mod Puts
 pub mod Texts

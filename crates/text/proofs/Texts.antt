@@ -2,12 +2,13 @@
 use mathlib.Core.Bool.{Bool, true, false}
 use mathlib.Core.List.{[], ◌∷◌, ◌++◌, append_assoc}
 use mathlib.Core.Path.{◌≡◌, refl, sym, ap, subst, ◌∙◌}
-use Prim.Native.Nat.{ℕ, zero, suc, ◌+◌, ◌/◌, ◌%◌, ◌^◌, ◌≤◌, ◌<◌}
+use Prim.Native.Nat.{ℕ, zero, suc, ◌+◌, ◌-◌, ◌/◌, ◌%◌, ◌^◌, ◌≤◌, ◌<◌}
 use native.Mathlib.Omega.{arith}
 use borrow.Author.Tests.{lt-ltb, le-ltb, ltb-true, ltb-false}
+use borrow.Rule.Slice.PartMut.{put_mid}
 use lib.Dec.{ltb}
-use lib.ListN.{length, take, drop, set, get_or, length-append}
-use lib.Seq.{paste, paste-suc, take_at, drop-append-add, drop-drop, take-length, set_split, length-take-le}
+use lib.ListN.{length, take, drop, length-append}
+use lib.Seq.{take_at, drop-append-add, drop-drop, length-take-le}
 use Rattle.std.specs.Fmt as Fmt
 use Rattle.std.proofs.lemmas.Fmt.{decimal_by_steps}
 use Rattle.definition.specs.Basics.{Bytes, pick}
@@ -47,28 +48,14 @@ then-written {lent} {at} {s} {mid} {between} {t} {new} {next} within w v = recor
   holds = v.holds ∙ ap (λ (l : Bytes). placed l between t) w.holds ∙ ap (λ n. placed (placed lent at s) n t) w.ends ∙ placed-then lent at s within t;
 }
 
--- one byte; a word, byte by byte
-
-pub byte-written : (lent : Bytes) (at b : ℕ) → at < length lent → Written lent at (b ∷ []) (set lent at b) (at + 1)
-byte-written lent at b h =
-    let n : suc at ≡ at + 1 = omega arith in
+-- a part of lent bytes in which a text was written
+pub part-written : (lent : Bytes) (at end : ℕ) (t new : Bytes) → end ≡ at + length t → new ≡ t → Written lent at t (put_mid at (end - at) lent new) end
+part-written lent at end t new j e =
+    let m : end - at ≡ length t = omega arith in
     record {
-      ends = refl;
-      holds = set_split lent at b h ∙ sym (append_assoc (take at lent) (b ∷ []) (drop (suc at) lent)) ∙ ap (λ m. take at lent ++ (b ∷ []) ++ drop m lent) n;
-    }
-
-pub word_more : (lent : Bytes) (at : ℕ) (word out : Bytes) (j : ℕ) → out ≡ paste lent at word j → at + j < length lent → j < length word
-    → set out (at + j) (get_or word j 0) ≡ paste lent at word (j + 1)
-word_more lent at word out j e h l =
-    let n : suc j ≡ j + 1 = omega arith in
-    ap (λ (o : Bytes). set o (at + j) (get_or word j 0)) e ∙ paste-suc lent at word j 0 h l ∙ ap (λ m. paste lent at word m) n
-
-pub word-written : (lent : Bytes) (at : ℕ) (word new : Bytes) (j : ℕ) → new ≡ paste lent at word j → j ≤ length word → length word ≤ j → Written lent at word new (at + j)
-word-written lent at word new j e h l =
-    let q : j ≡ length word = omega arith in
-    record {
-      ends = ap (λ n. at + n) q;
-      holds = e ∙ ap (λ n. paste lent at word n) q ∙ ap (λ (w : Bytes). take at lent ++ w ++ drop (at + length word) lent) (take-length word);
+      ends = j;
+      holds = rw (e, m) (sym (append_assoc (take at lent) t (drop (length t) (drop at lent)))
+          ∙ ap (λ (x : Bytes). take at lent ++ t ++ x) (drop-drop (length t) at lent));
     }
 
 -- Numbers in decimal

@@ -1,17 +1,75 @@
-// Words and numbers as text: appended to a line, or written into lent bytes from an index on, where the answer is the index after.
+// Words and numbers as text: appended to a line, or put into lent bytes.
 
 #![tactic(auto)]
 
-ghost use Rattle.std.specs.Prelude.{[], ◌∷◌, ◌++◌, ◌≡◌, ◌+◌, ◌≤◌, ◌<◌, length};
+ghost use Rattle.std.specs.Prelude.{[], ◌∷◌, ◌++◌, ◌≡◌, ◌+◌, ◌^◌, ◌≤◌, ◌<◌, length};
+ghost use Rattle.std.specs.Fn.{FnOnceTakesAtMut, FnOnceReturnsAtMut};
+ghost use Rattle.definition.specs.Basics.{Bytes};
 ghost use Rattle.arrayvec.specs.ArrayVec.{array_vec_len};
 ghost use Rattle.definition.specs.Lines.{decimal};
 ghost use Rattle.definition_listings.specs.Hex.{hex_digit, hex_byte};
-ghost use Rattle.text.specs.View.{Written};
 
 use arrayvec::ArrayVec;
 
 /// A line of at most `N` bytes, which grows at its end.
 pub type Line<const N: usize> = ArrayVec<u8, N>;
+
+/// A text that is put into lent bytes: what has room is written, and all of it is counted.
+#[derive(Drop)]
+pub struct Lent<'a> {
+    bytes: &'a mut [u8],
+    size: usize,
+    // also where the text is behind a reference
+    pub ghost counted: { size < 2 ^ 64 },
+}
+
+impl<'a> Lent<'a> {
+    ghost use Rattle.text.specs.View.{Puts};
+
+    /// No text yet.
+    pub fn new(bytes: &'a mut [u8]) -> Lent<'a>
+        ensures same_bytes { result.bytes.ghost_name ≡ bytes.entry.ghost_name }
+        ensures as_lent { result.bytes.now ≡ bytes.old }
+        ensures empty { result.size ≡ 0 }
+    {
+        Lent { bytes, size: 0 }
+    }
+
+    /// How many bytes the text has: 2^64 - 1 where it has more.
+    pub fn size(&self) -> usize
+        ensures { result ≡ self.now.size }
+    {
+        self.size
+    }
+
+    /// Puts so many bytes behind the text, by a step that writes them, which is run where there is room.
+    pub fn fill<F: FnOnce(&mut [u8])>(&mut self, size: usize, write: F)
+        requires { (place : Bytes) → length place ≡ size → FnOnceTakesAtMut F.FnOnce write place }
+        ensures { (t : Bytes) → length t ≡ size
+            → ((place new : Bytes) → length place ≡ size → FnOnceReturnsAtMut F.FnOnce write place tt new → new ≡ t)
+            → Puts self.old t self.new }
+    {
+        let start = self.size;
+        self.size = start.saturating_add(size);
+        if self.size <= self.bytes.len() {
+            write(&mut self.bytes[start..self.size]);
+        }
+    }
+
+    /// Puts a word behind the text.
+    pub fn put(&mut self, word: &[u8])
+        ensures { Puts self.old word.now self.new }
+    {
+        self.fill(
+            word.len(),
+            |place|
+                requires { length place.now ≡ length word.now }
+            {
+                place.copy_from_slice(word);
+            },
+        );
+    }
+}
 
 /// Appends a word.
 pub fn push_word<const N: usize>(line: &mut Line<N>, word: &[u8])
@@ -51,44 +109,6 @@ pub fn push_hex<const N: usize>(line: &mut Line<N>, byte: u8)
 {
     line.push(hex_digit(byte / 16));
     line.push(hex_digit(byte % 16));
-}
-
-/// Writes a word.
-pub fn write_word(out: &mut [u8], at: usize, word: &[u8]) -> usize
-    requires { at + length word.now ≤ length out.old }
-    ensures { Written out.old at word.now out.new result }
-{
-    let next = at + word.len();
-    out[at..next].copy_from_slice(word);
-    next
-}
-
-/// Writes a number in decimal.
-#[tactic(auto, using(crate::proofs::Texts::printed))]
-pub fn write_number(out: &mut [u8], at: usize, n: u64) -> usize
-    requires { at + length (decimal n) ≤ length out.old }
-    ensures { Written out.old at (decimal n) out.new result }
-{
-    write_word(out, at, itoa::Buffer::new().format(n).as_bytes())
-}
-
-/// Writes one byte.
-pub fn write_byte(out: &mut [u8], at: usize, byte: u8) -> usize
-    requires { at < length out.old }
-    ensures { Written out.old at (byte ∷ []) out.new result }
-{
-    out[at] = byte;
-    at + 1
-}
-
-/// Writes the last two digits of a number in hexadecimal.
-pub fn write_hex(out: &mut [u8], at: usize, n: u64) -> usize
-    requires { at + 2 ≤ length out.old }
-    ensures same { Written out.old at (hex_byte n) out.new result }
-    ensures ends { result ≡ at + 2 }
-{
-    let next = write_byte(out, at, hex_digit((n / 16 % 16) as u8));
-    write_byte(out, next, hex_digit((n % 16) as u8))
 }
 
 // A hexadecimal digit.

@@ -69,9 +69,14 @@ fn fragment(rt: &impl Print, line: &[u8], room: &mut Room) -> Option<()> {
         alt.value,
         &mut room.log,
     );
-    let _ = match v.number {
-        1 | 5 => println!(rt; "fragment outside"),
-        number => println!(rt; "fragment {number} {} {} {}", v.offset, v.first, v.second),
+    let outcome = v.map(|_| ()).map_err(|r| r.refused);
+    let answer = Answer::from(outcome);
+    let _ = match outcome.map_err(|r| r.refusal) {
+        Err(Refusal::LongFragment { .. } | Refusal::Nesting) => println!(rt; "fragment outside"),
+        _ => println!(rt;
+            "fragment {} {} {} {}",
+            answer.number, answer.offset, answer.first, answer.second
+        ),
     };
     Some(())
 }
@@ -92,11 +97,17 @@ fn limits(rt: &impl Print, line: &[u8], room: &mut Room) -> Option<()> {
 fn paper(rt: &impl Print, line: &[u8], room: &mut Room) -> Option<()> {
     let count = bytes(line, &mut room.code)?;
     let v = paper::mark_paper(&room.code[..count], &mut room.log);
-    let _ = match v.number {
-        5 => println!(rt; "paper outside"),
-        number => println!(rt;
-            "paper {number} {} {} {} {}",
-            v.entry, v.offset, v.first, v.second
+    let entry = match v {
+        Ok(_) => 0,
+        Err(r) => r.entry,
+    };
+    let outcome = v.map(|_| ()).map_err(|r| r.refused);
+    let answer = Answer::from(outcome);
+    let _ = match outcome.map_err(|r| r.refusal) {
+        Err(Refusal::Nesting) => println!(rt; "paper outside"),
+        _ => println!(rt;
+            "paper {} {entry} {} {} {}",
+            answer.number, answer.offset, answer.first, answer.second
         ),
     };
     Some(())

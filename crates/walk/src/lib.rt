@@ -116,6 +116,7 @@ fn skip(code: &[u8], log: &mut [u16], rules: Rules, w: &mut Walk) -> Stop
     requires dead { w.old.stacks ≡ None }
     ensures { Runs (rules_in rules.entry) code.now w.old log.old w.new (Ok result) log.new }
 {
+    // no `for`: the place moves in `w`, which keeps it where the walk stops
     while let Ok(Some(instruction)) = decode::decode_at(code, w.place.at) {
         w.place.meet(instruction, log, DEAD, DEAD);
         match rules.classes.of(instruction.opcode) {
@@ -138,6 +139,7 @@ pub fn plain(code: &[u8], log: &mut [u16], rules: Rules, w: &mut Walk) -> Result
     let Some(stacks) = &mut w.stacks else {
         return Ok(skip(code, log, rules, w));
     };
+    // no `for`: the place moves in `w`, which keeps it where the walk stops or is refused
     loop {
         let mains = stacks.mains;
         let alts = stacks.alts;

@@ -1,24 +1,23 @@
--- The bytes of words, written into lent bytes.
+-- The bytes of words, put into lent bytes.
 use mathlib.Core.Bool.{Bool, true, false, ◌&&◌}
-use mathlib.Core.List.{[], ◌∷◌, ◌++◌, append_assoc}
+use mathlib.Core.List.{[], ◌∷◌, ◌++◌}
 use mathlib.Core.Option.{Option, none, some}
 use mathlib.Core.Path.{◌≡◌, refl, sym, ap, ◌∙◌}
 use Prim.Native.Nat.{ℕ, ◌+◌, ◌-◌, ◌*◌, ◌/◌, ◌%◌, ◌≤◌}
 use native.Mathlib.Omega.{arith}
 use borrow.Author.Tests.{le-leb, lt-leb, eq-eqb, ne_eqb}
 use lib.Dec.{leb, leb→le}
-use lib.ListN.{length, take, drop, length-append, length-take, length-drop}
+use lib.ListN.{length, take, drop, length-take, length-drop}
 use mir.Facts.{and_yes}
 use Rattle.std.specs.Prelude.{Some, Result, Ok, Err, MatchResult}
 use Rattle.hex.specs.declared.error.FromHexError.{FromHexError}
-use borrow.Rule.Slice.PartMut.{put_mid}
-use lib.Seq.{drop-drop}
 use Rattle.hex.specs.Hex.{hex_digit_value, decode_pairs, decode_sized}
 use Rattle.definition.specs.Basics.{Bytes, pick}
 use Rattle.definition_listings.specs.Assembling.{on_read, digit_read, hex_read, word_read}
 use Rattle.definition_listings.specs.Shortest.{in_form}
-use Rattle.text.specs.View.{Written}
-use Rattle.text.proofs.Texts.{written_as, then-written}
+use Rattle.text.specs.View.{Puts}
+use Rattle.text.specs.declared.Lent.{Lent}
+use Rattle.text.proofs.Puts.{puts_as, then-puts}
 use Rattle.words.specs.View.{opens, data_letters, DataWord, head_of, bytes_of}
 use Rattle.names.proofs.Tables.{never, holds}
 use Rattle.words.proofs.Words.{hex-length, data-known}
@@ -69,24 +68,14 @@ decoded-sized l b n e h =
     rw (ne_eqb (length l % 2) 1 (λ o. omega (arith, hex-length l b e)), eq-eqb (length l / 2) n (omega arith)) (decoded 0 l b e)
 
 -- the library's answer for letters that are bytes, decoded into room for them
-module _ (out : Bytes) (at : ℕ) (l : Bytes) (digits : hex_read l ≡ some (in_form (hex_read l))) (room : at + length l / 2 ≤ length out) where
-  pub decodes : {r : Result (Unit {0}) FromHexError} {new : Bytes}
-      → MatchResult (decode_sized l (length (take (at + length l / 2 - at) (drop at out)))) (λ bytes. (r ≡ Ok tt) × (new ≡ bytes)) (λ e. r ≡ Err e)
+module _ (l : Bytes) (digits : hex_read l ≡ some (in_form (hex_read l))) where
+  pub decodes : {n : ℕ} {r : Result (Unit {0}) FromHexError} {new : Bytes} → n ≡ length l / 2
+      → MatchResult (decode_sized l n) (λ bytes. (r ≡ Ok tt) × (new ≡ bytes)) (λ e. r ≡ Err e)
       → (r ≡ Ok tt) × (new ≡ in_form (hex_read l))
-  decodes v =
-      rw (decoded-sized l (in_form (hex_read l)) (length (take (at + length l / 2 - at) (drop at out))) digits
-      (omega (arith, length-take (at + length l / 2 - at) (drop at out), length-drop at out))) at v
+  decodes {n = n} h v = rw (decoded-sized l (in_form (hex_read l)) n digits h) at v
 
-  pub data-written : {new : Bytes} → new ≡ in_form (hex_read l)
-      → Written out at (in_form (hex_read l)) (put_mid at (at + length l / 2 - at) out new) (at + length l / 2)
-  data-written {new} e =
-      let k : length (in_form (hex_read l)) ≡ length l / 2 = omega (arith, hex-length l (in_form (hex_read l)) digits) in
-      let m : at + length l / 2 - at ≡ length l / 2 = omega arith in
-      let j : at + length l / 2 ≡ at + length (in_form (hex_read l)) = omega arith in
-      record {
-        ends = j;
-        holds = rw (e, m) (sym (append_assoc (take at out) (in_form (hex_read l)) (drop (length l / 2) (drop at out))) ∙ ap (λ (x : Bytes). take at out ++ in_form (hex_read l) ++ x) (drop-drop (length l / 2) at out) ∙ ap (λ n. take at out ++ in_form (hex_read l) ++ drop n out) j);
-      }
+  pub data-length : length (in_form (hex_read l)) ≡ length l / 2
+  data-length = omega (arith, hex-length l (in_form (hex_read l)) digits)
 
 -- The push of a word of data
 
@@ -119,11 +108,5 @@ module _ (w : Bytes) (begins : opens w ≡ true) (good : word_read w ≡ some (b
       ∙ ap (λ n. head_of n ++ data_of w (length w / 2 - 1) known) (sym half)
       ∙ ap (λ (l : Bytes). head_of (length letters / 2) ++ in_form (hex_read l)) letters-are
 
-  pub push-length : length (bytes_of w) ≡ length (head_of (length letters / 2)) + length letters / 2
-  push-length =
-      ap length push-bytes ∙ length-append (head_of (length letters / 2)) (in_form (hex_read letters))
-      ∙ omega (arith, hex-length letters (in_form (hex_read letters)) digits)
-
-  pub push-written : {lent : Bytes} {at : ℕ} {h : Bytes} {mid : Bytes} {between : ℕ} {new : Bytes} {next : ℕ} → at ≤ length lent → h ≡ head_of (length letters / 2)
-      → Written lent at h mid between → Written mid between (in_form (hex_read letters)) new next → Written lent at (bytes_of w) new next
-  push-written k e a b = written_as (sym push-bytes) (then-written k (written_as e a) b)
+  pub push-puts : {a b d : Lent} {h : Bytes} → h ≡ head_of (length letters / 2) → Puts a h b → Puts b (in_form (hex_read letters)) d → Puts a (bytes_of w) d
+  push-puts e p q = puts_as (sym push-bytes) (then-puts (puts_as e p) q)

@@ -2,15 +2,15 @@
 
 #![tactic(auto)]
 
-ghost use Rattle.std.specs.Prelude.{true, ◌≡◌, ◌+◌, ◌/◌, ◌≤◌, length};
+ghost use Rattle.std.specs.Prelude.{true, ◌≡◌, ◌/◌, ◌≤◌, length};
 ghost use Rattle.std.proofs.Math.Option.{some};
 ghost use Rattle.definition_listings.specs.Assembling.{hex_read, word_read};
 ghost use Rattle.definition_listings.specs.Shortest.{in_form};
-ghost use Rattle.text.specs.View.{Written};
+ghost use Rattle.text.specs.View.{Puts};
 ghost use Rattle.words.specs.View.{opens, head_of, bytes_of};
 
 use names::Names;
-use text::{Line, push_word, write_byte, write_word};
+use text::{Lent, Line, push_word};
 
 // The opcode and the length bytes in front of so many bytes of data.
 fn head(n: usize) -> Line<5>
@@ -36,40 +36,42 @@ fn head(n: usize) -> Line<5>
     head
 }
 
-// Writes the bytes of letters in hexadecimal.
-fn write_data(out: &mut [u8], at: usize, letters: &[u8]) -> usize
+// Puts the bytes of letters in hexadecimal.
+fn put_data(text: &mut Lent, letters: &[u8])
     requires digits { hex_read letters.now ≡ some (in_form (hex_read letters.now)) }
-    requires room { at + length letters.now / 2 ≤ length out.old }
-    ensures { Written out.old at (in_form (hex_read letters.now)) out.new result }
+    ensures { Puts text.old (in_form (hex_read letters.now)) text.new }
 {
-    let end = at + letters.len() / 2;
-    hex::decode_to_slice(letters, &mut out[at..end]).unwrap();
-    end
+    text.fill(
+        letters.len() / 2,
+        |place|
+            requires digits { hex_read letters.now ≡ some (in_form (hex_read letters.now)) }
+            requires room { length place.now ≡ length letters.now / 2 }
+            ensures { place.new ≡ in_form (hex_read letters.entry.now) }
+        {
+            hex::decode_to_slice(letters, place).unwrap();
+        },
+    );
 }
 
-// Writes the push of a word of data, which has two digits to a byte between its first and its last letter.
-fn write_push(out: &mut [u8], at: usize, word: &[u8]) -> usize
+// Puts the push of a word of data, which has two digits to a byte between its first and its last letter.
+fn put_push(text: &mut Lent, word: &[u8])
     requires opens { opens word.now ≡ true }
     requires good { word_read word.now ≡ some (bytes_of word.now) }
-    requires room { at + length (bytes_of word.now) ≤ length out.old }
-    ensures { Written out.old at (bytes_of word.now) out.new result }
+    ensures { Puts text.old (bytes_of word.now) text.new }
 {
     let letters = &word[1..word.len() - 1];
-    let next = write_word(out, at, head(letters.len() / 2).as_slice());
-    write_data(out, next, letters)
+    text.put(head(letters.len() / 2).as_slice());
+    put_data(text, letters);
 }
 
-/// Writes the bytes of a word that is not strange, as a text is written: from an index on, with the index after it for an answer.
-pub fn write_bytes(out: &mut [u8], at: usize, word: &[u8], names: &Names) -> usize
-    requires good { word_read word.now ≡ some (bytes_of word.now) }
-    requires room { at + length (bytes_of word.now) ≤ length out.old }
-    ensures { Written out.old at (bytes_of word.now) out.new result }
+/// Puts the bytes of a word that is not strange.
+pub fn put_bytes(text: &mut Lent, word: &[u8], names: &Names)
+    requires { word_read word.now ≡ some (bytes_of word.now) }
+    ensures { Puts text.old (bytes_of word.now) text.new }
 {
     if words::is_data(word) {
-        return write_push(out, at, word);
-    }
-    match words::code_read(word, names) {
-        None => at,
-        Some(code) => write_byte(out, at, code),
+        put_push(text, word);
+    } else if let Some(code) = words::code_read(word, names) {
+        text.put(&[code]);
     }
 }

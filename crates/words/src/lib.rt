@@ -71,7 +71,8 @@ pub fn code_read(word: &[u8], names: &Names) -> Option<u8>
     }
 }
 
-// How many bytes a push of so many bytes of data has, in its shortest form.
+// How many bytes a push of so many bytes of data has, in its shortest form: counted by itself, since a word is judged before a byte of
+// it is put.
 fn push_size(n: usize) -> usize
     requires { n ≤ 4294967295 }
     ensures { result ≡ length (head_of n) + n }

@@ -1,19 +1,20 @@
-use mathlib.Core.Path.{subst}
-use Rattle.words.specs.View.{Sized}
-use Rattle.assembling.proofs.Judging.{judging-strange, judging-last, judging-more}
+use borrow.Author.Rules.{rules}
+use borrow.Author.Tests.{tests}
+use Rattle.std.proofs.lemmas.Fn.{always_returns_same}
+use Rattle.assembling.proofs.Judging.{space, judging-none, judging-strange, judging-more}
 use Rattle.assembling.proofs.judge.Goals as goal
+
+pub loop-word-init : goal.loop-word-init
+loop-word-init c = judging-none c.args.listing.now _ _ (λ e. search rules) (search rules) (search rules)
 
 pub returns-in_default : goal.returns-in_default
 returns-in_default c =
-    judging-strange c.args.listing.now c.loop-count.at c.loop-count.size c.loop-count.invariant c.word_end-end.result c.word_end-end.ensures.same c.word_end-end.ensures.within.1
-    (subst (Sized _) c.in_default.is c.word_size.ensures)
+    let first = (c.in-Some.ensures.steps.2 space (always_returns_same _ _ _ (λ a r q k. search (rules, tests)))).1 in
+    judging-strange c.args.listing.now _ _ c.loop-word.offset c.loop-word.size c.loop-word.invariant c.in-Some.ensures.steps.0 c.in-Some.word.now _ _ c.in-Some.ensures.steps.1 first
+    c.in_default.ensures
 
-pub returns-then-end-listing : goal.returns-then-end-listing
-returns-then-end-listing c =
-    judging-last c.args.listing.now c.loop-count.at c.loop-count.size c.loop-count.invariant c.word_end-end.result c.word_end-end.ensures.same c.word_end-end.ensures.within.1
-    c.in-Some.count (subst (Sized _) c.in-Some.is c.word_size.ensures) c.if-end-listing.true
-
-pub loop-count-preserved : goal.loop-count-preserved
-loop-count-preserved c =
-    judging-more c.args.listing.now c.loop-count.at c.loop-count.size c.loop-count.invariant c.word_end-end.result c.word_end-end.ensures.same c.word_end-end.ensures.within.1
-    c.in-Some.count (subst (Sized _) c.in-Some.is c.word_size.ensures) c.if-end-listing.false
+pub loop-word-preserved : goal.loop-word-preserved
+loop-word-preserved c =
+    let first = (c.in-Some.ensures.steps.2 space (always_returns_same _ _ _ (λ a r q k. search (rules, tests)))).1 in
+    judging-more c.args.listing.now _ _ c.loop-word.offset c.loop-word.size c.loop-word.invariant c.in-Some.ensures.steps.0 c.in-Some.word.now _ _ c.in-Some.ensures.steps.1 first
+    _ c.in-Some-word_size.ensures

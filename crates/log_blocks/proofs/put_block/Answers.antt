@@ -1,19 +1,25 @@
-use Rattle.opcodes.specs.Classes.{rows_of}
-use Rattle.log_blocks.proofs.Puts.{put_as, then-put}
-use mathlib.Core.Path.{ap}
 use mathlib.Core.List.{◌++◌}
+use mathlib.Core.Path.{ap, ◌∙◌}
 use Rattle.definition_rules.specs.Maps.{rules_by}
 use Rattle.definition.specs.Papers.{Fragment}
+use Rattle.opcodes.specs.Classes.{rows_of}
 use Rattle.log_rows.specs.Rows.{rows}
 use Rattle.log_lines.specs.Log.{start, verdict_line}
 use Rattle.log_blocks.specs.Blocks.{block}
+use Rattle.log_blocks.proofs.Rows.{block-put}
+use Rattle.definition.specs.Stacks.{Rules}
+use Rattle.stack_analysis.specs.View.{Told, told}
+use Rattle.stack_analysis.specs.declared.Heights.{Heights}
+use Rattle.text.proofs.Puts.{puts_as}
 use Rattle.log_blocks.proofs.put_block.Goals as goal
 
 pub returns-clause-same : goal.returns-clause-same
 unfolding block
 returns-clause-same c = λ options.
     let x = c.args in
-    put_as
-    (ap (λ (f : Fragment). start x.paper.now x.k ++ rows (rules_by (rows_of x.classes) options) f.bytes x.log.now x.t.peak x.from x.t.rows
-    ++ verdict_line (rules_by (rows_of x.classes) options) f.bytes x.log.now x.from x.t) c.fragment_at.ensures)
-    (then-put (then-put c.put_start-a.ensures.same (c.put_table-b.ensures.same options)) (c.put_verdict.ensures.same options))
+    let R : Rules = rules_by (rows_of x.paper.classes) options in
+    let t : Told Heights = told x.verdict in
+    puts_as
+    (ap (λ p. start x.paper.bytes.now x.k ++ rows R c.fragment_at.result.bytes.now x.paper.log.now p.1 x.from p.0 ++ verdict_line R c.fragment_at.result.bytes.now x.paper.log.now x.from t) c.rows_and_peak-rows.ensures
+    ∙ ap (λ (f : Fragment). start x.paper.bytes.now x.k ++ rows R f.bytes x.paper.log.now t.peak x.from t.rows ++ verdict_line R f.bytes x.paper.log.now x.from t) c.fragment_at.ensures)
+    (block-put (c.deref.ensures.0 ∙ c.start.ensures) c.put.ensures (c.put_table.ensures.same options) (c.deref-2.ensures.0 ∙ c.verdict_line.ensures options) c.put-2.ensures)

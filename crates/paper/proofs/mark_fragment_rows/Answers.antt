@@ -1,19 +1,48 @@
-use Rattle.std.proofs.Common.{arith, ◌≤◌, ◌<◌, ◌≡◌, Bool, true, false, length, refl}
+use Rattle.std.proofs.Common.{rules, arith, ◌≤◌, ◌<◌, ◌≡◌, Bool, true, false, length, refl}
 use Rattle.definition.specs.Papers.{fragments}
+use Rattle.definition.specs.Refusals.{bad_header}
+use Rattle.definition.specs.Walk.{refused_verdict}
 use Rattle.fragments.specs.View.{fragment_of}
 use Rattle.walk.specs.Runs.{rules_in}
-use Rattle.paper.proofs.Fragments.{no-fragment, marks-fragment}
+use Rattle.stack_analysis.specs.View.{told, told_of, heights_of}
+use Rattle.stack_analysis.specs.declared.Heights.{Heights}
+use Rattle.std.specs.Prelude.{Err}
+use Rattle.paper.proofs.Fragments.{FragmentMarks, no-fragment, marks-fragment}
 use Rattle.paper.proofs.mark_fragment_rows.Goals as goal
+use Rattle.paper.proofs.mark_fragment_rows.Goals.{After-into, After-analyze_heights_rows}
 
-pub returns-in_default : goal.returns-in_default
-returns-in_default c = let a = c.args in
-    let m = no-fragment (rules_in a.rules) a.paper.now a.k a.rows a.log.now (c.in_default.ensures.past.0 refl) in
-    record { same = m.same; logged = m.logged; room = m.room }
+-- 19
+none : (c : After-into) → let a = c.args in FragmentMarks (rules_in a.rules) a.paper.now a.k a.rows a.log.now (Err c.into.result) a.log.now
+none c = let a = c.args in
+    let e : told {E = Heights} (Err c.into.result) ≡ told_of heights_of (refused_verdict 0 bad_header 0) = search rules in
+    no-fragment (rules_in a.rules) a.paper.now a.k a.rows a.log.now (c.in_default.ensures.past.0 refl) (Err c.into.result) e
 
-pub returns : goal.returns
-returns c = let a = c.args in
-    let not_past : length (fragments a.paper.now) ≤ a.k → ⊥ = λ h. let e : ◌≡◌ {A = Bool} true false = c.in-Some.ensures.past.1 h in cc in
-    let there : a.k < length (fragments a.paper.now) = omega arith in
-    let m = marks-fragment (rules_in a.rules) a.paper.now a.k a.rows a.log.now there (fragment_of c.in-Some.fragment) c.in-Some.ensures.found
+pub returns-in_default-clause-same : goal.returns-in_default-clause-same
+returns-in_default-clause-same c = (none c).same
+
+pub returns-in_default-clause-logged : goal.returns-in_default-clause-logged
+returns-in_default-clause-logged c = (none c).logged
+
+-- the fragment is there
+there : (c : After-analyze_heights_rows) → c.args.k < length (fragments c.args.paper.now)
+there c =
+    let not_past : length (fragments c.args.paper.now) ≤ c.args.k → ⊥ = λ h. let e : ◌≡◌ {A = Bool} true false = c.in-Some.ensures.past.1 h in cc in
+    omega arith
+
+pub returns-clause-same : goal.returns-clause-same
+returns-clause-same c = let a = c.args in
+    let m = marks-fragment (rules_in a.rules) a.paper.now a.k a.rows a.log.now (there (goal.at.returns-clause-same c).After-analyze_heights_rows) (fragment_of c.in-Some.fragment) c.in-Some.ensures.found
     _ c.rows_start-from.ensures _ _ c.analyze_heights_rows.ensures.same c.analyze_heights_rows.ensures.logged in
-    record { same = m.same; logged = m.logged; room = m.room }
+    m.same
+
+pub returns-clause-logged : goal.returns-clause-logged
+returns-clause-logged c = let a = c.args in
+    let m = marks-fragment (rules_in a.rules) a.paper.now a.k a.rows a.log.now (there (goal.at.returns-clause-logged c).After-analyze_heights_rows) (fragment_of c.in-Some.fragment) c.in-Some.ensures.found
+    _ c.rows_start-from.ensures _ _ c.analyze_heights_rows.ensures.same c.analyze_heights_rows.ensures.logged in
+    m.logged
+
+pub returns-clause-room : goal.returns-clause-room
+returns-clause-room c = let a = c.args in
+    let m = marks-fragment (rules_in a.rules) a.paper.now a.k a.rows a.log.now (there (goal.at.returns-clause-room c).After-analyze_heights_rows) (fragment_of c.in-Some.fragment) c.in-Some.ensures.found
+    _ c.rows_start-from.ensures _ _ c.analyze_heights_rows.ensures.same c.analyze_heights_rows.ensures.logged in
+    m.room

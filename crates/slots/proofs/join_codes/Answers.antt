@@ -1,12 +1,11 @@
-use mathlib.Core.Path.{sym}
-use native.Mathlib.Omega.{arith}
-use Rattle.std.proofs.Common.{get_or}
-use Rattle.slots.specs.Parts.{common_code}
-use Rattle.slots.proofs.Laws.{each_next, suffice-next}
+use Rattle.slots.specs.View.{slots}
+use Rattle.slots.proofs.Joins.{joined-both, joined-codes}
 use Rattle.slots.proofs.join_codes.Goals as goal
 
-pub loop-i-preserved : goal.loop-i-preserved
-loop-i-preserved c = let i = c.loop-i.i in record {
-  common = each_next _ _ 0 _ i (λ x. common_code x (get_or c.args.other.now i 0)) _ (omega arith) (omega arith) c.common.ensures sym c.loop-i.invariant.common;
-  suffice = suffice-next _ i _ _ _ c.loop-i.invariant.suffice c.suffices-suffice.ensures;
-}
+pub returns-then-not-common_codes : goal.returns-then-not-common_codes
+returns-then-not-common_codes c =
+    joined-both (slots c.args.bytes.now c.args.codes.now) (slots c.args.other_bytes.now c.args.other.now) c.requires.0 c.requires.1 _ c.common_codes.ensures.common _ c.settle_codes.ensures
+
+pub returns-else-not-common_codes : goal.returns-else-not-common_codes
+returns-else-not-common_codes c =
+    joined-codes (slots c.args.bytes.now c.args.codes.now) (slots c.args.other_bytes.now c.args.other.now) c.requires.0 c.requires.1 _ c.common_codes.ensures.common (c.common_codes.ensures.suffice c.if-not-common_codes.false)

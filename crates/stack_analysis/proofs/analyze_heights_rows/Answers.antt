@@ -1,29 +1,17 @@
-use mathlib.Core.Path.{refl, subst}
-use native.Mathlib.Omega.{arith}
-use Rattle.refusals.specs.View.{refusal_of}
-use Rattle.walk.specs.Runs.{rules_in}
-use Rattle.stack_analysis.specs.Entry.{MayWalk, Starts}
-use Rattle.stack_analysis.proofs.Entries.{walk-ends, ready-start, summed-early, summed}
+use borrow.Author.Rules.{rules}
+use mathlib.Core.Path.{◌≡◌, sym, ap, ◌∙◌}
+use Rattle.std.specs.Prelude.{Err}
+use Rattle.stack.specs.View.{view}
+use Rattle.stack_analysis.specs.View.{end_as, arm_in, heights_of, verdict_in}
+use Rattle.stack_analysis.proofs.Entries.{refused-form, accepted-form, heights-form}
 use Rattle.stack_analysis.proofs.analyze_heights_rows.Goals as goal
-use Rattle.stack_analysis.proofs.analyze_heights_rows.Goals.{In_default}
 
--- nothing is against the walk
-may : (c : In_default) → let a = c.args in MayWalk (rules_in a.rules) a.fragment.now a.main a.alt a.log.now
-may c = let a = c.args in
-    subst (Starts (rules_in a.rules) a.fragment.now a.main a.alt a.log.now) c.in_default.is (c.early.ensures (rules_in a.rules) a.log.now refl refl)
-
-pub start-w-requires : goal.start-w-requires
-start-w-requires c = let m = may (goal.at.start-w-requires c).In_default in
-    omega (arith, m.low, c.args.rules.limit.low)
-
-pub arm-ended-requires-clause-ready : goal.arm-ended-requires-clause-ready
-arm-ended-requires-clause-ready c = let m = may (goal.at.arm-ended-requires-clause-ready c).In_default in
-    ready-start _ _ _ _ _ c.start-w.ensures m.short m.room
+pub returns-in_err-rows-clause-same : goal.returns-in_err-rows-clause-same
+returns-in_err-rows-clause-same c =
+    let e : c.from_residual.result ≡ Err c.in_err-rows.field-0.0 = search rules in
+    rw e (refused-form heights_of _ c.in_err-rows.field-0.0 (ap (verdict_in view) (sym c.in_err-rows.was) ∙ c.analyze_stacks.ensures.same))
 
 pub returns-clause-same : goal.returns-clause-same
-returns-clause-same c = let m = may (goal.at.returns-clause-same c).In_default in
-    (summed _ c.args.rules.limit.low _ _ _ _ m _ _ _ (walk-ends _ _ _ _ _ _ _ _ _ c.arm-ended.ensures c.start-w.ensures) _ c.conclude.ensures).0
-
-pub returns-clause-logged : goal.returns-clause-logged
-returns-clause-logged c = let m = may (goal.at.returns-clause-logged c).In_default in
-    (summed _ c.args.rules.limit.low _ _ _ _ m _ _ _ (walk-ends _ _ _ _ _ _ _ _ _ c.arm-ended.ensures c.start-w.ensures) _ c.conclude.ensures).1
+returns-clause-same c =
+    let h : c.map-end.result ≡ end_as heights_of (arm_in view c.in_ok-rows.field-0.end) = search (rules, heights-form) in
+    accepted-form heights_of _ c.in_ok-rows.field-0 (ap (verdict_in view) (sym c.in_ok-rows.was) ∙ c.analyze_stacks.ensures.same) _ h

@@ -1,42 +1,52 @@
-use mathlib.Core.Path.{refl, subst, ◌∙◌}
-use native.Mathlib.Omega.{arith}
-use Rattle.refusals.specs.View.{refusal_of}
+use borrow.Author.Rules.{rules}
+use mathlib.Core.Path.{◌≡◌, sym, ap, ◌∙◌}
+use Rattle.std.specs.Prelude.{Ok, Err}
+use Rattle.definition.specs.Refusals.{accepted}
+use Rattle.definition.specs.Walk.{Arm}
+use Rattle.ends.proofs.Packing.{ends-back}
+use Rattle.ends.specs.declared.EndStacks.{EndStacks}
+use Rattle.ends.specs.View.{packed_end, end_stacks_of}
+use Rattle.stack.specs.View.{view}
 use Rattle.walk.specs.Runs.{rules_in}
-use Rattle.stack_analysis.specs.Entry.{MayWalk, Starts}
-use Rattle.stack_analysis.proofs.Entries.{walk-ends, ready-start, Analysed, answers-early, answers-live, answers-dead, answers-none}
+use Rattle.stack_analysis.specs.View.{Verdict, end_as, arm_in, verdict_in, verdict_of}
+use Rattle.stack_analysis.proofs.Entries.{refused-form, accepted-form, packed-within, replayed-by}
 use Rattle.stack_analysis.proofs.analyze_rows.Goals as goal
-use Rattle.stack_analysis.proofs.analyze_rows.Goals.{In_default, in-Some, in_default-stacks, in_default-stacks-via-in-Some+else-verdict, in_default-stacks-via-in_default-stacks}
+use Rattle.stack_analysis.proofs.analyze_rows.Goals.{After-map-end}
 
--- nothing is against the walk
-may : (c : In_default) → let a = c.args in MayWalk (rules_in a.rules) a.fragment.now a.main a.alt a.log.now
-may c = let a = c.args in
-    subst (Starts (rules_in a.rules) a.fragment.now a.main a.alt a.log.now) c.in_default.is (c.early.ensures (rules_in a.rules) a.log.now refl refl)
+pub returns-in_err-rows-clause-same : goal.returns-in_err-rows-clause-same
+returns-in_err-rows-clause-same c =
+    let e : c.from_residual.result ≡ Err c.in_err-rows.field-0.0 = search rules in
+    rw e (refused-form packed_end _ c.in_err-rows.field-0.0 (ap (verdict_in view) (sym c.in_err-rows.was) ∙ c.analyze_stacks.ensures.same))
 
-pub start-w-requires : goal.start-w-requires
-start-w-requires c = let m = may (goal.at.start-w-requires c).In_default in
-    omega (arith, m.low, c.args.rules.limit.low)
+pub returns-in_err-rows-clause-shows : goal.returns-in_err-rows-clause-shows
+returns-in_err-rows-clause-shows c =
+    let e : c.from_residual.result ≡ Err c.in_err-rows.field-0.0 = search rules in
+    rw e (ap (verdict_in view) (sym c.in_err-rows.was) ∙ c.analyze_stacks.ensures.same)
 
-pub arm-ended-requires-clause-ready : goal.arm-ended-requires-clause-ready
-arm-ended-requires-clause-ready c = let m = may (goal.at.arm-ended-requires-clause-ready c).In_default in
-    ready-start _ _ _ _ _ c.start-w.ensures m.short m.room
+-- by the stacks that the walk ends with
+abbrev packed : After-map-end → Verdict EndStacks
+packed c = Ok (record { rows = c.in_ok-rows.field-0.rows; peak = c.in_ok-rows.field-0.peak; end = c.map-end.result })
 
-pub returns-in-Err : goal.returns-in-Err
-returns-in-Err c = let a = c.args in
-    let e = subst (Starts (rules_in a.rules) a.fragment.now a.main a.alt a.log.now) c.in-Err.is (c.early.ensures (rules_in a.rules) a.log.now refl refl) in
-    let m = answers-early _ a.rules.limit.low a.fragment.now a.main a.alt a.log.now _ _ e _ c.refused.ensures _ c.none.ensures _ c.with_end.ensures in
-    record { same = m.same; shows = m.shows; within = m.within; logged = m.logged; replayed = m.replayed }
+stood : (c : After-map-end) → verdict_in view (Ok c.in_ok-rows.field-0) ≡ verdict_in view c.analyze_stacks.result
+stood c = ap (verdict_in view) (sym c.in_ok-rows.was)
 
-pub returns : goal.returns
-returns c =
-    let a = c.args in
-    let may = may (goal.at.returns c).In_default in
-    let ends = walk-ends _ _ _ _ _ _ _ _ _ c.arm-ended.ensures c.start-w.ensures in
-    let m : Analysed (rules_in a.rules) a.fragment.now a.main a.alt a.log.now c.with_end-2.result c.arm-ended.new.log =
-    elim c.match-w.branch [
-      | in-Some w ↦ answers-live _ a.rules.limit.low _ _ _ _ may _ _ _ ends _ c.conclude-verdict.ensures w.in-Some.stacks w.in-Some.is w.if-verdict.true _ (w.end-is ∙ w.of-end.ensures) _ c.with_end-2.ensures
-      | in_default-stacks w ↦ elim w.in_default-stacks.branch [
-        | in_default-stacks-via-in-Some+else-verdict v ↦ answers-dead _ a.rules.limit.low _ _ _ _ may _ _ _ ends _ c.conclude-verdict.ensures v.if-verdict.false _ (w.end-is ∙ w.none-end.ensures) _ c.with_end-2.ensures
-        | in_default-stacks-via-in_default-stacks v ↦ answers-none _ a.rules.limit.low _ _ _ _ may _ _ _ ends _ c.conclude-verdict.ensures v.in_default-stacks.not-Some _ (w.end-is ∙ w.none-end.ensures) _ c.with_end-2.ensures
-      ]
-    ] in
-    record { same = m.same; shows = m.shows; within = m.within; logged = m.logged; replayed = m.replayed }
+pub returns-clause-same : goal.returns-clause-same
+returns-clause-same c =
+    let h : c.map-end.result ≡ end_as packed_end (arm_in view c.in_ok-rows.field-0.end) = search rules in
+    accepted-form packed_end _ c.in_ok-rows.field-0 (stood c ∙ c.analyze_stacks.ensures.same) _ h
+
+-- and the packed form shows them
+shown : (c : After-map-end) → verdict_of (packed c) ≡ verdict_in view c.analyze_stacks.result
+shown c =
+    let h : arm_in end_stacks_of c.map-end.result ≡ arm_in view c.in_ok-rows.field-0.end = search (rules, ends-back) in
+    ap (λ (x : Arm). record { answer = accepted; rows = c.in_ok-rows.field-0.rows; peak = c.in_ok-rows.field-0.peak; end = x }) h ∙ stood c
+
+pub returns-clause-shows : goal.returns-clause-shows
+returns-clause-shows c = shown c ∙ c.analyze_stacks.ensures.same
+
+pub returns-clause-within : goal.returns-clause-within
+returns-clause-within c = search (rules, packed-within)
+
+pub returns-clause-replayed : goal.returns-clause-replayed
+returns-clause-replayed c = let a = c.args in
+    replayed-by (rules_in a.rules) a.rules.limit.low a.fragment.now a.main a.alt a.log.now (packed c) _ (shown c ∙ c.analyze_stacks.ensures.same) c.analyze_stacks.ensures.logged

@@ -1,5 +1,0 @@
-use Rattle.log_blocks.proofs.Puts.{line-put}
-use Rattle.log_blocks.proofs.put_heading.Goals as goal
-
-pub returns-clause-same : goal.returns-clause-same
-returns-clause-same c = line-put c.new-line.ensures c.push_heading.ensures.items c.as_slice.ensures.value c.put.ensures.same

@@ -1,4 +1,0 @@
--- What is proved of marked papers for this crate's functions.
-pub mod Few
-pub mod Collecting
-pub mod Papers

@@ -1,5 +1,0 @@
-use Rattle.slots.specs.Parts.{Each, SettledAt}
-use Rattle.slots.proofs.join_bytes.Given as goal
-
-abbrev pub invariant-loop-i : goal.invariant-loop-i
-invariant-loop-i l = Each (SettledAt l.initial.codes l.bytes l.other) l.initial.codes 0 l.i l.codes
