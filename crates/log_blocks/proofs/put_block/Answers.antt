@@ -20,6 +20,6 @@ returns-clause-same c = λ options.
     let R : Rules = rules_by (rows_of x.paper.classes) options in
     let t : Told Heights = told x.verdict in
     puts_as
-    (ap (λ p. start x.paper.bytes.now x.k ++ rows R c.fragment_bytes.result.now x.paper.log.now p.1 x.from p.0 ++ verdict_line R c.fragment_bytes.result.now x.paper.log.now x.from t) c.rows_and_peak-rows.ensures
-    ∙ ap (λ (b : Bytes). start x.paper.bytes.now x.k ++ rows R b x.paper.log.now t.peak x.from t.rows ++ verdict_line R b x.paper.log.now x.from t) c.fragment_bytes.ensures)
+    (ap (λ p. start x.paper.bytes.now x.k ++ rows R c.fragment_bytes-bytes.result.now x.paper.log.now p.1 x.from p.0 ++ verdict_line R c.fragment_bytes-bytes.result.now x.paper.log.now x.from t) c.rows_and_peak-rows.ensures
+    ∙ ap (λ (b : Bytes). start x.paper.bytes.now x.k ++ rows R b x.paper.log.now t.peak x.from t.rows ++ verdict_line R b x.paper.log.now x.from t) c.fragment_bytes-bytes.ensures)
     (block-put (c.deref.ensures.0 ∙ c.start.ensures) c.put.ensures (c.put_table.ensures.same options) (c.deref-2.ensures.0 ∙ c.verdict_line.ensures options) c.put-2.ensures)
