@@ -6,7 +6,6 @@ ghost use Rattle.std.specs.Prelude.{◌≡◌, ◌-◌, ◌*◌, ◌≤◌, ◌<
 ghost use Rattle.assembling.specs.View.{converted_of};
 ghost use Rattle.decode.specs.View.{data_start};
 ghost use Rattle.definition.specs.Decoding.{decode, malformed_at};
-ghost use Rattle.definition.specs.Replay.{AreBytes};
 ghost use Rattle.definition_listings.specs.Listing.{hex_bytes, data_word, code_word, listed};
 ghost use Rattle.listing.specs.View.{Stands, word_at, listing_of, whole_or_malformed};
 ghost use Rattle.text.specs.View.{Puts};
@@ -15,7 +14,7 @@ use decode::{Instruction, Malformed};
 use names::Names;
 use opcodes::Class;
 use refusals::{Refusal, Refused};
-use text::Lent;
+use text::{Lent, hex_digit};
 
 /// The data of a push, which ends where the next instruction stands.
 pub fn data<'a>(fragment: &'a [u8], offset: usize, next: usize) -> &'a [u8]
@@ -30,6 +29,18 @@ pub fn data<'a>(fragment: &'a [u8], offset: usize, next: usize) -> &'a [u8]
     &fragment[next - size..next]
 }
 
+// Writes bytes in hexadecimal. Each digit is made by arithmetic: the compiler makes several at once, where a table is read digit by
+// digit.
+fn write_hex_bytes(place: &mut [u8], bytes: &[u8])
+    requires { length place.old ≡ 2 * length bytes.now }
+    ensures { place.new ≡ hex_bytes bytes.now }
+{
+    for j in 0..bytes.len() {
+        place[2 * j] = hex_digit(bytes[j] / 16);
+        place[2 * j + 1] = hex_digit(bytes[j] % 16);
+    }
+}
+
 /// Puts bytes in hexadecimal.
 pub fn put_hex_bytes(text: &mut Lent, bytes: &[u8])
     ensures { Puts text.old (hex_bytes bytes.now) text.new }
@@ -37,11 +48,9 @@ pub fn put_hex_bytes(text: &mut Lent, bytes: &[u8])
     text.fill(
         2 * bytes.len(),
         |place|
-            requires letters { length place.now ≡ 2 * length bytes.now }
-            requires are_bytes { AreBytes bytes.now }
-            ensures { place.new ≡ hex_bytes bytes.entry.now }
+            requires { length place.now ≡ 2 * length bytes.now }
         {
-            hex::encode_to_slice(bytes, place).unwrap();
+            write_hex_bytes(place, bytes);
         },
     );
 }
