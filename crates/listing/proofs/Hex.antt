@@ -3,7 +3,7 @@ use mathlib.Core.List.{[], ◌∷◌, ◌++◌, append-nil}
 use mathlib.Core.Path.{◌≡◌, refl, sym, ap, ◌∙◌}
 use Prim.Native.Nat.{ℕ, zero, suc, ◌+◌, ◌*◌, ◌/◌, ◌%◌, ◌<◌}
 use native.Mathlib.Omega.{arith}
-use lib.ListN.{length, get_or, set, length-set, drop_of_length-le}
+use lib.ListN.{length, get_or, set, length-set, length-append, drop_of_length-le}
 use lib.Seq.{paste, paste-zero}
 use Rattle.std.proofs.lemmas.List.Edits.{paste_more, paste_all}
 use Rattle.definition.specs.Basics.{Bytes}
@@ -76,3 +76,7 @@ data-word (b ∷ l) n = refl
 
 pub data-puts : {a b c d : Lent} (l : Bytes) → (length l ≡ 0 → ⊥) → Puts a (60 ∷ []) b → Puts b (hex_bytes l) c → Puts c (62 ∷ []) d → Puts a (data_word l) d
 data-puts l n u v w = puts_as (sym (data-word l n)) (then-puts (then-puts u v) w)
+
+-- how many letters it has
+pub data-some : (l : Bytes) → (length l ≡ 0 → ⊥) → 2 * length l + 2 ≡ length (data_word l)
+data-some l n = omega (arith, ap length (data-word l n), length-append (hex_bytes l) (62 ∷ []), hex-length l)
