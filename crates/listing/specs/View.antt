@@ -1,8 +1,8 @@
 -- What the answers of the lister stand for in the definitions of listings.
 use Rattle.std.proofs.Math.Option.{Option, none, some}
-use Rattle.std.specs.Prelude.{Result, Ok, Err, ℕ, ◌-◌, ◌≤◌, ◌<◌, leb, length, take, drop}
+use Rattle.std.specs.Prelude.{Result, Ok, Err, ℕ, ◌≡◌, ◌+◌, ◌-◌, ◌≤◌, ◌<◌, leb, min, length, take, drop}
 use Rattle.definition.specs.Basics.{Bytes, pick}
-use Rattle.definition.specs.Decoding.{decode, instructions}
+use Rattle.definition.specs.Decoding.{decode, instructions, malformed_at}
 use Rattle.definition_listings.specs.Listing.{data_word, code_word, parted}
 use Rattle.decode.specs.View.{data_start}
 use Rattle.decode.specs.declared.Instruction.{Instruction}
@@ -27,3 +27,8 @@ listing_of f = parted (instructions (decode f))
 abbrev pub whole_or_malformed : Option ℕ → Result (Unit {0}) Malformed
 whole_or_malformed none = Ok tt
 whole_or_malformed (some offset) = Err (record { offset = offset })
+
+-- an answer of `measure`: the listing's length, as far as it is within the room, or where the fragment is malformed
+abbrev pub Measures : Result ℕ Malformed → Bytes → ℕ → Type 0
+Measures (Ok size) f room = (malformed_at (decode f) ≡ none) × (min size (room + 1) ≡ min (length (listing_of f)) (room + 1))
+Measures (Err m) f room = malformed_at (decode f) ≡ some m.offset
