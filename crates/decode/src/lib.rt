@@ -175,9 +175,10 @@ pub fn decode_at(fragment: &[u8], offset: usize) -> Result<Option<Instruction>, 
     }))
 }
 
-// How many bytes of length follow an opcode.
-fn length_bytes(opcode: u8) -> usize
-    ensures { result ≡ length_bytes opcode }
+/// How many bytes of length follow an opcode.
+pub fn length_bytes(opcode: u8) -> usize
+    ensures same { result ≡ length_bytes opcode }
+    ensures short { result ≤ 4 }
 {
     match opcode {
         0x4c => 1,
