@@ -2,7 +2,7 @@
 use mathlib.Core.Bool.{Bool, true, false, ◌&&◌, or-true}
 use mathlib.Core.Path.{◌≡◌, refl, sym, ap, ◌∙◌}
 use mathlib.Core.List.{List, [], ◌∷◌}
-use Prim.Native.Nat.{ℕ, zero, suc, ◌<◌}
+use Prim.Native.Nat.{ℕ, zero, suc, ◌≤◌, ◌<◌}
 use native.Mathlib.Omega.{arith}
 use borrow.Author.Tests.{eq-eqb, ne_eqb, eqb-true}
 use lib.Dec.{eqb}
@@ -105,26 +105,26 @@ settled-joined code n code' n' c c' = either code code' (Joined code n code' n' 
         (λ g. rw (settled-same code n n' g) (joined_same code n code' n' c c' e g))
         (λ h. rw (settled-none code n n' s h) (joined_bytes code n code' n' c c' e s h))
 
--- the codes d of the first half, and those of both
-module _ (p t : Slots) (sp : Sound p) (st : Sound t) (d : List ℕ) (v : Each (CommonAt p.codes t.codes) p.codes 0 244 d) where
+-- the codes d of the first half, from a up to e, and those of both
+module _ (p t : Slots) (sp : Sound p) (st : Sound t) (a e : ℕ) (d : List ℕ) (v : Each (CommonAt p.codes t.codes) p.codes a e d) where
   joined : (j : ℕ) → JoinedAt p t j (settled_code (common_code (get_or p.codes j 0) (get_or t.codes j 0)) (get_or p.bytes j 0) (get_or t.bytes j 0))
   joined j = settled-joined (get_or p.codes j 0) (get_or p.bytes j 0) (get_or t.codes j 0) (get_or t.bytes j 0) (sp.canon j) (st.canon j)
 
   -- they differ in bytes
-  pub joined-both : (x : List ℕ) → Each (SettledAt d p.bytes t.bytes) d 0 244 x → Each (JoinedAt p t) p.codes 0 244 x
+  pub joined-both : (x : List ℕ) → Each (SettledAt d p.bytes t.bytes) d a e x → Each (JoinedAt p t) p.codes a e x
   joined-both x w = record {
     whole = w.whole ∙ v.whole;
-    each = λ j a b. rw (w.each j a b, v.each j a b) (joined j);
-    below = λ j a. w.below j a ∙ v.below j a;
-    above = λ j a. w.above j a ∙ v.above j a;
+    each = λ j f g. rw (w.each j f g, v.each j f g) (joined j);
+    below = λ j f. w.below j f ∙ v.below j f;
+    above = λ j f. w.above j f ∙ v.above j f;
   }
 
   -- the codes alone say it
-  pub joined-codes : ((j : ℕ) → j < 244 → sufficient (get_or d j 0) ≡ true) → Each (JoinedAt p t) p.codes 0 244 d
+  pub joined-codes : ((j : ℕ) → a ≤ j → j < e → sufficient (get_or d j 0) ≡ true) → Each (JoinedAt p t) p.codes a e d
   joined-codes k = record {
     whole = v.whole;
-    each = λ j a b. rw (sym (settled-suffices (get_or d j 0) (get_or p.bytes j 0) (get_or t.bytes j 0) (k j b))
-        ∙ ap (λ x. settled_code x (get_or p.bytes j 0) (get_or t.bytes j 0)) (v.each j a b)) (joined j);
+    each = λ j f g. rw (sym (settled-suffices (get_or d j 0) (get_or p.bytes j 0) (get_or t.bytes j 0) (k j f g))
+        ∙ ap (λ x. settled_code x (get_or p.bytes j 0) (get_or t.bytes j 0)) (v.each j f g)) (joined j);
     below = v.below;
     above = v.above;
   }

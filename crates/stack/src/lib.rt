@@ -290,7 +290,14 @@ impl Stacks {
             return Err(Refusal::ArmsDiffer);
         }
         let mut codes = self.codes;
-        join_codes(&mut codes, &self.bytes, &other.codes, &other.bytes);
+        join_codes(
+            &mut codes,
+            &self.bytes,
+            &other.codes,
+            &other.bytes,
+            0,
+            244,
+        );
         self.codes = codes;
         Ok(())
     }
