@@ -18,6 +18,8 @@ use opcodes::Class;
 use refusals::{Refusal, Refused};
 use text::{Lent, hex_digit};
 
+pub use decode::length_bytes;
+
 /// The data of a push, which ends where the next instruction stands.
 pub fn data<'a>(fragment: &'a [u8], offset: usize, next: usize) -> &'a [u8]
     requires within { (offset < next) × (next ≤ length fragment.now) }
