@@ -1,4 +1,4 @@
-use Rattle.std.proofs.Common.{rules, sym, ap, ◌∙◌, Ok}
+use Rattle.std.proofs.Common.{rules}
 use Rattle.decode.proofs.Codes.{counting-none, counting-more, less-left}
 use Rattle.decode.proofs.count_instructions.Goals as goal
 
@@ -9,4 +9,4 @@ pub loop-instruction-smaller : goal.loop-instruction-smaller
 loop-instruction-smaller c = search (rules, less-left)
 
 pub loop-instruction-preserved : goal.loop-instruction-preserved
-loop-instruction-preserved c = counting-more _ _ _ c.in-Some.instruction c.type_inv.fragment (sym c.in_ok-instruction.ensures.same ∙ ap Ok c.in-Some.is) c.loop-instruction.invariant
+loop-instruction-preserved c = counting-more _ _ _ c.in-Some.instruction c.type_inv.fragment (search rules) c.loop-instruction.invariant
