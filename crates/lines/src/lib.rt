@@ -80,7 +80,7 @@ fn lines_of(entries: usize, marked: &Marked) -> Line<4096>
     ensures { (m : PaperMarked) (log : List ℕ) → Holds m marked.now log → result.items ≡ lines_of entries m }
 {
     let mut text = Line::new();
-    for (k, fragment) in marked.accepted.iter().enumerate() {
+    for (k, fragment) in marked.accepted.as_slice().iter().enumerate() {
         push_word(&mut text, &accepted_line(entries, k, *fragment));
     }
     match marked.verdict {
