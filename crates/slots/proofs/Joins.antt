@@ -4,12 +4,12 @@ use mathlib.Core.Path.{◌≡◌, refl, sym, ap, ◌∙◌}
 use mathlib.Core.List.{List, [], ◌∷◌}
 use Prim.Native.Nat.{ℕ, zero, suc, ◌≤◌, ◌<◌}
 use native.Mathlib.Omega.{arith}
-use borrow.Author.Tests.{eq-eqb, ne_eqb, eqb-true}
-use lib.Dec.{eqb}
+use borrow.Author.Tests.{eq-eqb, ne_eqb, eqb-true, ltb-true, ltb-false}
+use lib.Dec.{eqb, ltb}
 use lib.ListN.{get_or}
 use Rattle.definition.specs.Basics.{Bytes, pick}
 use Rattle.definition.specs.Walk.{Item, unknown, exact, same_bytes, join_item, join_items}
-use Rattle.slots.specs.View.{Slots, slot_item, sufficient, tops, Canon, Sound}
+use Rattle.slots.specs.View.{Slots, slots, slot_item, sufficient, tops, Canon, Sound}
 use Rattle.slots.specs.Parts.{Each, Joined, JoinedAt, common_code, CommonAt, settled_code, SettledAt}
 use Rattle.slots.proofs.Codes.{either, sufficient-high, canon-unknown, same_item, slot_code, slot_bytes, code_is, bytes-are}
 
@@ -128,6 +128,21 @@ module _ (p t : Slots) (sp : Sound p) (st : Sound t) (a e : ℕ) (d : List ℕ) 
     below = v.below;
     above = v.above;
   }
+
+-- codes in common that suffice are those of a join
+pub all-common : (y c y' c' d : List ℕ) (a e : ℕ) → Sound (slots y c) → Sound (slots y' c') → Each (CommonAt c c') c a e d → ((j : ℕ) → a ≤ j → j < e → sufficient (get_or d j 0) ≡ true)
+    → Each (JoinedAt (slots y c) (slots y' c')) c a e d
+all-common y c y' c' d a e s s' v k = joined-codes (slots y c) (slots y' c') s s' a e d v k
+
+-- with the codes of a join from a up to e, the slots are sound
+module _ (y c c' : List ℕ) (t : Slots) (a e : ℕ) (s : Sound (slots y c)) (v : Each (JoinedAt (slots y c) t) c a e c') where
+  pub joined-sound : Sound (slots y c')
+  joined-sound = record { whole_bytes = s.whole_bytes; whole_codes = v.whole ∙ s.whole_codes; canon = λ j. by j (ltb j a) refl (ltb j e) refl }
+    where
+      by : (j : ℕ) (t : Bool) → ltb j a ≡ t → (u : Bool) → ltb j e ≡ u → Canon (get_or c' j 0) (get_or y j 0)
+      by j true g u h = rw (v.below j (ltb-true j a g)) (s.canon j)
+      by j false g true h = (v.each j (ltb-false j a g) (ltb-true j e h)).canon
+      by j false g false h = rw (v.above j (ltb-false j e h)) (s.canon j)
 
 pub tops-join : (f g h : ℕ → Item) (n : ℕ) → ((j : ℕ) → j < n → h j ≡ join_item (f j) (g j)) → tops h n ≡ join_items (tops f n) (tops g n)
 tops-join f g h zero k = refl

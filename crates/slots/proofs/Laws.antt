@@ -66,6 +66,16 @@ module _ {A : Type 0} where
 -- Numbers written one by one
 
 module _ (P : ℕ → ℕ → Type 0) (l : List ℕ) (a : ℕ) where
+  pub each_none : Each P l a a l
+  each_none = record { whole = refl; each = λ j h g. absurd (omega arith); below = λ j h. refl; above = λ j h. refl }
+
+  pub each-end : (q : List ℕ) (i e : ℕ) → i ≤ e → e ≤ i → Each P l a i q → Each P l a e q
+  each-end q i e h g v = let k : i ≡ e = omega arith in rw k at v
+
+  -- what each number is, in other words
+  pub each_map : (Q : ℕ → ℕ → Type 0) (e : ℕ) (q : List ℕ) → ((j : ℕ) → a ≤ j → j < e → (x : ℕ) → P j x → Q j x) → Each P l a e q → Each Q l a e q
+  each_map Q e q f v = record { whole = v.whole; each = λ j h g. f j h g _ (v.each j h g); below = v.below; above = v.above }
+
   pub each_more : (q : List ℕ) (i x : ℕ) → a ≤ i → i < length l → P i x → Each P l a i q → Each P l a (i + 1) (set q i x)
   each_more q i x h lt k v = record {
     whole = length-set q i x ∙ v.whole;
