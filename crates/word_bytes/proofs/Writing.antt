@@ -156,5 +156,5 @@ module _ (w : Bytes) (begins : opens w ≡ true) (good : word_read w ≡ some (b
       ∙ ap (λ n. head_of n ++ data_of w (length w / 2 - 1) known) (sym half)
       ∙ ap (λ (l : Bytes). head_of (length letters / 2) ++ in_form (hex_read l)) letters-are
 
-  pub push-puts : {a b d : Lent} {h : Bytes} → h ≡ head_of (length letters / 2) → Puts a h b → Puts b (in_form (hex_read letters)) d → Puts a (bytes_of w) d
-  push-puts e p q = puts_as (sym push-bytes) (then-puts (puts_as e p) q)
+  pub push-puts : {a b d : Lent} → Puts a (head_of (length letters / 2)) b → Puts b (in_form (hex_read letters)) d → Puts a (bytes_of w) d
+  push-puts p q = puts_as (sym push-bytes) (then-puts p q)

@@ -36,6 +36,18 @@ fn head(n: usize) -> Line<5>
     head
 }
 
+// Puts the opcode and the length bytes. Most are one byte, which is put by itself.
+fn put_head(text: &mut Lent, n: usize)
+    requires { n ≤ 4294967295 }
+    ensures { Puts text.old (head_of n) text.new }
+{
+    if n <= 0x4b {
+        text.put(&[n as u8]);
+    } else {
+        text.put(head(n).as_slice());
+    }
+}
+
 // The value of a digit, by arithmetic alone: a letter that is no digit has some value too.
 fn digit_value(letter: u8) -> u8
     ensures { (d : ℕ) → digit_read letter ≡ some d → result ≡ d }
@@ -77,7 +89,7 @@ fn put_push(text: &mut Lent, word: &[u8])
     ensures { Puts text.old (bytes_of word.now) text.new }
 {
     let letters = &word[1..word.len() - 1];
-    text.put(head(letters.len() / 2).as_slice());
+    put_head(text, letters.len() / 2);
     put_data(text, letters);
 }
 
