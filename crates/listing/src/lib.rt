@@ -86,8 +86,7 @@ pub fn put_code_word(text: &mut Lent, opcode: u8, names: &Names)
 {
     let name = names.name(opcode);
     if is_unmodelled(opcode, name) {
-        text.put(b"0x");
-        put_hex_bytes(text, &[opcode]);
+        text.put(&[b'0', b'x', hex_digit(opcode / 16), hex_digit(opcode % 16)]);
     } else {
         text.put(name);
     }
