@@ -302,4 +302,5 @@ module _ (s : Bytes) (offset count : ℕ) (c : Counting s offset count) where
           rw (q, malformed-offset s offset k h) (sym (c.is ∙ rw (code-malformed s offset h).0 refl))
 
 pub ruleset decoding = (slice-yields)
+
 pub ruleset counted = (counting-none, counting-next, less-next, counting-end, counting-malformed)

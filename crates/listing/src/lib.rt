@@ -12,13 +12,12 @@ ghost use Rattle.definition_listings.specs.OpcodeNames.{name_of};
 ghost use Rattle.listing.specs.View.{Stands, word_at, listing_of, whole_or_malformed, Measures};
 ghost use Rattle.text.specs.View.{Puts};
 
+pub use decode::length_bytes;
 use decode::{Instruction, Malformed};
 use names::Names;
 use opcodes::Class;
 use refusals::{Refusal, Refused};
 use text::{Lent, hex_digit};
-
-pub use decode::length_bytes;
 
 /// The data of a push, which ends where the next instruction stands.
 pub fn data<'a>(fragment: &'a [u8], offset: usize, next: usize) -> &'a [u8]

@@ -100,8 +100,12 @@ fn fragment(answers: &mut impl Write, line: &[u8], room: &mut Room) -> Option<()
     let outcome = v.map(|_| ()).map_err(|r| r.refused);
     let answer = Answer::from(outcome);
     let _ = match outcome.map_err(|r| r.refusal) {
-        Err(Refusal::LongFragment { .. } | Refusal::Nesting) => writeln!(answers, "fragment outside"),
-        _ => writeln!(answers,
+        Err(Refusal::LongFragment { .. } | Refusal::Nesting) => writeln!(
+            answers,
+            "fragment outside"
+        ),
+        _ => writeln!(
+            answers,
             "fragment {} {} {} {}",
             answer.number, answer.offset, answer.first, answer.second
         ),
@@ -113,7 +117,8 @@ fn fragment(answers: &mut impl Write, line: &[u8], room: &mut Room) -> Option<()
 fn limits(answers: &mut impl Write, line: &[u8], room: &mut Room) -> Option<()> {
     let count = bytes(line, &mut room.code)?;
     let answer = Answer::from(limits::validate_txscript_bytecode_limits(&room.code[..count]));
-    let _ = writeln!(answers,
+    let _ = writeln!(
+        answers,
         "limits {} {} {} {}",
         answer.number, answer.offset, answer.first, answer.second
     );
@@ -133,7 +138,8 @@ fn paper(answers: &mut impl Write, line: &[u8], room: &mut Room) -> Option<()> {
     let answer = Answer::from(outcome);
     let _ = match outcome.map_err(|r| r.refusal) {
         Err(Refusal::Nesting) => writeln!(answers, "paper outside"),
-        _ => writeln!(answers,
+        _ => writeln!(
+            answers,
             "paper {} {entry} {} {} {}",
             answer.number, answer.offset, answer.first, answer.second
         ),
@@ -178,7 +184,8 @@ fn tally(answers: &mut impl Write, line: &[u8]) -> Option<()> {
         Ok(()) => 0,
         Err(refusal) => refusal.number(),
     };
-    let _ = writeln!(answers,
+    let _ = writeln!(
+        answers,
         "tally {answer} {} {} {} {}",
         t.fragments, t.accepts, t.rows, t.peak
     );
