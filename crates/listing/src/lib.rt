@@ -9,15 +9,28 @@ ghost use Rattle.definition.specs.Classes.{class_number};
 ghost use Rattle.definition.specs.Decoding.{decode, malformed_at};
 ghost use Rattle.definition_listings.specs.Listing.{hex_bytes, data_word, code_word, listed};
 ghost use Rattle.definition_listings.specs.OpcodeNames.{name_of};
-ghost use Rattle.listing.specs.View.{Stands, word_at, listing_of, whole_or_malformed, Measures};
+ghost use Rattle.listing.specs.View.{length_bytes, Stands, word_at, listing_of, whole_or_malformed, Measures};
 ghost use Rattle.text.specs.View.{Puts};
 
-pub use decode::length_bytes;
 use decode::{Instruction, Malformed};
 use names::Names;
 use opcodes::Class;
 use refusals::{Refusal, Refused};
 use text::{Lent, hex_digit};
+
+/// How many bytes of length follow an opcode up to 4e.
+#[tactic(auto, unfolding(crate::specs::View::length_bytes))]
+pub fn length_bytes(opcode: u8) -> usize
+    ensures same { result ≡ length_bytes opcode }
+    ensures short { result ≤ 4 }
+{
+    match opcode {
+        0..=0x4b => 0,
+        0x4c => 1,
+        0x4d => 2,
+        _ => 4,
+    }
+}
 
 /// The data of a push, which ends where the next instruction stands.
 pub fn data<'a>(fragment: &'a [u8], offset: usize, next: usize) -> &'a [u8]
