@@ -90,13 +90,13 @@ module _ {R : Rules} {s : Bytes} where
             };
           }
 
-          pub two-arms : (end : ArmEnd) → q ≡ Ok end → {z : Result Unit Refusal} {f : Walk} → Finishes R s b end (arm_of a.stacks) z f → Closes R s depth w log f z log₂
-          two-arms end e₂ {z} {f} h = record {
+          pub two-arms : (end : ArmEnd) → q ≡ Ok end → {x : Option Stacks} → x ≡ a.stacks → {z : Result Unit Refusal} {f : Walk} → Finishes R s b end (arm_of x) z f → Closes R s depth w log f z log₂
+          two-arms end e₂ e₃ {z} {f} h = record {
             goes = record {
               low = rw (at-there h.stays) (omega (arith, at-there e.stays, first.goes.low, other.goes.low));
               high = rw (at-there h.stays) other.goes.high;
               fewer = rw (rows-there s h.stays) (omega (arith, first.goes.fewer, other.goes.fewer, rows-there s e.stays));
-              same = λ fs k. in-second fs k ∙ rw e₂ (h.two (arm_of v.stacks) fs log₂);
+              same = λ fs k. in-second fs k ∙ rw (e₂, ← e₃) (h.two (arm_of v.stacks) fs log₂);
             };
           }
 

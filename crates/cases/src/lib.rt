@@ -22,8 +22,8 @@ pub struct Part<'a> {
     pub rest: &'a [u8],
 }
 
-// A decimal number: one digit or more, below 2^32, and nothing else.
-fn number(text: &[u8]) -> Option<u32>
+/// A decimal number: one digit or more, below 2^32, and nothing else.
+pub fn number(text: &[u8]) -> Option<u32>
     ensures { result ≡ decimal text.now }
 {
     // a plus sign is taken by `parse`, and by no case

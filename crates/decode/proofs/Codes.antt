@@ -12,8 +12,9 @@ use Rattle.definition.specs.Basics.{Bytes, pick}
 use Rattle.definition_long_data.specs.Blank.{length_bytes}
 use Rattle.definition.specs.Decoding.{number, Front, whole, short, alone, pushes, sized, front, Code, ends, malformed, then, on_front, decode_from, decode, instructions, malformed_at}
 use Rattle.definition.specs.Walk.{known}
+use Rattle.definition.specs.Refusals.{accepted}
 use Rattle.definition.specs.Replay.{AreBytes}
-use Rattle.decode.specs.View.{item_of, value_of, Held, decoded_front, decoded_rest, decoded_at, code_at, data_start, instruction, yield_of, yielded, rest, count_by, count_in}
+use Rattle.decode.specs.View.{item_of, value_of, Held, decoded_front, decoded_rest, decoded_at, code_at, data_start, instruction, Decoded, opcode_of, yield_of, yielded, rest, counted_of, count_by, count_in}
 use Rattle.decode.specs.declared.Instruction.{Instruction}
 use Rattle.decode.specs.declared.Malformed.{Malformed}
 use Rattle.std.specs.Prelude.{Some, None, Ok, Err}
@@ -241,4 +242,65 @@ less-left s offset i h e =
     let t = code-instruction s offset (slice-bytes s h) i e in
     omega (arith, t.onward, t.within)
 
+-- a malformed instruction is told where it stands
+pub malformed-offset : (s : Bytes) (p : ℕ) (m : Malformed) → decoded_at s p ≡ Err m → m.offset ≡ p
+unfolding decoded_at
+malformed-offset s p m e = by (drop p s) e
+  where
+    by_front : (b : ℕ) (f : Front) → decoded_front f b p ≡ Err m → m.offset ≡ p
+    by_front b (whole after l) e = absurd (let z : ◌≡◌ {A = ℕ} 0 1 = cc in omega arith)
+    by_front b short e = let i : record { offset = p } ≡ m = cc in sym (ap (λ (x : Malformed). x.offset) i)
+
+    by : (l : Bytes) → decoded_rest l p ≡ Err m → m.offset ≡ p
+    by [] e = absurd (let z : ◌≡◌ {A = ℕ} 0 1 = cc in omega arith)
+    by (b ∷ rest) e = by_front b (front b rest) e
+
+-- The instruction whose opcode is o, and behind which the next starts at n.
+pub record Opcode (s : Bytes) (p o n : ℕ) : Type 0 where
+  pub instruction : Instruction
+  pub is : decoded_at s p ≡ Ok (Some instruction)
+  pub opcode : instruction.opcode ≡ o
+  pub next : instruction.next ≡ n
+
+pub opcode-is : (s : Bytes) (p o n : ℕ) → Ok (Some (o, n)) ≡ opcode_of (decoded_at s p) → Opcode s p o n
+opcode-is s p o n e = by (decoded_at s p) refl e
+  where
+    by : (d : Decoded) → decoded_at s p ≡ d → Ok (Some (o, n)) ≡ opcode_of d → Opcode s p o n
+    by (Ok (Some i)) h e =
+        let q : ◌≡◌ {A = ℕ × ℕ} (o, n) (i.opcode, i.next) = cc in
+        record { instruction = i; is = h; opcode = sym (ap (λ (x : ℕ × ℕ). x.0) q); next = sym (ap (λ (x : ℕ × ℕ). x.1) q) }
+    by (Ok None) h e = absurd (let z : ◌≡◌ {A = ℕ} 0 1 = cc in omega arith)
+    by (Err m) h e = absurd (let z : ◌≡◌ {A = ℕ} 0 1 = cc in omega arith)
+
+-- behind it one more is counted, and less is left
+module _ (s : Bytes) (offset count o n : ℕ) (h : (k : ℕ) → Fits w8 (get_or s k 0)) (e : Ok (Some (o, n)) ≡ opcode_of (decoded_at s offset)) where
+  pub counting-next : Counting s offset count → Counting s n (count + 1)
+  counting-next c = let i = opcode-is s offset o n e in subst (λ m. Counting s m (count + 1)) i.next (counting-more s offset count i.instruction h i.is c)
+
+  pub less-next : length s - n < length s - offset
+  less-next = let i = opcode-is s offset o n e in subst (λ m. length s - m < length s - offset) i.next (less-left s offset i.instruction h i.is)
+
+module _ (s : Bytes) (offset count : ℕ) (c : Counting s offset count) where
+  -- at the end all are counted
+  pub counting-end : Ok None ≡ opcode_of (decoded_at s offset) → record { answer = accepted; count = count } ≡ count_in (decode s)
+  counting-end e = by (decoded_at s offset) refl e
+    where
+      by : (d : Decoded) → decoded_at s offset ≡ d → Ok None ≡ opcode_of d → record { answer = accepted; count = count } ≡ count_in (decode s)
+      by (Ok (Some i)) h e = absurd (let z : ◌≡◌ {A = ℕ} 0 1 = cc in omega arith)
+      by (Ok None) h e = let n : count ≡ count + 0 = omega arith in rw n (sym (c.is ∙ rw (code-ends s offset h).0 refl))
+      by (Err m) h e = absurd (let z : ◌≡◌ {A = ℕ} 0 1 = cc in omega arith)
+
+  -- a malformed instruction is told by its offset
+  pub counting-malformed : (m : Malformed) → Err m ≡ opcode_of (decoded_at s offset) → counted_of (Err m) ≡ count_in (decode s)
+  counting-malformed m e = by (decoded_at s offset) refl e
+    where
+      by : (d : Decoded) → decoded_at s offset ≡ d → Err m ≡ opcode_of d → counted_of (Err m) ≡ count_in (decode s)
+      by (Ok (Some i)) h e = absurd (let z : ◌≡◌ {A = ℕ} 0 1 = cc in omega arith)
+      by (Ok None) h e = absurd (let z : ◌≡◌ {A = ℕ} 0 1 = cc in omega arith)
+      by (Err k) h e =
+          let q : m ≡ k = cc in
+          rw (q, malformed-offset s offset k h) (sym (c.is ∙ rw (code-malformed s offset h).0 refl))
+
 pub ruleset decoding = (slice-yields)
+
+pub ruleset counted = (counting-none, counting-next, less-next, counting-end, counting-malformed)

@@ -1,13 +1,27 @@
 -- What stands at an offset, by the form of the instruction: each law has the tests of the code as premises.
-use Rattle.std.proofs.Common.{◌≡◌, refl, sym, ℕ, zero, suc, ◌+◌, ◌-◌, ◌≤◌, ◌<◌, length, drop, get_or, arith, add-one, drop-cons}
+use Rattle.std.proofs.Common.{◌≡◌, refl, sym, ap, ℕ, zero, suc, ◌+◌, ◌-◌, ◌≤◌, ◌<◌, length, drop, get_or, arith, add-one, drop-cons}
 use Rattle.std.specs.Prelude.{Some, None, Ok}
-use borrow.Author.Tests.{le-leb, lt-leb, ne_eqb}
+use borrow.Author.Tests.{le-leb, lt-leb, eq-eqb, ne_eqb}
 use lib.Dec.{leb-zero}
 use lib.ListN.{drop_of_length-le}
 use Rattle.definition.specs.Basics.{Bytes}
 use Rattle.definition.specs.Decoding.{whole, alone, pushes, sized, front}
 use Rattle.definition.specs.Walk.{known}
 use Rattle.decode.specs.View.{value_of, decoded_front, decoded_at}
+use Rattle.decode.specs.declared.Value.TheVariants.{Exact}
+
+-- opcodes that stand alone
+pub alone-4f : (opcode : ℕ) → opcode ≡ 0x4f → Exact 1 0x81 ≡ value_of (known (alone opcode))
+alone-4f opcode e = rw (eq-eqb opcode 0x4f e)
+
+pub alone-below : (opcode : ℕ) → (opcode ≡ 0x4f → ⊥) → opcode < 0x51 → Exact 0 0 ≡ value_of (known (alone opcode))
+alone-below opcode n h = rw (ne_eqb opcode 0x4f n, lt-leb 0x51 opcode h)
+
+pub alone-above : (opcode : ℕ) → (opcode ≡ 0x4f → ⊥) → 0x60 < opcode → Exact 0 0 ≡ value_of (known (alone opcode))
+alone-above opcode n h = rw (ne_eqb opcode 0x4f n, le-leb 0x51 opcode (omega arith), lt-leb opcode 0x60 h)
+
+pub alone-small : (opcode v : ℕ) → (opcode ≡ 0x4f → ⊥) → 0x51 ≤ opcode → opcode ≤ 0x60 → v ≡ opcode - 0x50 → Exact 1 v ≡ value_of (known (alone opcode))
+alone-small opcode v n h g e = rw (ne_eqb opcode 0x4f n, le-leb 0x51 opcode h, le-leb opcode 0x60 g, e) (ap (Exact 1) (omega arith))
 
 -- which form an opcode has
 front-alone : (opcode : ℕ) (rest : Bytes) → 0x4e < opcode → front opcode rest ≡ whole 0 (alone opcode)

@@ -49,6 +49,12 @@ decoded_rest (b ∷ rest) offset = decoded_front (front b rest) b offset
 unfoldable pub decoded_at : Bytes → ℕ → Decoded
 decoded_at fragment offset = decoded_rest (drop offset fragment) offset
 
+-- what `opcode_at` answers of that: the opcode, and where the next instruction starts
+abbrev pub opcode_of : Decoded → Result (Option (ℕ × ℕ)) Malformed
+opcode_of (Ok (Some i)) = Ok (Some (i.opcode, i.next))
+opcode_of (Ok None) = Ok None
+opcode_of (Err m) = Err m
+
 -- the code that a reading head at offset p of a fragment yields from there on
 unfoldable pub code_at : Bytes → ℕ → Code
 code_at s p = decode_from 0 p (drop p s)

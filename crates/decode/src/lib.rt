@@ -10,7 +10,7 @@ ghost use Rattle.definition_long_data.specs.Blank.{length_bytes};
 ghost use Rattle.definition.specs.Refusals.{max_element};
 ghost use Rattle.definition.specs.Walk.{known};
 ghost use Rattle.refusals.specs.declared.Refusal.TheVariants as Refusal;
-ghost use Rattle.decode.specs.View.{value_of, decoded_front, decoded_at, code_at, data_start, yield_of, yielded, counted_of, count_in};
+ghost use Rattle.decode.specs.View.{value_of, decoded_front, decoded_at, code_at, data_start, opcode_of, yield_of, yielded, counted_of, count_in};
 
 use refusals::{Refusal, Refused};
 use thiserror::Error;
@@ -175,9 +175,28 @@ pub fn decode_at(fragment: &[u8], offset: usize) -> Result<Option<Instruction>, 
     }))
 }
 
-// How many bytes of length follow an opcode.
-fn length_bytes(opcode: u8) -> usize
-    ensures { result ≡ length_bytes opcode }
+/// The opcode at an offset, and where the next instruction starts; none at the fragment's end. What is pushed is not looked at.
+#[inline(always)]
+#[tactic(auto, using(crate::proofs::Fronts::fronts, crate::proofs::Codes::decoding))]
+pub fn opcode_at(fragment: &[u8], offset: usize) -> Result<Option<(u8, usize)>, Malformed>
+    ensures { result ≡ opcode_of (decoded_at fragment.now offset) }
+{
+    let Some(&opcode) = fragment.get(offset) else {
+        return Ok(None);
+    };
+    if opcode > 0x4e {
+        return Ok(Some((opcode, offset + 1)));
+    }
+    match pushing(fragment, opcode, offset)? {
+        Some(instruction) => Ok(Some((instruction.opcode, instruction.next))),
+        None => Ok(None),
+    }
+}
+
+/// How many bytes of length follow an opcode.
+pub fn length_bytes(opcode: u8) -> usize
+    ensures same { result ≡ length_bytes opcode }
+    ensures short { result ≤ 4 }
 {
     match opcode {
         0x4c => 1,
@@ -205,14 +224,15 @@ pub fn too_long(fragment: &[u8], offset: usize, next: usize, examined: bool) -> 
 }
 
 /// How many instructions there are.
+#[tactic(auto, using(crate::proofs::Codes::counted))]
 pub fn count_instructions(fragment: &[u8]) -> Result<usize, Malformed>
     ensures { counted_of result ≡ count_in (decode fragment.now) }
 {
     let mut offset = 0;
     let mut count = 0;
     // no `for`: where the next instruction starts is in the last one, and an iterator would have to keep that it has failed besides
-    while let Some(instruction) = decode_at(fragment, offset)? {
-        offset = instruction.next;
+    while let Some((_, next)) = opcode_at(fragment, offset)? {
+        offset = next;
         count += 1;
     }
     Ok(count)

@@ -60,6 +60,9 @@ module _ (e : EndStacks) where
     pub shows : (v : Value) → v ≡ value_at e k → item_of v ≡ get_or (items_of (end_stacks_of e)) k unknown
     shows v h = ap item_of h ∙ shown
 
+    pub shows_unknown : Unknown ≡ value_at e k → unknown ≡ get_or (items_of (end_stacks_of e)) k unknown
+    shows_unknown = shows Unknown
+
 -- Items as values
 
 -- an item that a place can hold: unknown, or at most 8 bytes
@@ -194,3 +197,6 @@ one_form s h =
         let n : length (map value_of (items_of s)) ≡ total s = length-map (items_of s) value_of ∙ items-length s in
         let e : length (map value_of (items_of s)) + (k - total s) ≡ k = omega (arith, n) in
         rw e at (get_or-append-add (map value_of (items_of s)) (replicate (244 - total s) Unknown) (k - total s) Unknown) ∙ get_or-replicate (244 - total s) (k - total s) Unknown Unknown (omega arith)
+
+-- for `item`
+pub ruleset reads = (nothing, nowhere, there, shows, shows_unknown)

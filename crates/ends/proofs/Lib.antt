@@ -1,3 +1,4 @@
 pub mod Spans
 pub mod Ends
 pub mod Packing
+pub mod Lengths

@@ -62,6 +62,7 @@ impl EndStacks {
     }
 
     /// Item k of all, from 0; unknown beyond them.
+    #[tactic(auto, using(crate::proofs::Ends::reads))]
     pub fn item(&self, k: usize) -> Value
         ensures same { result ≡ value_at self.now k }
         ensures shows { item_of result ≡ get_or (items_of (end_stacks_of self.now)) k unknown }

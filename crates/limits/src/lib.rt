@@ -23,9 +23,9 @@ pub fn validate_txscript_bytecode_limits(bytecode: &[u8]) -> Result<(), Refused>
     let mut offset = 0;
     let mut count = 0;
     // no `for`: where the next instruction starts is in the last one, and an iterator would have to keep that it has failed besides
-    while let Some(instruction) = decode::decode_at(bytecode, offset)? {
-        offset = instruction.next;
-        count += u64::from(instruction.opcode > NO_COST_OPCODE);
+    while let Some((opcode, next)) = decode::opcode_at(bytecode, offset)? {
+        offset = next;
+        count += u64::from(opcode > NO_COST_OPCODE);
     }
     if count > MAX_OPS_PER_SCRIPT {
         return Err(Refusal::OpcodeCount { count }.into());

@@ -18,7 +18,7 @@ use Rattle.refusals.specs.View.{answer_of}
 use Rattle.stack_analysis.specs.View.{Told, end_as, told_of, heights_of}
 use Rattle.stack_analysis.specs.declared.Accepted.{Accepted}
 use Rattle.stack_analysis.specs.declared.Heights.{Heights}
-use Rattle.paper.specs.View.{paper_of, told_accepted, Holds}
+use Rattle.paper.specs.View.{paper_of, told_accepted, items_of, Holds}
 use Rattle.paper.specs.declared.AcceptedPaper.{AcceptedPaper}
 use Rattle.paper.specs.declared.Marked.{Marked}
 use Rattle.paper.specs.declared.RejectedPaper.{RejectedPaper}
@@ -98,7 +98,7 @@ unfolding last_line paper_of
 last-refused r = rw (ne_eqb (answer_of r.refused).number 0 (refused-some r.refused))
 
 -- all of them
-pub lines-of-marked : (entries : ℕ) (r : Marked) (t last : Bytes) → t ≡ told_lines entries 0 r.accepted.items → last ≡ last_line (paper_of r.verdict)
+pub lines-of-marked : (entries : ℕ) (r : Marked) (t last : Bytes) → t ≡ told_lines entries 0 (items_of r.accepted) → last ≡ last_line (paper_of r.verdict)
     → (m : PaperMarked) (log : List ℕ) → Holds m r log → t ++ last ≡ lines_of entries m
 lines-of-marked entries r t last e f m log h =
-    rw (e, f, lines-are entries 0 r.accepted.items m.verdicts h.accepted) (ap (λ (p : P.PaperVerdict). lines entries 0 m.verdicts ++ last_line p) h.verdict)
+    rw (e, f, lines-are entries 0 (items_of r.accepted) m.verdicts h.accepted) (ap (λ (p : P.PaperVerdict). lines entries 0 m.verdicts ++ last_line p) h.verdict)

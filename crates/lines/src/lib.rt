@@ -2,7 +2,7 @@
 
 #![tactic(auto)]
 
-ghost use Rattle.std.specs.Prelude.{List, ◌++◌, ◌≡◌, ℕ, ◌+◌, ◌≤◌};
+ghost use Rattle.std.specs.Prelude.{List, ◌++◌, ◌≡◌, ℕ, ◌+◌, ◌-◌, ◌≤◌, take, drop, replicate};
 ghost use Rattle.arrayvec.specs.ArrayVec.{array_vec_len};
 ghost use Rattle.definition.specs.Lines.{name, refused_line, lines_of, printed};
 ghost use Rattle.definition.specs.Papers.{PaperMarked, entry_count, mark_paper};
@@ -80,7 +80,7 @@ fn lines_of(entries: usize, marked: &Marked) -> Line<4096>
     ensures { (m : PaperMarked) (log : List ℕ) → Holds m marked.now log → result.items ≡ lines_of entries m }
 {
     let mut text = Line::new();
-    for (k, fragment) in marked.accepted.iter().enumerate() {
+    for (k, fragment) in marked.accepted.as_slice().iter().enumerate() {
         push_word(&mut text, &accepted_line(entries, k, *fragment));
     }
     match marked.verdict {
@@ -93,30 +93,45 @@ fn lines_of(entries: usize, marked: &Marked) -> Line<4096>
     text
 }
 
-/// The text that is printed of a paper, and the verdict that it tells.
-#[derive(Clone, Drop)]
+/// So many bytes of text, which are printed of a paper, and zeros behind them; and the verdict that the text tells.
+#[derive(Clone, Copy)]
 pub struct Lines {
-    pub text: Line<4096>,
+    pub bytes: [u8; 4096],
+    pub size: usize,
     pub verdict: PaperVerdict,
+    pub ghost short: { size ≤ 4096 },
+    pub ghost zeros: { drop size bytes ≡ replicate (4096 - size) 0 },
 }
 
 impl Lines {
     // Those of a paper that is marked so.
     fn of(paper: &[u8], marked: Marked) -> Lines
-        ensures text { (m : PaperMarked) (log : List ℕ) → Holds m marked log → result.text.items ≡ lines_of (entry_count paper.now) m }
+        ensures text { (m : PaperMarked) (log : List ℕ) → Holds m marked log → take result.size result.bytes ≡ lines_of (entry_count paper.now) m }
         ensures verdict { result.verdict ≡ marked.verdict }
     {
+        let text = lines_of(header::entry_count(paper), &marked);
+        let size = text.len();
+        let mut bytes = [0; 4096];
+        bytes[..size].copy_from_slice(&text);
         Lines {
-            text: lines_of(header::entry_count(paper), &marked),
+            bytes,
+            size,
             verdict: marked.verdict,
         }
+    }
+
+    /// The text.
+    pub fn text(&self) -> &[u8]
+        ensures { result.now ≡ take self.now.size self.now.bytes }
+    {
+        &self.bytes[..self.size]
     }
 }
 
 /// Marks a paper by the built-in table at 244, and gives the lines that are printed of it and its verdict. Every input comes to
 /// its lines.
 pub fn mark_lines(paper: &[u8], log: &mut [u16]) -> Lines
-    ensures text { result.text.items ≡ printed built_in paper.now log.old }
+    ensures text { take result.size result.bytes ≡ printed built_in paper.now log.old }
     ensures verdict { paper_of result.verdict ≡ (mark_paper built_in paper.now log.old).paper }
     ensures logged { log.new ≡ (mark_paper built_in paper.now log.old).log }
 {
@@ -125,7 +140,7 @@ pub fn mark_lines(paper: &[u8], log: &mut [u16]) -> Lines
 
 /// The same by a lent map and a lent limit, in a mode: 28 and then 29 before all else. Every input comes to its lines.
 pub fn mark_lines_with(paper: &[u8], map: &[u8], options: Options, log: &mut [u16]) -> Lines
-    ensures text { result.text.items ≡ printed_with map.now (options_of options) paper.now log.old }
+    ensures text { take result.size result.bytes ≡ printed_with map.now (options_of options) paper.now log.old }
     ensures verdict { paper_of result.verdict ≡ (mark_paper_with map.now (options_of options) paper.now log.old).paper }
     ensures logged { log.new ≡ (mark_paper_with map.now (options_of options) paper.now log.old).log }
 {

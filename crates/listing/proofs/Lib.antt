@@ -2,3 +2,4 @@
 pub mod Hex
 pub mod Decoded
 pub mod Listed
+pub mod Named

@@ -1,22 +1,24 @@
 -- The listing of a fragment, from instruction to instruction.
+use mathlib.Core.Bool.{Bool, true, false}
 use mathlib.Core.List.{[], ◌∷◌, ◌++◌, append_assoc, append-nil}
 use mathlib.Core.Option.{Option, none, some}
 use mathlib.Core.Path.{◌≡◌, refl, sym, ap, ◌∙◌}
-use Prim.Native.Nat.{ℕ, ◌≤◌, ◌<◌}
+use Prim.Native.Nat.{ℕ, ◌+◌, ◌-◌, ◌^◌, ◌≤◌, ◌<◌}
 use native.Mathlib.Omega.{arith}
-use borrow.Author.Tests.{le-leb, lt-leb}
-use lib.ListN.{length, drop}
-use Rattle.definition.specs.Basics.{Bytes}
+use borrow.Author.Tests.{le-leb, lt-leb, ltb-true, ltb-false}
+use lib.Dec.{ltb}
+use lib.ListN.{length, drop, length-append}
+use Rattle.definition.specs.Basics.{Bytes, pick}
 use Rattle.definition.specs.Decoding.{Front, whole, short, front, Code, decode, instructions, malformed_at}
 use Rattle.definition_listings.specs.Listing.{parted}
 use Rattle.definition.specs.Replay.{AreBytes}
-use Rattle.decode.specs.View.{decoded_front, decoded_rest, decoded_at, code_at}
+use Rattle.decode.specs.View.{decoded_front, decoded_rest, decoded_at, code_at, Count, counted_of, count_by, count_in}
 use Rattle.decode.specs.declared.Instruction.{Instruction}
 use Rattle.decode.specs.declared.Malformed.{Malformed}
 use Rattle.std.specs.Prelude.{Some, None, Ok, Err}
 use Rattle.refusals.specs.declared.Refusal.TheVariants as Refusal
 use Rattle.std.specs.Prelude as R
-use Rattle.std.specs.Prelude.{Result}
+use Rattle.std.specs.Prelude.{Result, min}
 use Rattle.names.proofs.Tables.{never}
 use Rattle.text.specs.View.{Puts}
 use Rattle.text.specs.declared.Lent.{Lent}
@@ -26,7 +28,7 @@ use Rattle.definition_listings.specs.Listing.{unwritten, put, on_decoded, listed
 use Rattle.definition.specs.Refusals.{refused_at, output_short}
 use Rattle.definition.specs.Decoding.{ends}
 use Rattle.decode.proofs.Codes.{InstructionAt, code-start, code-instruction, code-ends, code-malformed}
-use Rattle.listing.specs.View.{Stands, word_at, listing_of, whole_or_malformed}
+use Rattle.listing.specs.View.{Stands, word_at, listing_of, whole_or_malformed, Measures}
 use Rattle.listing.proofs.Decoded.{the_instruction, in-place, word-is, after, parted-first, after-end, goes_on_lem}
 
 -- the words of the instructions before an offset, with the space behind each, are `done`
@@ -141,24 +143,77 @@ module _ (f : Bytes) (a : Lent) (p : ℕ) (b : Lent) (to : ListedTo f a p b) whe
       puts = then-puts (then-puts to.puts w) v;
     }
 
+-- the words before an offset are counted, as far as they are within the room
+pub record MeasuredTo (f : Bytes) (room p size : ℕ) : Type 0 where
+  pub done : Bytes
+  pub before : Before f p done
+  pub counted : min size (room + 1) ≡ min (length done) (room + 1)
+
+pub measured-start : (f : Bytes) (room : ℕ) → MeasuredTo f room 0 0
+measured-start f room = record { done = []; before = before-start f; counted = refl }
+
+module _ (f : Bytes) (room p size : ℕ) (to : MeasuredTo f room p size) where
+  pub measured-end : decoded_at f p ≡ Ok None → Measures (Ok size) f room
+  measured-end e =
+      (whole-end f p to.done to.before e, to.counted ∙ ap (λ (l : Bytes). min (length l) (room + 1)) (sym (listing-end f p to.done to.before e)))
+
+  pub measured-malformed : (m : Malformed) → decoded_at f p ≡ Err m → Measures (Err m) f room
+  measured-malformed m e = malformed-here f p to.done to.before e ∙ ap (λ n. some n) (sym (malformed-offset f p m e))
+
+  module _ (bytes : AreBytes f) (i : Instruction) (e : decoded_at f p ≡ Ok (Some i)) where
+    abbrev word : Bytes
+    word = word_at f i
+
+    -- behind the last instruction, and behind one before the last
+    measured-last : (new : ℕ) → length f ≤ i.next → min new (room + 1) ≡ min (length to.done + length word) (room + 1) → MeasuredTo f room i.next new
+    measured-last new h q = record {
+      done = to.done ++ word;
+      before = before_last f p bytes i e to.done to.before h;
+      counted = q ∙ ap (λ n. min n (room + 1)) (sym (length-append to.done word));
+    }
+
+    measured-one : (new : ℕ) → i.next < length f → min new (room + 1) ≡ min (length to.done + length word + 1) (room + 1) → MeasuredTo f room i.next new
+    measured-one new h q = record {
+      done = to.done ++ word ++ (32 ∷ []);
+      before = before_more f p bytes i e to.done to.before h;
+      counted = q ∙ ap (λ n. min n (room + 1)) (sym (length-append (to.done ++ word) (32 ∷ []) ∙ ap (λ n. n + 1) (length-append to.done word)));
+    }
+
+    pub measured-more : (counted space new : ℕ) → size ≤ room → room + 1 < 2 ^ 64 → counted ≡ length word
+        → space ≡ pick (ltb i.next (length f)) 1 0 → new ≡ min (min (size + counted) (2 ^ 64 - 1) + space) (2 ^ 64 - 1) → MeasuredTo f room i.next new
+    measured-more counted space new h k w s n = by (ltb i.next (length f)) refl s
+      where
+        by : (b : Bool) → ltb i.next (length f) ≡ b → space ≡ pick b 1 0 → MeasuredTo f room i.next new
+        by true t s = measured-one new (ltb-true i.next (length f) t) (omega (arith, to.counted, h, k, w, s, n))
+        by false t s = measured-last new (ltb-false i.next (length f) t) (omega (arith, to.counted, h, k, w, s, n))
+
+  -- more than the room
+  pub measured-short : room < size → malformed_at (decode f) ≡ none → Measures (Ok size) f room
+  measured-short o all =
+      let l = ap length (to.before.is all) in
+      (all, omega (arith, to.counted, o, l, length-append to.done (parted (instructions (code_at f p)))))
+
+-- the instructions are counted of a whole fragment alone
+pub counted-whole : (f : Bytes) (n : ℕ) → counted_of (Ok n) ≡ count_in (decode f) → malformed_at (decode f) ≡ none
+counted-whole f n e = by (malformed_at (decode f)) e
+  where
+    by : (o : Option ℕ) → counted_of (Ok n) ≡ count_by o (length (instructions (decode f))) → o ≡ none
+    by none e = refl
+    by (some p) e =
+        let z : ◌≡◌ {A = ℕ} 0 3 = ap (λ (c : Count). c.answer.number) e in
+        absurd (omega arith)
+
 -- The answers
 
-pub whole-fragment : (m : Option ℕ) → Ok tt ≡ whole_or_malformed m → m ≡ none
-whole-fragment none e = refl
-whole-fragment (some o) e = never (cc)
+-- a fragment that is whole is not refused
+pub refused-whole : (f : Bytes) {m : Malformed} {p : Type 0} → malformed_at (decode f) ≡ none → Err m ≡ whole_or_malformed (malformed_at (decode f)) → p
+refused-whole f w e = let q : Err _ ≡ whole_or_malformed none = e ∙ ap whole_or_malformed w in never (cc)
 
 module _ (f out : Bytes) where
-  pub listed-malformed : (m : Malformed) → Err m ≡ whole_or_malformed (malformed_at (decode f))
+  pub listed-malformed : (m : Malformed) → malformed_at (decode f) ≡ some m.offset
       → converted_of (Err (record { offset = m.offset; refusal = Refusal.Malformed })) out ≡ listed f out
   unfolding listed
-  listed-malformed m e = by (malformed_at (decode f)) e
-    where
-      by : (o : Option ℕ) → Err m ≡ whole_or_malformed o
-          → converted_of (Err (record { offset = m.offset; refusal = Refusal.Malformed })) out ≡ on_decoded o (listing_of f) out
-      by none e = never (cc)
-      by (some o) e =
-          let i : m ≡ record { offset = o } = cc in
-          ap (λ (x : Malformed). converted_of (Err (record { offset = x.offset; refusal = Refusal.Malformed })) out) i
+  listed-malformed m e = sym (ap (λ (o : Option ℕ). on_decoded o (listing_of f) out) e)
 
   module _ (whole : malformed_at (decode f) ≡ none) where
     is-put : listed f out ≡ put (listing_of f) out

@@ -91,7 +91,7 @@ pub fn put_block(out: &mut Lent, paper: Logged, k: usize, from: usize, verdict: 
         out.new }
     ensures near { out.new.size ≤ out.old.size + 256 * ((told verdict).rows + 3) }
 {
-    let bytes = fragments::fragment_at(paper.bytes, k).bytes;
+    let bytes = fragments::fragment_bytes(paper.bytes, k);
     let fragment = Logged { bytes, ..paper };
     let (rows, peak) = rows_and_peak(verdict);
     out.put(&log_lines::start(paper.bytes, k));

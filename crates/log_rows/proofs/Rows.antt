@@ -1,18 +1,20 @@
 -- Laws of the rows: how many digits stand in a column, what a bar stands for, bytes in hexadecimal.
-use mathlib.Core.Bool.{Bool, true, false}
+use mathlib.Core.Bool.{Bool, true, false, ◌||◌, not}
 use mathlib.Core.List.{List, [], ◌∷◌, ◌++◌, append_assoc, append-nil}
 use mathlib.Core.Path.{◌≡◌, refl, sym, ap, subst, ◌∙◌}
 use Prim.Native.Nat.{ℕ, suc, ◌+◌, ◌-◌, ◌*◌, ◌≤◌, ◌<◌, max}
 use native.Mathlib.Omega.{arith}
-use borrow.Author.Tests.{ltb-true, ltb-false}
-use lib.Dec.{ltb}
-use lib.ListN.{length, take, get_or, replicate, length-append, length-replicate, length-take, replicate-append-replicate}
+use borrow.Author.Tests.{ltb-true, ltb-false, ne_eqb}
+use lib.Dec.{T, ltb, ltb→lt, nltb→le, eqb}
+use lib.ListN.{length, take, get_or, get_or-eq_default, replicate, length-append, length-replicate, length-take, replicate-append-replicate}
 use lib.Seq.{take-suc, take_all}
 use Rattle.definition.specs.Basics.{Bytes, pick}
+use Rattle.definition.specs.Classes.{Class, ordinary, unmodelled, classes, class_at}
 use Rattle.definition.specs.Lines.{text, decimal}
 use Rattle.definition_listings.specs.Hex.{hex_byte}
+use Rattle.opcodes.proofs.Every.{every, at}
 use Rattle.text.proofs.Texts.{decimal-length}
-use Rattle.log_rows.specs.Rows.{main_at, alt_at, total_of, greatest, scale_of, blanks, hex, instruction, bytes_field, row}
+use Rattle.log_rows.specs.Rows.{main_at, alt_at, total_of, greatest, scale_of, blanks, hex, instruction, bytes_field, row, is_if, is_else, is_endif}
 
 -- how many digits stand in a column
 
@@ -23,6 +25,11 @@ pub digits_6 : (n : ℕ) → n ≤ 131070 → length (decimal n) ≤ 6
 digits_6 n h = decimal-length 5 n (omega arith)
 
 pub ruleset columns = (digits_5, digits_6)
+
+-- bytes in hexadecimal, one text behind the other
+pub hex-append : (s t : Bytes) → hex (s ++ t) ≡ hex s ++ hex t
+hex-append [] t = refl
+hex-append (b ∷ s) t = ap (λ (l : Bytes). 32 ∷ (hex_byte b ++ l)) (hex-append s t)
 
 -- one more byte in hexadecimal
 pub hex-push : (l : Bytes) (b : ℕ) → hex (l ++ (b ∷ [])) ≡ hex l ++ (32 ∷ hex_byte b)
@@ -120,3 +127,34 @@ scaling-row peak log from count scale row main alt total scale' i l h m a t s =
     subst (Scaling peak log from count scale') k (scaling-more peak log from count scale (row - from) row main alt total scale' i (omega arith) (omega arith) m a t s)
 
 pub ruleset loops = (same-more, scaling-row)
+
+-- which numbers are those of IF or NOTIF, of ELSE, of ENDIF
+
+abbrev same : Bool → Bool → Bool
+same a b = pick a b (not b)
+
+is_same : (a b : Bool) → T (same a b) → a ≡ b
+is_same true true t = refl
+is_same true false t = absurd t
+is_same false true t = absurd t
+is_same false false t = refl
+
+-- tried at all class numbers; past them a class is unmodelled
+by_number : (test : Class → Bool) (number : ℕ → Bool) → T (every (λ n. same (test (class_at n)) (number n)) 32 0)
+    → test (ordinary unmodelled) ≡ false → ((n : ℕ) → 32 ≤ n → number n ≡ false) → (n : ℕ) → test (class_at n) ≡ number n
+by_number test number t e z n = by (ltb n 32) refl
+  where
+    by : (b : Bool) → ltb n 32 ≡ b → test (class_at n) ≡ number n
+    by true k = is_same (test (class_at n)) (number n) (at (λ x. same (test (class_at x)) (number x)) 32 0 n t (omega arith) (omega (arith, ltb→lt n 32 (rw k tt))))
+    by false k =
+        let h : 32 ≤ n = nltb→le n 32 (rw k tt) in
+        ap test (get_or-eq_default classes (ordinary unmodelled) h) ∙ e ∙ sym (z n h)
+
+pub if-number : (n : ℕ) → is_if (class_at n) ≡ (eqb n 3 || eqb n 4)
+if-number = by_number is_if (λ n. eqb n 3 || eqb n 4) tt refl (λ n h. rw (ne_eqb n 3 (λ e. omega arith), ne_eqb n 4 (λ e. omega arith)))
+
+pub else-number : (n : ℕ) → is_else (class_at n) ≡ eqb n 5
+else-number = by_number is_else (λ n. eqb n 5) tt refl (λ n h. ne_eqb n 5 (λ e. omega arith))
+
+pub endif-number : (n : ℕ) → is_endif (class_at n) ≡ eqb n 6
+endif-number = by_number is_endif (λ n. eqb n 6) tt refl (λ n h. ne_eqb n 6 (λ e. omega arith))

@@ -30,7 +30,7 @@ use Rattle.stack_analysis.specs.View.{Told, told}
 use Rattle.stack_analysis.specs.declared.Accepted.{Accepted}
 use Rattle.stack_analysis.specs.declared.Heights.{Heights}
 use Rattle.stack_analysis.specs.declared.Rejected.{Rejected}
-use Rattle.paper.specs.View.{paper_of, told_accepted, rows_of, Holds}
+use Rattle.paper.specs.View.{paper_of, told_accepted, items_of, rows_of, Holds}
 use Rattle.paper.specs.declared.AcceptedPaper.{AcceptedPaper}
 use Rattle.paper.specs.declared.Marked.{Marked}
 use Rattle.paper.specs.declared.RejectedPaper.{RejectedPaper}
@@ -55,11 +55,11 @@ module _ (R : Rules) (paper : Bytes) (log : List ℕ) where
       (refused R paper log p.entry (rows_of ts) (record { answer = p.verdict.answer; rows = p.verdict.rows - rows_of ts; peak = 0; end = None }) ++ text "\n")
       ++ last_line p
 
-module _ {items : List (Accepted Heights)} (s : Marked) (q : items ≡ s.accepted.items) (m : PaperMarked) (log : List ℕ) (h : Holds m s log) where
+module _ {items : List (Accepted Heights)} (s : Marked) (q : items ≡ items_of s.accepted) (m : PaperMarked) (log : List ℕ) (h : Holds m s log) where
   abbrev ts : List (Told Heights)
   ts = map told_accepted items
 
-  ts_are : ts ≡ map told_accepted s.accepted.items
+  ts_are : ts ≡ map told_accepted (items_of s.accepted)
   ts_are = ap (λ (l : List (Accepted Heights)). map told_accepted l) q
 
   module _ (R : Rules) (paper : Bytes) where
@@ -93,7 +93,7 @@ module _ {items : List (Accepted Heights)} (s : Marked) (q : items ≡ s.accepte
         (then-puts (then-puts w (then-puts (puts_as (ap t f) p) n)) (puts_as l q))
 
   -- what put_log asks, and how many rows it puts
-  rows_are : rows_of ts ≡ rows_of (map told_accepted s.accepted.items)
+  rows_are : rows_of ts ≡ rows_of (map told_accepted (items_of s.accepted))
   rows_are = ap rows_of ts_are
 
   pub rows-in : (3 * rows_of ts ≤ length log) × (rows_of ts ≤ 330000)

@@ -95,7 +95,7 @@ fn put_log(out: &mut Lent, paper: Logged, marked: &Marked)
         out.new }
     ensures near { out.new.size ≤ out.old.size + 100000000 }
 {
-    let from = put_blocks(out, paper, &marked.accepted);
+    let from = put_blocks(out, paper, marked.accepted.as_slice());
     match marked.verdict {
         Ok(_) => out.put(b"accepted\n"),
         Err(last) => {

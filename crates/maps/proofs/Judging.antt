@@ -13,7 +13,7 @@ use Rattle.opcodes.specs.declared.TheConstants.{CLASSES}
 use Rattle.definition_rules.proofs.GoodMaps.{GoodMap, good_map_rows}
 use Rattle.opcodes.specs.View.{ClassRows}
 use Rattle.maps.proofs.ClassRows.{rows-lent, good-rows}
-use Rattle.definition_rules.specs.Maps.{row_count, first_row, good_row, good_rows, good_map, table_from}
+use Rattle.definition_rules.specs.Maps.{row_count, first_row, good_row, good_rows, good_map, good_limit, table_from}
 use Rattle.opcodes.proofs.Numbering.{number-below}
 use Rattle.opcodes.proofs.Every.{every, tabled}
 use Rattle.maps.specs.View.{Numbers}
@@ -110,3 +110,10 @@ module _ (map : Bytes) (at : ℕ) (a : at ≡ first_row map) (count : row_count 
 
   pub class-rows : good_rows 0 (take (at + 256 - at) (drop at map)) ≡ true → ClassRows (take (at + 256 - at) (drop at map))
   class-rows g = rw (rows-lent map at a) (good-rows map (rows_decide ∙ g))
+
+-- The limit
+pub low-limit : (limit : ℕ) → limit < 1 → false ≡ good_limit limit
+low-limit limit h = rw (lt-leb 1 limit h)
+
+pub other-limit : (limit : ℕ) → 1 ≤ limit → leb limit 244 ≡ good_limit limit
+other-limit limit h = rw (le-leb 1 limit h)

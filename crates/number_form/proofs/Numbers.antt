@@ -1,6 +1,6 @@
 -- The number form: a number as a value, and a value read as an index.
 use mathlib.Core.Bool.{Bool, true, false, not, ◌||◌, or-true, or-false}
-use mathlib.Core.Path.{◌≡◌, refl, sym, ap, ◌∙◌}
+use mathlib.Core.Path.{◌≡◌, refl, sym, ap, subst⁻¹, ◌∙◌}
 use mathlib.Core.List.{[], ◌∷◌}
 use mathlib.Core.Option.{none, some}
 use Prim.Native.Nat.{ℕ, zero, suc, ◌+◌, ◌-◌, ◌*◌, ◌/◌, ◌%◌, ◌^◌, ◌≤◌, ◌<◌}
@@ -12,10 +12,12 @@ use lib.ListN.{length}
 use lib.Pow.{pow_pos, shr-shr, mod-pow-add, shl_exact}
 use Rattle.definition.specs.Basics.{Bytes, pick}
 use Rattle.definition.specs.Decoding.{number, plus, digits, signed, serialize, last, minimal, value, deserialize, index_read}
-use Rattle.definition.specs.Walk.{known}
+use Rattle.definition.specs.Decoding as D
+use Rattle.definition.specs.Stacks.{readable}
+use Rattle.definition.specs.Walk.{known, marking}
 use Rattle.definition.specs.Replay.{AreBytes}
 use Rattle.decode.specs.View.{low_bytes, item_of, value_of, Held}
-use Rattle.number_form.specs.View.{indexed}
+use Rattle.number_form.specs.View.{read_of, indexed}
 use Rattle.decode.specs.declared.Value.TheVariants.{Unknown, Exact}
 use Rattle.std.specs.Prelude.{Result, Ok, Err}
 use Rattle.number_form.specs.declared.NoIndex.{NoIndex}
@@ -175,6 +177,13 @@ last_of (suc k) w n h e =
     let q : (w - 1) * 8 ≡ 8 * k = omega arith in
     rw q (sym (last-low k n))
 
+minimal-one : (n : ℕ) → last (low_bytes 1 n) % 128 ≡ 0 → minimal (low_bytes 1 n) ≡ false
+minimal-one n h = rw (sign-only (n % 256) (omega arith) h)
+
+pub minimal-not-one : (len n b : ℕ) → b ≡ last (low_bytes len n) → b % 128 ≡ 0 → len ≡ 1 → false ≡ minimal (low_bytes len n)
+minimal-not-one len n b e h q =
+    subst⁻¹ (λ (m : ℕ). last (low_bytes m n) % 128 ≡ 0 → false ≡ minimal (low_bytes m n)) q (λ g. sym (minimal-one n g)) (rw e at h)
+
 pub minimal-last : (len n b : ℕ) → b ≡ last (low_bytes len n) → (b % 128 ≡ 0 → ⊥) → not (eqb (b % 128) 0) ≡ minimal (low_bytes len n)
 minimal-last len n b e h = rw (ne_eqb (b % 128) 0 h) (sym (minimal-good (low_bytes len n) (rw (← e) h)))
 
@@ -236,3 +245,13 @@ pub read-index : (len w n b : ℕ) → 1 ≤ len → len ≤ 8 → w ≡ len →
     → Ok (n % ((1 * 2 ^ (w * 8 - 1)) % 2 ^ 64)) ≡ Read len n
 read-index len w n b pos h q m e g =
     rw (deserialize-good len n h m, lt-ltb (last (low_bytes len n)) 0x80 (omega arith), number-below-sign len w n pos h q (omega arith))
+
+-- the answer for an index, and what follows it
+pub answer-reads : (x : D.Index) (i : Result ℕ NoIndex) → i ≡ indexed x → (read_of i ≡ readable marking x) × (i ≡ indexed x)
+answer-reads x i e = (ap read_of e ∙ by x, e)
+  where
+    by : (x : D.Index) → read_of (indexed x) ≡ readable marking x
+    by D.not_known = refl
+    by D.no_number = refl
+    by D.negative = refl
+    by (D.index n) = refl

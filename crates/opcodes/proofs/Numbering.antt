@@ -13,6 +13,7 @@ use mir.Facts.{and_yes}
 use Rattle.definition.specs.Basics.{pick}
 use Rattle.definition.specs.Classes.{class_at, Range, range, ranges, number_in, class_number, class_of}
 use Rattle.opcodes.proofs.Every.{every, tabled}
+use Rattle.opcodes.proofs.Match.{below, ranged}
 
 -- the class numbers of the ranges, and unmodelled's, are below n
 abbrev all_below : ℕ → List Range → Bool
@@ -33,6 +34,15 @@ number_in-below n (range from to class ∷ l) opcode t =
 pub number-below : (opcode : ℕ) → class_number opcode < 32
 unfolding class_number
 number-below opcode = number_in-below 32 ranges opcode tt
+
+-- the two ranges of push
+pub push-low : (opcode : ℕ) → opcode ≤ 0x4f → class_number opcode ≡ 1
+unfolding class_number
+push-low opcode h = sym (below class_number [] opcode 1 0x50 tt (omega arith) tt)
+
+pub push-high : (opcode : ℕ) → 0x51 ≤ opcode → opcode ≤ 0x60 → class_number opcode ≡ 1
+unfolding class_number
+push-high opcode g h = sym (ranged class_number [] opcode 1 0x51 0x61 tt g (omega arith) tt)
 
 -- no range holds a code past 255
 abbrev all_to : ℕ → List Range → Bool

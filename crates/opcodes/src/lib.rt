@@ -483,6 +483,13 @@ pub const CLASSES: [u8; 256] = [
     UNMODELLED, // ff
 ];
 
+/// The table: its rows are the rules that `class_of` goes by.
+pub fn table() -> [u8; 256]
+    ensures { BuiltInRows result }
+{
+    CLASSES
+}
+
 /// The class of each opcode, by 256 lent rows of class numbers.
 #[derive(Clone, Copy)]
 pub struct Classes<'a> {

@@ -25,7 +25,7 @@ use Rattle.stack_analysis.specs.View.{Told, told_of, heights_of}
 use Rattle.stack_analysis.specs.declared.Accepted.{Accepted}
 use Rattle.stack_analysis.specs.declared.Heights.{Heights}
 use Rattle.stack_analysis.specs.declared.Rejected.{Rejected}
-use Rattle.paper.specs.View.{PaperVerdict, fragment_analysis, paper_of, told_accepted, rows_of, Holds}
+use Rattle.paper.specs.View.{PaperVerdict, fragment_analysis, paper_of, told_accepted, items_of, rows_of, Holds}
 use Rattle.paper.specs.declared.Marked.{Marked}
 use Rattle.paper.proofs.Few.{analysis-few}
 use Rattle.paper.proofs.Fragments.{Marks}
@@ -92,7 +92,7 @@ module _ (R : Rules) (p : Bytes) (lent : List ℕ) where
 
   module _ (k rows peak : ℕ) (log : List ℕ) (kept : List (Accepted Heights)) (i : Marking R p lent k rows peak log kept) where
     -- no fragment is left
-    pub marking-end : length (fragments p) ≤ k → k ≤ 33 → (r : Marked) → r.verdict ≡ Ok (record { rows = rows; peak = peak }) → r.accepted.items ≡ kept
+    pub marking-end : length (fragments p) ≤ k → k ≤ 33 → (r : Marked) → r.verdict ≡ Ok (record { rows = rows; peak = peak }) → items_of r.accepted ≡ kept
         → Holds (mark_from R 0 0 0 (fragments p) lent) r log
     unfolding mark_from paper_of
     marking-end h l r v a =
@@ -146,7 +146,7 @@ module _ (R : Rules) (p : Bytes) (lent : List ℕ) where
 
       -- it is refused
       pub marking-stops : (x : Rejected) (new : List ℕ) → Marks (fragment_analysis R p k rows log) (3 * rows) log (Err x) new → length new ≡ length log → k < 33
-          → (r : Marked) → r.verdict ≡ Err (record { entry = k; rows = rows + x.rows; refused = x.refused }) → r.accepted.items ≡ kept
+          → (r : Marked) → r.verdict ≡ Err (record { entry = k; rows = rows + x.rows; refused = x.refused }) → items_of r.accepted ≡ kept
           → Holds (mark_from R 0 0 0 (fragments p) lent) r new
       unfolding paper_of
       marking-stops x new m l less r v a =
@@ -171,7 +171,7 @@ module _ (R : Rules) (p : Bytes) (lent : List ℕ) where
 -- The whole paper
 
 -- a refusal of the paper itself
-pub holds-refused : (entry : ℕ) (f : Refusal) (r : Marked) → paper_of r.verdict ≡ (refused_paper entry f []).paper → r.accepted.items ≡ []
+pub holds-refused : (entry : ℕ) (f : Refusal) (r : Marked) → paper_of r.verdict ≡ (refused_paper entry f []).paper → items_of r.accepted ≡ []
     → (lent : List ℕ) → Holds (refused_paper entry f lent) r lent
 holds-refused entry f r v a lent = record { verdict = v; accepted = rw a; logged = refl; among = rw a (omega arith); few = omega arith; room = omega arith }
 

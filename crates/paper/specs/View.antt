@@ -14,6 +14,7 @@ use Rattle.stack_analysis.specs.declared.Accepted.{Accepted}
 use Rattle.stack_analysis.specs.declared.Heights.{Heights}
 use Rattle.paper.specs.declared.AcceptedPaper.{AcceptedPaper}
 use Rattle.paper.specs.declared.Marked.{Marked}
+use Rattle.paper.specs.declared.accepted.AcceptedFragments.{AcceptedFragments}
 use Rattle.paper.specs.declared.RejectedPaper.{RejectedPaper}
 
 -- the analysis of fragment k, on what the log has left behind so many rows
@@ -44,6 +45,10 @@ paper_of (Err r) = record { entry = r.entry; verdict = refused_verdict r.refused
 abbrev pub told_accepted : {E : Type 0} → Accepted E → Told E
 told_accepted a = told (Ok a)
 
+-- the fragments accepted
+abbrev pub items_of : AcceptedFragments → List (Accepted Heights)
+items_of a = take a.count a.fragments
+
 -- how many rows these have together
 abbrev pub rows_of : List (Told Heights) → ℕ
 rows_of [] = 0
@@ -53,8 +58,8 @@ rows_of (t ∷ ts) = t.rows + rows_of ts
 -- are at most 33 fragments of at most 10,000 rows, the rows accepted are among the paper's, and the log has all of them.
 pub record Holds (m : PaperMarked) (r : Marked) (log : List ℕ) : Type 0 where
   pub verdict : paper_of r.verdict ≡ m.paper
-  pub accepted : map told_accepted r.accepted.items ≡ map (told_of heights_of) m.verdicts
+  pub accepted : map told_accepted (items_of r.accepted) ≡ map (told_of heights_of) m.verdicts
   pub logged : log ≡ m.log
-  pub among : rows_of (map told_accepted r.accepted.items) ≤ m.paper.verdict.rows
+  pub among : rows_of (map told_accepted (items_of r.accepted)) ≤ m.paper.verdict.rows
   pub few : m.paper.verdict.rows ≤ 330000
   pub room : 3 * m.paper.verdict.rows ≤ length log

@@ -11,7 +11,9 @@ ghost use Rattle.walk.specs.Runs.{options_of, rules_in};
 ghost use Rattle.stack_analysis.specs.View.{told, told_of, heights_of};
 ghost use Rattle.paper.specs.View.{fragment_marked, paper_of, Holds};
 
-use arrayvec::ArrayVec;
+mod accepted;
+
+pub use accepted::AcceptedFragments;
 use refusals::{Refusal, Refused};
 use stack_analysis::{Accepted, Heights, Rejected, Verdict};
 use walk::{Options, Rules};
@@ -35,10 +37,10 @@ pub struct RejectedPaper {
 pub type PaperVerdict = Result<AcceptedPaper, RejectedPaper>;
 
 /// A marked paper: its verdict, and the fragments accepted, in their order.
-#[derive(Clone, Drop)]
+#[derive(Clone, Copy)]
 pub struct Marked {
     pub verdict: PaperVerdict,
-    pub accepted: ArrayVec<Accepted<Heights>, 33>,
+    pub accepted: AcceptedFragments,
 }
 
 // Where the rows behind so many others start in a log of so many numbers: at its end where it has not so many.
@@ -108,7 +110,7 @@ fn mark_fragments(paper: &[u8], rules: Rules, log: &mut [u16]) -> Marked
         result
         log.new }
 {
-    let mut accepted = ArrayVec::new();
+    let mut accepted = AcceptedFragments::new();
     let mut rows = 0;
     let mut peak = 0;
     for k in 0..header::fragment_count(paper) {
@@ -139,7 +141,7 @@ pub fn refused(entry: usize, refusal: Refusal) -> Marked
     });
     Marked {
         verdict,
-        accepted: ArrayVec::new(),
+        accepted: AcceptedFragments::new(),
     }
 }
 

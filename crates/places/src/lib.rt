@@ -2,8 +2,7 @@
 
 #![tactic(auto)]
 
-ghost use Rattle.std.specs.Prelude.{Some, [], ◌∷◌, ◌≡◌, ◌+◌, ◌≤◌, min, length};
-ghost use Rattle.arrayvec.specs.ArrayVec.{array_vec_len};
+ghost use Rattle.std.specs.Prelude.{Some, [], ◌∷◌, ◌≡◌, ◌+◌, ◌≤◌, min, length, take};
 ghost use Rattle.assembling.specs.View.{converted_of};
 ghost use Rattle.definition.specs.Basics.{Bytes};
 ghost use Rattle.paper.specs.View.{paper_of};
@@ -237,10 +236,10 @@ pub fn paper_number(p: &PaperVerdict) -> u32
 /// The lines of a paper: the text into `text`, its size into `out`, and the verdict's number.
 pub fn write_lines(l: &Lines, text: &mut [u8], out: &mut [u64]) -> u32
     ensures number { result ≡ (paper_of l.now.verdict).verdict.answer.number }
-    ensures text { text.new ≡ written l.now.text.items text.old }
-    ensures out { out.new ≡ written (array_vec_len l.now.text ∷ []) out.old }
+    ensures text { text.new ≡ written (take l.now.size l.now.bytes) text.old }
+    ensures out { out.new ≡ written (l.now.size ∷ []) out.old }
 {
-    write_text(&l.text, text, out);
+    write_text(l.text(), text, out);
     paper_number(&l.verdict)
 }
 

@@ -2,7 +2,7 @@
 use mathlib.Core.Bool.{Bool, true, false}
 use mathlib.Core.Path.{◌≡◌, refl, sym, ap, ◌∙◌}
 use mathlib.Core.List.{[], ◌∷◌}
-use Prim.Native.Nat.{ℕ, ◌+◌, ◌-◌, ◌%◌, ◌≤◌, ◌<◌}
+use Prim.Native.Nat.{ℕ, ◌+◌, ◌-◌, ◌%◌, ◌^◌, ◌≤◌, ◌<◌}
 use native.Mathlib.Omega.{arith}
 use borrow.Author.Tests.{leb-true, leb-false, eqb-true, eqb-false, le-leb, lt-leb, ne_eqb}
 use lib.Dec.{leb, eqb}
@@ -10,9 +10,10 @@ use lib.ListN.{length}
 use Rattle.definition.specs.Decoding.{number}
 use Rattle.definition.specs.Walk.{Item, unknown, exact}
 use Rattle.decode.specs.View.{low_bytes, Held}
-use Rattle.decode.specs.declared.Value.TheVariants.{Exact}
+use Rattle.decode.specs.declared.Value.TheVariants.{Unknown, Exact}
 use Rattle.decode.proofs.Bytes.{length-low, number-low}
 use Rattle.slots.specs.View.{slot_item, sufficient, code_of, Canon}
+use Rattle.slots.specs.Parts.{InSlot, code_length}
 
 pub either : (i j : ℕ) (C : Type 0) → (i ≡ j → C) → ((i ≡ j → ⊥) → C) → C
 either i j C f g = by (eqb i j) refl
@@ -153,3 +154,30 @@ module _ (code n : ℕ) (c : Canon code n) where
   bytes-are s =
       let k : (1 ≤ code) × (code ≤ 8) = not-sufficient code s in
       sym (ap slot_bytes (item-low code n k.1) ∙ number-low code n (c.held k.0 k.1))
+
+-- The value in a slot, by the code
+
+module _ (code n : ℕ) (c : Canon code n) where
+  pub slot-unknown : code ≡ 9 → InSlot code n Unknown
+  slot-unknown e = record { held = tt; item = sym (item-none code n e) }
+
+  pub slot-byte : 9 < code → InSlot code n (Exact 1 (code - 10))
+  slot-byte h =
+      let e : (code - 10) % 256 ≡ code - 10 = omega (arith, c.byte) in
+      record { held = (omega arith, omega (arith, c.byte)); item = sym (item-high code n h ∙ rw e) }
+
+  pub slot-exact : (code ≡ 0 → n ≡ 0) → code ≤ 9 → (code ≡ 9 → ⊥) → InSlot code n (Exact code n)
+  slot-exact z h g =
+      let k : code ≤ 8 = omega (arith, g) in
+      record { held = (k, either code 0 (n < 256 ^ code) (λ e. rw (e, z e) (omega arith)) (λ e. c.held (omega (arith, e)) k)); item = sym (item-low code n k) }
+
+-- The length of an exact item, by the code
+
+module _ (code : ℕ) where
+  pub length-of : code ≤ 8 → code ≡ code_length code
+  unfolding code_length
+  length-of h = rw (le-leb code 8 h)
+
+  pub length-one : 8 < code → 1 ≡ code_length code
+  unfolding code_length
+  length-one h = rw (lt-leb code 8 h)

@@ -2,14 +2,14 @@
 use mathlib.Core.Bool.{Bool, true, false, ◌&&◌, or-true}
 use mathlib.Core.Path.{◌≡◌, refl, sym, ap, ◌∙◌}
 use mathlib.Core.List.{List, [], ◌∷◌}
-use Prim.Native.Nat.{ℕ, zero, suc, ◌<◌}
+use Prim.Native.Nat.{ℕ, zero, suc, ◌≤◌, ◌<◌}
 use native.Mathlib.Omega.{arith}
-use borrow.Author.Tests.{eq-eqb, ne_eqb, eqb-true}
-use lib.Dec.{eqb}
+use borrow.Author.Tests.{eq-eqb, ne_eqb, eqb-true, ltb-true, ltb-false}
+use lib.Dec.{eqb, ltb}
 use lib.ListN.{get_or}
 use Rattle.definition.specs.Basics.{Bytes, pick}
 use Rattle.definition.specs.Walk.{Item, unknown, exact, same_bytes, join_item, join_items}
-use Rattle.slots.specs.View.{Slots, slot_item, sufficient, tops, Canon, Sound}
+use Rattle.slots.specs.View.{Slots, slots, slot_item, sufficient, tops, Canon, Sound}
 use Rattle.slots.specs.Parts.{Each, Joined, JoinedAt, common_code, CommonAt, settled_code, SettledAt}
 use Rattle.slots.proofs.Codes.{either, sufficient-high, canon-unknown, same_item, slot_code, slot_bytes, code_is, bytes-are}
 
@@ -105,29 +105,44 @@ settled-joined code n code' n' c c' = either code code' (Joined code n code' n' 
         (λ g. rw (settled-same code n n' g) (joined_same code n code' n' c c' e g))
         (λ h. rw (settled-none code n n' s h) (joined_bytes code n code' n' c c' e s h))
 
--- the codes d of the first half, and those of both
-module _ (p t : Slots) (sp : Sound p) (st : Sound t) (d : List ℕ) (v : Each (CommonAt p.codes t.codes) p.codes 0 244 d) where
+-- the codes d of the first half, from a up to e, and those of both
+module _ (p t : Slots) (sp : Sound p) (st : Sound t) (a e : ℕ) (d : List ℕ) (v : Each (CommonAt p.codes t.codes) p.codes a e d) where
   joined : (j : ℕ) → JoinedAt p t j (settled_code (common_code (get_or p.codes j 0) (get_or t.codes j 0)) (get_or p.bytes j 0) (get_or t.bytes j 0))
   joined j = settled-joined (get_or p.codes j 0) (get_or p.bytes j 0) (get_or t.codes j 0) (get_or t.bytes j 0) (sp.canon j) (st.canon j)
 
   -- they differ in bytes
-  pub joined-both : (x : List ℕ) → Each (SettledAt d p.bytes t.bytes) d 0 244 x → Each (JoinedAt p t) p.codes 0 244 x
+  pub joined-both : (x : List ℕ) → Each (SettledAt d p.bytes t.bytes) d a e x → Each (JoinedAt p t) p.codes a e x
   joined-both x w = record {
     whole = w.whole ∙ v.whole;
-    each = λ j a b. rw (w.each j a b, v.each j a b) (joined j);
-    below = λ j a. w.below j a ∙ v.below j a;
-    above = λ j a. w.above j a ∙ v.above j a;
+    each = λ j f g. rw (w.each j f g, v.each j f g) (joined j);
+    below = λ j f. w.below j f ∙ v.below j f;
+    above = λ j f. w.above j f ∙ v.above j f;
   }
 
   -- the codes alone say it
-  pub joined-codes : ((j : ℕ) → j < 244 → sufficient (get_or d j 0) ≡ true) → Each (JoinedAt p t) p.codes 0 244 d
+  pub joined-codes : ((j : ℕ) → a ≤ j → j < e → sufficient (get_or d j 0) ≡ true) → Each (JoinedAt p t) p.codes a e d
   joined-codes k = record {
     whole = v.whole;
-    each = λ j a b. rw (sym (settled-suffices (get_or d j 0) (get_or p.bytes j 0) (get_or t.bytes j 0) (k j b))
-        ∙ ap (λ x. settled_code x (get_or p.bytes j 0) (get_or t.bytes j 0)) (v.each j a b)) (joined j);
+    each = λ j f g. rw (sym (settled-suffices (get_or d j 0) (get_or p.bytes j 0) (get_or t.bytes j 0) (k j f g))
+        ∙ ap (λ x. settled_code x (get_or p.bytes j 0) (get_or t.bytes j 0)) (v.each j f g)) (joined j);
     below = v.below;
     above = v.above;
   }
+
+-- codes in common that suffice are those of a join
+pub all-common : (y c y' c' d : List ℕ) (a e : ℕ) → Sound (slots y c) → Sound (slots y' c') → Each (CommonAt c c') c a e d → ((j : ℕ) → a ≤ j → j < e → sufficient (get_or d j 0) ≡ true)
+    → Each (JoinedAt (slots y c) (slots y' c')) c a e d
+all-common y c y' c' d a e s s' v k = joined-codes (slots y c) (slots y' c') s s' a e d v k
+
+-- with the codes of a join from a up to e, the slots are sound
+module _ (y c c' : List ℕ) (t : Slots) (a e : ℕ) (s : Sound (slots y c)) (v : Each (JoinedAt (slots y c) t) c a e c') where
+  pub joined-sound : Sound (slots y c')
+  joined-sound = record { whole_bytes = s.whole_bytes; whole_codes = v.whole ∙ s.whole_codes; canon = λ j. by j (ltb j a) refl (ltb j e) refl }
+    where
+      by : (j : ℕ) (t : Bool) → ltb j a ≡ t → (u : Bool) → ltb j e ≡ u → Canon (get_or c' j 0) (get_or y j 0)
+      by j true g u h = rw (v.below j (ltb-true j a g)) (s.canon j)
+      by j false g true h = (v.each j (ltb-false j a g) (ltb-true j e h)).canon
+      by j false g false h = rw (v.above j (ltb-false j e h)) (s.canon j)
 
 pub tops-join : (f g h : ℕ → Item) (n : ℕ) → ((j : ℕ) → j < n → h j ≡ join_item (f j) (g j)) → tops h n ≡ join_items (tops f n) (tops g n)
 tops-join f g h zero k = refl

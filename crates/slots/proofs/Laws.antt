@@ -66,6 +66,16 @@ module _ {A : Type 0} where
 -- Numbers written one by one
 
 module _ (P : ℕ → ℕ → Type 0) (l : List ℕ) (a : ℕ) where
+  pub each_none : Each P l a a l
+  each_none = record { whole = refl; each = λ j h g. absurd (omega arith); below = λ j h. refl; above = λ j h. refl }
+
+  pub each-end : (q : List ℕ) (i e : ℕ) → i ≤ e → e ≤ i → Each P l a i q → Each P l a e q
+  each-end q i e h g v = let k : i ≡ e = omega arith in rw k at v
+
+  -- what each number is, in other words
+  pub each_map : (Q : ℕ → ℕ → Type 0) (e : ℕ) (q : List ℕ) → ((j : ℕ) → a ≤ j → j < e → (x : ℕ) → P j x → Q j x) → Each P l a e q → Each Q l a e q
+  each_map Q e q f v = record { whole = v.whole; each = λ j h g. f j h g _ (v.each j h g); below = v.below; above = v.above }
+
   pub each_more : (q : List ℕ) (i x : ℕ) → a ≤ i → i < length l → P i x → Each P l a i q → Each P l a (i + 1) (set q i x)
   each_more q i x h lt k v = record {
     whole = length-set q i x ∙ v.whole;
@@ -80,14 +90,14 @@ module _ (P : ℕ → ℕ → Type 0) (l : List ℕ) (a : ℕ) where
   pub each_next : (q : List ℕ) (i : ℕ) (f : ℕ → ℕ) (x : ℕ) → a ≤ i → i < length l → x ≡ f (get_or q i 0) → (f (get_or l i 0) ≡ x → P i x) → Each P l a i q → Each P l a (i + 1) (set q i x)
   each_next q i f x h lt e k v = each_more q i x h lt (k (sym (e ∙ ap f (v.above i (omega arith))))) v
 
--- the codes up to i suffice, and the one that is written at i
-pub suffice-next : (q : List ℕ) (i x : ℕ) (s t : Bool) → (s ≡ true → (j : ℕ) → j < i → sufficient (get_or q j 0) ≡ true) → t ≡ sufficient (get_or (set q i x) i 0)
-    → (s && t) ≡ true → (j : ℕ) → j < i + 1 → sufficient (get_or (set q i x) j 0) ≡ true
-suffice-next q i x true true k e h j lt = either j i (sufficient (get_or (set q i x) j 0) ≡ true)
+-- the codes from a up to i suffice, and the one that is written at i
+pub suffice-next : (a : ℕ) (q : List ℕ) (i x : ℕ) (s t : Bool) → (s ≡ true → (j : ℕ) → a ≤ j → j < i → sufficient (get_or q j 0) ≡ true) → t ≡ sufficient (get_or (set q i x) i 0)
+    → (s && t) ≡ true → (j : ℕ) → a ≤ j → j < i + 1 → sufficient (get_or (set q i x) j 0) ≡ true
+suffice-next a q i x true true k e h j le lt = either j i (sufficient (get_or (set q i x) j 0) ≡ true)
     (λ g. rw g (sym e))
-    (λ n. rw (get_or-set_other q i j x 0 n) (k refl j (omega (arith, n))))
-suffice-next q i x true false k e h j lt = absurd (let z : ◌≡◌ {A = ℕ} 0 1 = cc in omega arith)
-suffice-next q i x false t k e h j lt = absurd (let z : ◌≡◌ {A = ℕ} 0 1 = cc in omega arith)
+    (λ n. rw (get_or-set_other q i j x 0 n) (k refl j le (omega (arith, n))))
+suffice-next a q i x true false k e h j le lt = absurd (let z : ◌≡◌ {A = ℕ} 0 1 = cc in omega arith)
+suffice-next a q i x false t k e h j le lt = absurd (let z : ◌≡◌ {A = ℕ} 0 1 = cc in omega arith)
 
 -- Where items come from
 

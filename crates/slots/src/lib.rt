@@ -5,7 +5,7 @@
 
 #![tactic(auto)]
 
-ghost use Rattle.std.specs.Prelude.{◌≡◌, true, ℕ, ◌<◌, get_or};
+ghost use Rattle.std.specs.Prelude.{◌≡◌, true, ℕ, ◌≤◌, ◌<◌, get_or};
 ghost use Rattle.slots.specs.View.{slots, code_of, sufficient, Canon, Sound};
 ghost use Rattle.slots.specs.Parts.{Each, common_code, CommonAt, settled_code, SettledAt, JoinedAt, InSlot, code_length};
 
@@ -54,14 +54,15 @@ fn settled(code: u8, bytes: u64, other: u64) -> u8
     }
 }
 
-/// The first half of a join of slots, by their codes: those that differ become unknown. Whether the codes that are left say
-/// their items by themselves.
-pub fn common_codes(codes: &mut [u8; 244], other: &[u8; 244]) -> bool
-    ensures common { Each (CommonAt codes.old other.now) codes.old 0 244 codes.new }
-    ensures suffice { result ≡ true → (j : ℕ) → j < 244 → sufficient (get_or codes.new j 0) ≡ true }
+/// The first half of a join of the slots from `from` up to `to`, by their codes: those that differ become unknown. Whether the codes
+/// that are left say their items by themselves.
+pub fn common_codes(codes: &mut [u8; 244], other: &[u8; 244], from: usize, to: usize) -> bool
+    requires { (from ≤ to) × (to ≤ 244) }
+    ensures common { Each (CommonAt codes.old other.now) codes.old from to codes.new }
+    ensures suffice { result ≡ true → (j : ℕ) → from ≤ j → j < to → sufficient (get_or codes.new j 0) ≡ true }
 {
     let mut suffice = true;
-    for i in 0..244 {
+    for i in from..to {
         codes[i] = common(codes[i], other[i]);
         suffice &= suffices(codes[i]);
     }
@@ -69,27 +70,37 @@ pub fn common_codes(codes: &mut [u8; 244], other: &[u8; 244]) -> bool
 }
 
 /// The second half, by their bytes.
-pub fn settle_codes(codes: &mut [u8; 244], bytes: &[u64; 244], other: &[u64; 244])
-    ensures { Each (SettledAt codes.old bytes.now other.now) codes.old 0 244 codes.new }
+pub fn settle_codes(
+    codes: &mut [u8; 244],
+    bytes: &[u64; 244],
+    other: &[u64; 244],
+    from: usize,
+    to: usize,
+)
+    requires { (from ≤ to) × (to ≤ 244) }
+    ensures { Each (SettledAt codes.old bytes.now other.now) codes.old from to codes.new }
 {
-    for i in 0..244 {
+    for i in from..to {
         codes[i] = settled(codes[i], bytes[i], other[i]);
     }
 }
 
-/// A join of slots: with its code each has what it and the other have in common. The bytes stay, and are read only where a code
-/// that is left does not say its item.
+/// A join of the slots from `from` up to `to`: with its code each has what it and the other have in common. The bytes stay, and are
+/// read only where a code that is left does not say its item.
 pub fn join_codes(
     codes: &mut [u8; 244],
     bytes: &[u64; 244],
     other: &[u8; 244],
     other_bytes: &[u64; 244],
+    from: usize,
+    to: usize,
 )
-    requires { Sound (slots bytes.now codes.old) × Sound (slots other_bytes.now other.now) }
-    ensures { Each (JoinedAt (slots bytes.now codes.old) (slots other_bytes.now other.now)) codes.old 0 244 codes.new }
+    requires sound { Sound (slots bytes.now codes.old) × Sound (slots other_bytes.now other.now) }
+    requires range { (from ≤ to) × (to ≤ 244) }
+    ensures { Each (JoinedAt (slots bytes.now codes.old) (slots other_bytes.now other.now)) codes.old from to codes.new }
 {
-    if !common_codes(codes, other) {
-        settle_codes(codes, bytes, other_bytes);
+    if !common_codes(codes, other, from, to) {
+        settle_codes(codes, bytes, other_bytes, from, to);
     }
 }
 

@@ -197,3 +197,12 @@ module _ (t : S.Stacks Item) (limit d k : ℕ) (g : d ≡ k) where
     unfolding plain_step
     effect-one zero n = absurd (n refl)
     effect-one (suc j) n = rw (← g, e)
+
+  pub effect-full : (p : Slots) (m a : ℕ) → drop_items d t ≡ S.done (stacks_in p m a) → (pushes : ℕ) → (pushes ≡ 0 → ⊥) → limit < m + a + 1
+      → plain_step marking limit k pushes t ≡ S.refused (stacks_full (m + a + 1) limit)
+  effect-full p m a e pushes n h = effect-one (stacks_in p m a) e pushes n ∙ push-full p m a limit unknown h
+
+-- for `try_tuck` and `try_apply_effect`
+pub ruleset tucks = (tuck-short, tuck-one)
+
+pub ruleset effects = (effect-short, effect-none, effect-one, effect-full)

@@ -73,6 +73,10 @@ index-small l h n k = by (leb (length l) 8 && minimal l)
     by true i = read (ltb (last l) 128) refl i
     by false i = absurd (let z : ◌≡◌ {A = ℕ} 0 1 = cc in omega arith)
 
+module _ (p : Slots) (m a : ℕ) where
+  pub pop_index-short : m < 1 → (next : ℕ → S.Stacks Item → S.Outcome Item) → pop_index marking (stacks_in p m a) next ≡ S.refused (main_dry 1 m)
+  pop_index-short h next = pop-short p m a h _
+
 -- an index as `read_index` and the conversion of its refusals tell it
 abbrev told : D.Index → Result ℕ Refusal
 told x = by (indexed x)
@@ -83,7 +87,7 @@ told x = by (indexed x)
 
 module _ (p : Slots) (m a : ℕ) where
   pub pops-short : m < 1 → (f : Refusal) → f ≡ MainDry 1 m → (r : Result ℕ Refusal) → r ≡ Err f → PopsIn p m a r
-  pops-short h f g r e = rw (e, g) (record { small = tt; same = λ next. pop-short p m a h _ })
+  pops-short h f g r e = rw (e, g) (record { small = tt; same = pop_index-short p m a h })
 
   -- the value v is on top
   module _ (h : 1 ≤ m) (v : Value) (k : InSlot (get_or p.codes (m - 1) 0) (get_or p.bytes (m - 1) 0) v) where
@@ -134,3 +138,6 @@ module _ (p : Slots) (m a : ℕ) (c : Result ℕ Refusal) (k : PopsIn p m a c) w
 
   pub on-refused : (f : Refusal) → c ≡ Err f → (next : ℕ → S.Stacks Item → S.Outcome Item) → pop_index marking (stacks_in p m a) next ≡ S.refused (refusal_of f)
   on-refused f e next = k.same next ∙ rw e
+
+-- for `top_count`
+pub ruleset popping = (pop_index-short)

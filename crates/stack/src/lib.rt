@@ -152,6 +152,7 @@ impl Stacks {
     }
 
     /// Pushes a value.
+    #[tactic(auto, using(crate::proofs::Values::pushes))]
     pub fn try_push(&mut self, v: Value, limit: Limit) -> Result<(), Refusal>
         requires { Held v }
         ensures { Yields result self.new (push_item limit.items (item_of v) (view self.old)) }
@@ -189,6 +190,7 @@ impl Stacks {
     }
 
     /// A plain class: drops items, and then pushes one unknown item or none.
+    #[tactic(auto, using(crate::proofs::Mains::effects))]
     pub fn try_apply_effect(&mut self, pops: u32, pushes: u32, limit: Limit) -> Result<(), Refusal>
         requires { pushes ≤ 1 }
         ensures { Yields result self.new (plain_step marking limit.items pops pushes (view self.old)) }
@@ -230,6 +232,7 @@ impl Stacks {
     }
 
     /// A copy of the top, and then the two that were on top above it.
+    #[tactic(auto, using(crate::proofs::Mains::tucks))]
     pub fn try_tuck(&mut self, limit: Limit) -> Result<(), Refusal>
         ensures { Yields result self.new (tuck_top limit.items (view self.old)) }
     {
@@ -290,12 +293,13 @@ impl Stacks {
             return Err(Refusal::ArmsDiffer);
         }
         let mut codes = self.codes;
-        join_codes(&mut codes, &self.bytes, &other.codes, &other.bytes);
+        join_codes(&mut codes, &self.bytes, &other.codes, &other.bytes, 0, 244);
         self.codes = codes;
         Ok(())
     }
 
     // The index or the count on top of main, which is still there.
+    #[tactic(auto, using(crate::proofs::Pops::popping))]
     fn top_count(&self) -> Result<u64, Refusal>
         ensures { Pops self.now result }
     {

@@ -42,3 +42,41 @@ fn main(rt: HostRuntime) {
         let _ = rt.eprintln("stack_bench: cannot write to standard output");
     }
 }
+
+#[cfg(test)]
+mod tests {
+    use super::*;
+
+    // The methods by value, each on a copy of the same stacks: an exact 1 over three unknown items, and one item on alt. What they
+    // leave is their contracts'; that each can be called is shown here.
+    #[test]
+    #[tactic(auto, unfolding(slots::specs::View::sufficient, slots::specs::View::code_of))]
+    fn methods_by_value(rt: HostRuntime) {
+        let limit = Limit::BUILT_IN;
+        let one = Value::Exact { len: 1, bytes: 1 };
+        let s = Stacks::new(3, 1).push(one, limit).stacks;
+        for (step, mains, alts) in [
+            (s.push(one, limit), 5, 1),
+            (s.push_code(11, limit), 5, 1),
+            (s.push_exact(2, 257, limit), 5, 1),
+            (s.drop_items(2), 2, 1),
+            (s.apply_effect(2, 1, limit), 3, 1),
+            (s.extend_from_within(4, 2, limit), 6, 1),
+            (s.rotate_left(3, 1), 4, 1),
+            (s.tuck(limit), 5, 1),
+            (s.nip(), 3, 1),
+            (s.move_to_alt(), 3, 2),
+            (s.move_from_alt(), 5, 0),
+            (s.join(s), 4, 1),
+            (s.pick(limit), 4, 1),
+            (s.roll(), 3, 1),
+            (s.depth(limit), 5, 1),
+            (s.size(limit), 5, 1),
+        ] {
+            assert!(rt; step.answer.is_ok());
+            assert_eq!(rt; (step.stacks.mains, step.stacks.alts), (mains, alts));
+        }
+        // no tag of ZK
+        assert!(rt; s.zk(limit).answer.is_err());
+    }
+}

@@ -3,14 +3,14 @@
 
 #![tactic(auto)]
 
-ghost use Rattle.std.specs.Prelude.{◌≡◌};
+ghost use Rattle.std.specs.Prelude.{◌≡◌, take};
 ghost use Rattle.definition.specs.Lines.{stackmark};
 
 use lines::Lines;
 
 // The lines that are printed of an input: at most 8,001 bytes of it are read, and a log of 24,000 numbers is lent.
 fn marked(input: &[u8]) -> Lines
-    ensures { result.text.items ≡ stackmark input.now }
+    ensures { take result.size result.bytes ≡ stackmark input.now }
 {
     let mut log = [0; 24000];
     lines::mark_lines(&input[..input.len().min(8001)], &mut log)
@@ -24,7 +24,7 @@ fn main(rt: HostRuntime) {
         return;
     };
     let lines = marked(&paper[..size]);
-    if rt.write_all(&lines.text).is_err() {
+    if rt.write_all(lines.text()).is_err() {
         let _ = rt.eprintln("stackmark: cannot write to standard output");
     }
 }

@@ -111,8 +111,8 @@ pub fn push_hex<const N: usize>(line: &mut Line<N>, byte: u8)
     line.push(hex_digit(byte % 16));
 }
 
-// A hexadecimal digit.
-fn hex_digit(d: u8) -> u8
+/// A hexadecimal digit.
+pub fn hex_digit(d: u8) -> u8
     requires { d < 16 }
     ensures { result ≡ hex_digit d }
 {

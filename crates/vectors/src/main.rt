@@ -17,6 +17,7 @@ use arrayvec::ArrayVec;
 use cases::{bytes, height, next_part, numbers};
 use refusals::{Answer, Refusal};
 use std::fmt;
+use std::fmt::Write;
 use std::io::Read;
 use tally::Tally;
 
@@ -31,6 +32,33 @@ const LONG_TAIL: usize = 100;
 struct Room {
     code: [u8; 40000],
     log: [u16; 30000],
+}
+
+// The answers that are not written yet: a block of them is written where it is full, and where a block of the input is answered.
+#[derive(Drop)]
+struct Answers<'a, P> {
+    out: &'a P,
+    held: ArrayVec<u8, 65536>,
+}
+
+impl<P: Print> Answers<'_, P> {
+    // Writes what is held.
+    fn flush(&mut self) {
+        let _ = self.out.write_all(&self.held);
+        self.held.clear();
+    }
+}
+
+impl<P: Print> Write for Answers<'_, P> {
+    fn write_str(&mut self, s: &str) -> fmt::Result {
+        for &b in s.as_bytes() {
+            if self.held.is_full() {
+                self.flush();
+            }
+            let _ = self.held.try_push(b);
+        }
+        Ok(())
+    }
 }
 
 // BYTES: `-` for none, or hex, a long tail of equal bytes in the repeat form.
@@ -59,7 +87,7 @@ fn write_hex<W: fmt::Write>(f: &mut fmt::Formatter<W>, part: &[u8]) -> fmt::Resu
 }
 
 // `fragment MAIN ALT BYTES`, from MAIN on. Where the Rust lacks the limit, 1 and 5, the answer is `fragment outside`.
-fn fragment(rt: &impl Print, line: &[u8], room: &mut Room) -> Option<()> {
+fn fragment(answers: &mut impl Write, line: &[u8], room: &mut Room) -> Option<()> {
     let main = height(line)?;
     let alt = height(main.rest)?;
     let count = bytes(alt.rest, &mut room.code)?;
@@ -72,8 +100,12 @@ fn fragment(rt: &impl Print, line: &[u8], room: &mut Room) -> Option<()> {
     let outcome = v.map(|_| ()).map_err(|r| r.refused);
     let answer = Answer::from(outcome);
     let _ = match outcome.map_err(|r| r.refusal) {
-        Err(Refusal::LongFragment { .. } | Refusal::Nesting) => println!(rt; "fragment outside"),
-        _ => println!(rt;
+        Err(Refusal::LongFragment { .. } | Refusal::Nesting) => writeln!(
+            answers,
+            "fragment outside"
+        ),
+        _ => writeln!(
+            answers,
             "fragment {} {} {} {}",
             answer.number, answer.offset, answer.first, answer.second
         ),
@@ -82,10 +114,11 @@ fn fragment(rt: &impl Print, line: &[u8], room: &mut Room) -> Option<()> {
 }
 
 // `limits BYTES`, from BYTES on.
-fn limits(rt: &impl Print, line: &[u8], room: &mut Room) -> Option<()> {
+fn limits(answers: &mut impl Write, line: &[u8], room: &mut Room) -> Option<()> {
     let count = bytes(line, &mut room.code)?;
     let answer = Answer::from(limits::validate_txscript_bytecode_limits(&room.code[..count]));
-    let _ = println!(rt;
+    let _ = writeln!(
+        answers,
         "limits {} {} {} {}",
         answer.number, answer.offset, answer.first, answer.second
     );
@@ -94,7 +127,7 @@ fn limits(rt: &impl Print, line: &[u8], room: &mut Room) -> Option<()> {
 
 // `paper BYTES`, from BYTES on. Where the Rust lacks the limit, 5, the answer is `paper outside`; no fragment of a paper is refused
 // with 1.
-fn paper(rt: &impl Print, line: &[u8], room: &mut Room) -> Option<()> {
+fn paper(answers: &mut impl Write, line: &[u8], room: &mut Room) -> Option<()> {
     let count = bytes(line, &mut room.code)?;
     let v = paper::mark_paper(&room.code[..count], &mut room.log);
     let entry = match v {
@@ -104,8 +137,9 @@ fn paper(rt: &impl Print, line: &[u8], room: &mut Room) -> Option<()> {
     let outcome = v.map(|_| ()).map_err(|r| r.refused);
     let answer = Answer::from(outcome);
     let _ = match outcome.map_err(|r| r.refusal) {
-        Err(Refusal::Nesting) => println!(rt; "paper outside"),
-        _ => println!(rt;
+        Err(Refusal::Nesting) => writeln!(answers, "paper outside"),
+        _ => writeln!(
+            answers,
             "paper {} {entry} {} {} {}",
             answer.number, answer.offset, answer.first, answer.second
         ),
@@ -114,13 +148,13 @@ fn paper(rt: &impl Print, line: &[u8], room: &mut Room) -> Option<()> {
 }
 
 // `display BODY INIT OFFSET MARK`, from BODY on.
-fn display(rt: &impl Print, line: &[u8], room: &mut Room) -> Option<()> {
+fn display(answers: &mut impl Write, line: &[u8], room: &mut Room) -> Option<()> {
     let body = next_part(line, &mut room.code)?;
     let init = next_part(body.rest, &mut room.code[body.count..])?;
     let [offset, mark] = numbers::<2>(init.rest)?;
     let (code, rest) = room.code.split_at(body.count);
     let shown = display::display(code, &rest[..init.count], offset as usize, mark);
-    let _ = println!(rt; "display {}", Bytes(shown));
+    let _ = writeln!(answers, "display {}", Bytes(shown));
     Some(())
 }
 
@@ -137,7 +171,7 @@ fn gain_once(tally: Tally, number: u32, rows: usize, peak: u32) -> (Tally, Resul
 }
 
 // `tally FRAGMENTS ACCEPTED ROWS PEAK NUMBER VROWS VPEAK`, from FRAGMENTS on.
-fn tally(rt: &impl Print, line: &[u8]) -> Option<()> {
+fn tally(answers: &mut impl Write, line: &[u8]) -> Option<()> {
     let [fragments, accepts, rows, peak, number, more_rows, its_peak] = numbers::<7>(line)?;
     let tally = Tally {
         fragments,
@@ -150,7 +184,8 @@ fn tally(rt: &impl Print, line: &[u8]) -> Option<()> {
         Ok(()) => 0,
         Err(refusal) => refusal.number(),
     };
-    let _ = println!(rt;
+    let _ = writeln!(
+        answers,
         "tally {answer} {} {} {} {}",
         t.fragments, t.accepts, t.rows, t.peak
     );
@@ -158,35 +193,39 @@ fn tally(rt: &impl Print, line: &[u8]) -> Option<()> {
 }
 
 // Answers a line that is understood, by its first word.
-fn understood(rt: &impl Print, line: &[u8], room: &mut Room) -> Option<()> {
+fn understood(answers: &mut impl Write, line: &[u8], room: &mut Room) -> Option<()> {
     if line.len() > LONGEST {
         return None;
     }
     if let Some(rest) = line.strip_prefix(b"fragment ") {
-        return fragment(rt, rest, room);
+        return fragment(answers, rest, room);
     }
     if let Some(rest) = line.strip_prefix(b"limits ") {
-        return limits(rt, rest, room);
+        return limits(answers, rest, room);
     }
     if let Some(rest) = line.strip_prefix(b"paper ") {
-        return paper(rt, rest, room);
+        return paper(answers, rest, room);
     }
     if let Some(rest) = line.strip_prefix(b"display ") {
-        return display(rt, rest, room);
+        return display(answers, rest, room);
     }
-    tally(rt, line.strip_prefix(b"tally ")?)
+    tally(answers, line.strip_prefix(b"tally ")?)
 }
 
 // Answers the line of this number.
-fn answer(rt: &impl Print, line: &[u8], number: u64, room: &mut Room) {
-    if understood(rt, line, room).is_none() {
-        let _ = println!(rt; "bad line {number}");
+fn answer(answers: &mut impl Write, line: &[u8], number: u64, room: &mut Room) {
+    if understood(answers, line, room).is_none() {
+        let _ = writeln!(answers, "bad line {number}");
     }
 }
 
 // Answers every line of the input, the last too where no newline ends it. Nothing says that an input ends, so the blocks are
 // counted, from a number that no run uses up. Of a line that is too long one character too many is held.
 fn replay(rt: &impl Print, source: &mut impl Read, room: &mut Room) {
+    let mut answers = Answers {
+        out: rt,
+        held: ArrayVec::new(),
+    };
     let mut line = ArrayVec::<u8, 20101>::new();
     let mut number: u64 = 1;
     let mut block = [0u8; 65536];
@@ -199,16 +238,18 @@ fn replay(rt: &impl Print, source: &mut impl Read, room: &mut Room) {
         }
         for &b in &block[..n] {
             if b == b'\n' {
-                answer(rt, &line, number, room);
+                answer(&mut answers, &line, number, room);
                 line.clear();
                 number = number.wrapping_add(1);
             } else {
                 let _ = line.try_push(b);
             }
         }
+        answers.flush();
     }
     if !line.is_empty() {
-        answer(rt, &line, number, room);
+        answer(&mut answers, &line, number, room);
+        answers.flush();
     }
 }
 

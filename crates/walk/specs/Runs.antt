@@ -16,6 +16,7 @@ use Rattle.stack.specs.declared.Stacks.{Stacks}
 use Rattle.walk.specs.declared.ArmEnd.{ArmEnd}
 use Rattle.walk.specs.declared.ArmEnd.TheVariants.{End, Else, Endif}
 use Rattle.walk.specs.declared.Options.{Options}
+use Rattle.walk.specs.declared.Place.{Place}
 use Rattle.walk.specs.declared.Rules.{Rules}
 use Rattle.walk.specs.declared.Stop.{Stop}
 use Rattle.walk.specs.declared.Walk.{Walk}
@@ -49,6 +50,10 @@ pub record Stand : Type 0 where
 
 abbrev pub stand : Walk → Halt → Stand
 stand w h = record { stacks = w.stacks; at = w.place.at; last = w.place.last; rows = w.place.rows; peak = w.peak; halt = h }
+
+-- a walk over a dead arm, with this peak
+abbrev pub dead_walk : Place → ℕ → Walk
+dead_walk p peak = record { stacks = None; place = p; peak = peak }
 
 -- how it stands after what a walker answers: where it ends an arm, where it stops, and where it is to go on
 abbrev pub ending : Result ArmEnd Refusal → Halt

@@ -2,10 +2,10 @@
 
 #![tactic(auto)]
 
-ghost use Rattle.std.specs.Prelude.{◌≡◌, ◌+◌, ◌*◌, ◌^◌, ◌<◌, length, set};
+ghost use Rattle.std.specs.Prelude.{◌≡◌, ℕ, ◌+◌, ◌*◌, ◌^◌, ◌<◌, length, set};
 ghost use Rattle.definition.specs.Stacks.{built_in};
 ghost use Rattle.definition_rules.specs.Maps.{built_in_options};
-ghost use Rattle.walk.specs.Runs.{options_of, rules_in, Ready, Runs};
+ghost use Rattle.walk.specs.Runs.{options_of, rules_in, dead_walk, Room, Ready, Runs};
 
 use decode::{Instruction, Value};
 use opcodes::{Class, Classes};
@@ -82,18 +82,23 @@ pub struct Place {
     pub rows: usize,
 }
 
+// Row k of the log: an instruction at this offset, with these heights.
+fn log_row(log: &mut [u16], k: usize, offset: usize, main: u16, alt: u16)
+    requires room { 3 * k + 2 < length log.old }
+    requires short { offset < 2 ^ 16 }
+    ensures { log.new ≡ set (set (set log.old (3 * k) offset) (3 * k + 1) main) (3 * k + 2) alt }
+{
+    log[3 * k] = offset as u16;
+    log[3 * k + 1] = main;
+    log[3 * k + 2] = alt;
+}
+
 impl Place {
-    /// An instruction is met: its row is written, with these heights, and the next one is that behind it.
-    fn meet(&mut self, instruction: Instruction, log: &mut [u16], main: u16, alt: u16)
-        requires room { 3 * self.old.rows + 2 < length log.old }
-        requires short { self.old.at < 2 ^ 16 }
-        ensures past { self.new ≡ record { at = instruction.next; last = self.old.at; rows = self.old.rows + 1 } }
-        ensures row { log.new
-            ≡ set (set (set log.old (3 * self.old.rows) self.old.at) (3 * self.old.rows + 1) main) (3 * self.old.rows + 2) alt }
+    /// An instruction is met, whose row is written: the next one is that behind it.
+    fn meet(&mut self, instruction: Instruction)
+        requires { 3 * self.old.rows + 2 < 2 ^ 64 }
+        ensures { self.new ≡ record { at = instruction.next; last = self.old.at; rows = self.old.rows + 1 } }
     {
-        log[3 * self.rows] = self.at as u16;
-        log[3 * self.rows + 1] = main;
-        log[3 * self.rows + 2] = alt;
         *self = Place {
             at: instruction.next,
             last: self.at,
@@ -111,14 +116,15 @@ pub struct Walk {
 }
 
 // In a dead arm, the instructions up to the next IF, NOTIF, ELSE or ENDIF, whose row is written too, or to the end.
-fn skip(code: &[u8], log: &mut [u16], rules: Rules, w: &mut Walk) -> Stop
-    requires ready { Ready code.now log.old w.old }
-    requires dead { w.old.stacks ≡ None }
-    ensures { Runs (rules_in rules.entry) code.now w.old log.old w.new (Ok result) log.new }
+fn skip(code: &[u8], log: &mut [u16], rules: Rules, place: &mut Place) -> Stop
+    requires { Room code.now log.old place.old.at place.old.rows }
+    ensures { (peak : ℕ)
+        → Runs (rules_in rules.entry) code.now (dead_walk place.old peak) log.old (dead_walk place.new peak) (Ok result) log.new }
 {
-    // no `for`: the place moves in `w`, which keeps it where the walk stops
-    while let Ok(Some(instruction)) = decode::decode_at(code, w.place.at) {
-        w.place.meet(instruction, log, DEAD, DEAD);
+    // no `for`: `place` moves, and stays where the walk stops
+    while let Ok(Some(instruction)) = decode::decode_at(code, place.at) {
+        log_row(log, place.rows, place.at, DEAD, DEAD);
+        place.meet(instruction);
         match rules.classes.of(instruction.opcode) {
             Class::If | Class::NotIf => return Stop::Conditional,
             Class::Else => return Stop::Arm(ArmEnd::Else),
@@ -137,7 +143,7 @@ pub fn plain(code: &[u8], log: &mut [u16], rules: Rules, w: &mut Walk) -> Result
 {
     let limit = rules.limit;
     let Some(stacks) = &mut w.stacks else {
-        return Ok(skip(code, log, rules, w));
+        return Ok(skip(code, log, rules, &mut w.place));
     };
     // no `for`: the place moves in `w`, which keeps it where the walk stops or is refused
     loop {
@@ -147,7 +153,8 @@ pub fn plain(code: &[u8], log: &mut [u16], rules: Rules, w: &mut Walk) -> Result
         let Ok(Some(instruction)) = decode::decode_at(code, w.place.at) else {
             return Ok(Stop::Arm(ArmEnd::End));
         };
-        w.place.meet(instruction, log, mains as u16, alts as u16);
+        log_row(log, w.place.rows, w.place.at, mains as u16, alts as u16);
+        w.place.meet(instruction);
         let answer = match rules.classes.of(instruction.opcode) {
             Class::Unmodelled => {
                 return Err(Refusal::Unmodelled {
@@ -159,7 +166,7 @@ pub fn plain(code: &[u8], log: &mut [u16], rules: Rules, w: &mut Walk) -> Result
             Class::EndIf => return Ok(Stop::Arm(ArmEnd::Endif)),
             Class::Return => {
                 w.stacks = None;
-                return Ok(skip(code, log, rules, w));
+                return Ok(skip(code, log, rules, &mut w.place));
             }
             Class::Nothing => Ok(()),
             Class::Push => match instruction.literal {

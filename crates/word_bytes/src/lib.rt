@@ -2,9 +2,9 @@
 
 #![tactic(auto)]
 
-ghost use Rattle.std.specs.Prelude.{true, ◌≡◌, ◌/◌, ◌≤◌, length};
+ghost use Rattle.std.specs.Prelude.{true, ◌≡◌, ℕ, ◌/◌, ◌≤◌, length};
 ghost use Rattle.std.proofs.Math.Option.{some};
-ghost use Rattle.definition_listings.specs.Assembling.{hex_read, word_read};
+ghost use Rattle.definition_listings.specs.Assembling.{digit_read, hex_read, word_read};
 ghost use Rattle.definition_listings.specs.Shortest.{in_form};
 ghost use Rattle.text.specs.View.{Puts};
 ghost use Rattle.words.specs.View.{opens, head_of, bytes_of};
@@ -36,6 +36,36 @@ fn head(n: usize) -> Line<5>
     head
 }
 
+// Puts the opcode and the length bytes. Most are one byte, which is put by itself.
+fn put_head(text: &mut Lent, n: usize)
+    requires { n ≤ 4294967295 }
+    ensures { Puts text.old (head_of n) text.new }
+{
+    if n <= 0x4b {
+        text.put(&[n as u8]);
+    } else {
+        text.put(head(n).as_slice());
+    }
+}
+
+// The value of a digit, by arithmetic alone: a letter that is no digit has some value too.
+fn digit_value(letter: u8) -> u8
+    ensures { (d : ℕ) → digit_read letter ≡ some d → result ≡ d }
+{
+    letter % 16 + 9 * (letter / 64)
+}
+
+// Writes the bytes of letters in hexadecimal. No letter is judged, so that the compiler makes several bytes at once.
+fn write_data(place: &mut [u8], letters: &[u8])
+    requires digits { hex_read letters.now ≡ some (in_form (hex_read letters.now)) }
+    requires room { length place.old ≡ length letters.now / 2 }
+    ensures { place.new ≡ in_form (hex_read letters.now) }
+{
+    for j in 0..place.len() {
+        place[j] = 16 * digit_value(letters[2 * j]) + digit_value(letters[2 * j + 1]);
+    }
+}
+
 // Puts the bytes of letters in hexadecimal.
 fn put_data(text: &mut Lent, letters: &[u8])
     requires digits { hex_read letters.now ≡ some (in_form (hex_read letters.now)) }
@@ -46,9 +76,8 @@ fn put_data(text: &mut Lent, letters: &[u8])
         |place|
             requires digits { hex_read letters.now ≡ some (in_form (hex_read letters.now)) }
             requires room { length place.now ≡ length letters.now / 2 }
-            ensures { place.new ≡ in_form (hex_read letters.entry.now) }
         {
-            hex::decode_to_slice(letters, place).unwrap();
+            write_data(place, letters);
         },
     );
 }
@@ -60,7 +89,7 @@ fn put_push(text: &mut Lent, word: &[u8])
     ensures { Puts text.old (bytes_of word.now) text.new }
 {
     let letters = &word[1..word.len() - 1];
-    text.put(head(letters.len() / 2).as_slice());
+    put_head(text, letters.len() / 2);
     put_data(text, letters);
 }
 

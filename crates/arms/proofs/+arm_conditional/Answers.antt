@@ -1,6 +1,5 @@
 use Rattle.std.proofs.Common.{rules, arith, ◌≡◌, Ok, Err}
 use Rattle.definition.specs.Stacks.{built_in}
-use Rattle.walk.specs.Runs.{rules_in}
 use Rattle.walk.specs.declared.ArmEnd.TheVariants.{Else}
 use Rattle.arms.proofs.Cycle.{ready_on, ready-there, at-there, one_deeper, not_entered, first_refused, one_arm, second_refused, two-arms}
 use Rattle.arms.proofs.+arm_conditional.Goals as goal
@@ -37,8 +36,7 @@ pub conditional-returns-in_ok-end-in-Else : goal.conditional-returns-in_ok-end-i
 conditional-returns-in_ok-end-in-Else t c =
     let else : c.arm.result ≡ Ok Else = rw c.in-Else.is at c.in_ok-end.was in
     let other = rw c.swap.ensures.x_after at c.arm-in-Else.ensures in
-    let last = rw c.swap.ensures.y_after at (c.finish.ensures (rules_in c.args.rules) c.args.code.now) in
-    two-arms c.requires.ready (c.enter.ensures _ _) c.in_ok-enter.was c.arm.ensures else other _ c.in_ok-end-in-Else.was last
+    two-arms c.requires.ready (c.enter.ensures _ _) c.in_ok-enter.was c.arm.ensures else other _ c.in_ok-end-in-Else.was (search rules) (c.finish.ensures _ _)
 
 pub conditional-returns-in_default : goal.conditional-returns-in_default
 conditional-returns-in_default t c =

@@ -1,12 +1,6 @@
-use Rattle.std.proofs.Common.{rules, sym, ap, ◌∙◌, Ok}
-use Rattle.decode.proofs.Codes.{counting-none, counting-more, less-left}
+use Rattle.std.proofs.Common.{sym, ap, ◌∙◌, Ok}
+use Rattle.decode.proofs.Codes.{counting-next}
 use Rattle.decode.proofs.count_instructions.Goals as goal
 
-pub loop-instruction-init : goal.loop-instruction-init
-loop-instruction-init c = counting-none _
-
-pub loop-instruction-smaller : goal.loop-instruction-smaller
-loop-instruction-smaller c = search (rules, less-left)
-
-pub loop-instruction-preserved : goal.loop-instruction-preserved
-loop-instruction-preserved c = counting-more _ _ _ c.in-Some.instruction c.type_inv.fragment (sym c.in_ok-instruction.ensures.same ∙ ap Ok c.in-Some.is) c.loop-instruction.invariant
+pub loop-next-preserved : goal.loop-next-preserved
+loop-next-preserved c = counting-next _ _ _ _ _ c.type_inv.fragment (sym (ap Ok c.in-Some.is) ∙ c.in_ok-next.ensures) c.loop-next.invariant

@@ -1,7 +1,7 @@
 use mathlib.Core.List.{◌++◌}
 use mathlib.Core.Path.{ap, ◌∙◌}
+use Rattle.definition.specs.Basics.{Bytes}
 use Rattle.definition_rules.specs.Maps.{rules_by}
-use Rattle.definition.specs.Papers.{Fragment}
 use Rattle.opcodes.specs.Classes.{rows_of}
 use Rattle.log_rows.specs.Rows.{rows}
 use Rattle.log_lines.specs.Log.{start, verdict_line}
@@ -20,6 +20,6 @@ returns-clause-same c = λ options.
     let R : Rules = rules_by (rows_of x.paper.classes) options in
     let t : Told Heights = told x.verdict in
     puts_as
-    (ap (λ p. start x.paper.bytes.now x.k ++ rows R c.fragment_at.result.bytes.now x.paper.log.now p.1 x.from p.0 ++ verdict_line R c.fragment_at.result.bytes.now x.paper.log.now x.from t) c.rows_and_peak-rows.ensures
-    ∙ ap (λ (f : Fragment). start x.paper.bytes.now x.k ++ rows R f.bytes x.paper.log.now t.peak x.from t.rows ++ verdict_line R f.bytes x.paper.log.now x.from t) c.fragment_at.ensures)
+    (ap (λ p. start x.paper.bytes.now x.k ++ rows R c.fragment_bytes-bytes.result.now x.paper.log.now p.1 x.from p.0 ++ verdict_line R c.fragment_bytes-bytes.result.now x.paper.log.now x.from t) c.rows_and_peak-rows.ensures
+    ∙ ap (λ (b : Bytes). start x.paper.bytes.now x.k ++ rows R b x.paper.log.now t.peak x.from t.rows ++ verdict_line R b x.paper.log.now x.from t) c.fragment_bytes-bytes.ensures)
     (block-put (c.deref.ensures.0 ∙ c.start.ensures) c.put.ensures (c.put_table.ensures.same options) (c.deref-2.ensures.0 ∙ c.verdict_line.ensures options) c.put-2.ensures)

@@ -7,6 +7,6 @@ use Rattle.slots.proofs.common_codes.Goals as goal
 
 pub loop-i-preserved : goal.loop-i-preserved
 loop-i-preserved c = let i = c.loop-i.i in record {
-  common = each_next _ _ 0 _ i (λ x. common_code x (get_or c.args.other.now i 0)) _ (omega arith) (omega arith) c.common.ensures sym c.loop-i.invariant.common;
-  suffice = suffice-next _ i _ _ _ c.loop-i.invariant.suffice c.suffices-suffice.ensures;
+  common = each_next _ _ c.args.from _ i (λ x. common_code x (get_or c.args.other.now i 0)) _ (omega arith) (omega arith) c.common.ensures sym c.loop-i.invariant.common;
+  suffice = suffice-next c.args.from _ i _ _ _ c.loop-i.invariant.suffice c.suffices-suffice.ensures;
 }

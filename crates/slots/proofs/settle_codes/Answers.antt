@@ -7,4 +7,4 @@ use Rattle.slots.proofs.settle_codes.Goals as goal
 
 pub loop-i-preserved : goal.loop-i-preserved
 loop-i-preserved c = let i = c.loop-i.i in
-    each_next _ _ 0 _ i (λ x. settled_code x (get_or c.args.bytes.now i 0) (get_or c.args.other.now i 0)) _ (omega arith) (omega arith) c.settled.ensures sym c.loop-i.invariant
+    each_next _ _ c.args.from _ i (λ x. settled_code x (get_or c.args.bytes.now i 0) (get_or c.args.other.now i 0)) _ (omega arith) (omega arith) c.settled.ensures sym c.loop-i.invariant

@@ -1,5 +1,4 @@
 use native.Mathlib.Omega.{arith}
-use mathlib.Core.Path.{◌∙◌}
 use Rattle.word_bytes.proofs.Writing.{two, few, digits, push-puts}
 use Rattle.word_bytes.proofs.put_push.Goals as goal
 
@@ -9,11 +8,11 @@ slice_bounds-letters-count c = omega (arith, two c.args.word.now c.requires.open
 pub slice_bounds-letters-start : goal.slice_bounds-letters-start
 slice_bounds-letters-start c = omega (arith, two c.args.word.now c.requires.opens c.requires.good)
 
-pub head-requires : goal.head-requires
-head-requires c = few c.args.word.now c.requires.opens c.requires.good
+pub put_head-requires : goal.put_head-requires
+put_head-requires c = few c.args.word.now c.requires.opens c.requires.good
 
 pub put_data-requires : goal.put_data-requires
 put_data-requires c = record { digits = digits c.args.word.now c.requires.opens c.requires.good }
 
 pub returns : goal.returns
-returns c = push-puts c.args.word.now c.requires.opens c.requires.good (c.as_slice.ensures.value ∙ c.head.ensures) c.put.ensures c.put_data.ensures
+returns c = push-puts c.args.word.now c.requires.opens c.requires.good c.put_head.ensures c.put_data.ensures

@@ -1,7 +1,6 @@
-use mathlib.Core.Path.{ap, ◌∙◌}
+use borrow.Author.Rules.{rules}
 use native.Mathlib.Omega.{arith}
 use Rattle.stack.specs.View.{slots_of}
-use Rattle.slots.specs.View.{cells}
 use Rattle.ends.proofs.Packing.{slot-within, ending-none, ending-more, ends-are}
 use Rattle.ends.proofs.EndStacks.of.Goals as goal
 use Rattle.ends.proofs.EndStacks.of.Goals.{After-end_slot-i}
@@ -27,8 +26,7 @@ bounds-stacks-i-in-loop-k c = within (goal.at.bounds-stacks-i-in-loop-k c).After
 
 pub loop-k-preserved : goal.loop-k-preserved
 loop-k-preserved c = let s = c.args.stacks.now in
-    ending-more (slots_of s) s.mains c.loop-k.k c.loop-k.items c.loop-k.invariant (omega (arith, s.room)) _ c.slot_value.ensures.held
-    (c.slot_value.ensures.item ∙ ap (cells (slots_of s)) c.end_slot-i.ensures)
+    ending-more (slots_of s) s.mains c.loop-k.k c.loop-k.items c.loop-k.invariant (omega (arith, s.room)) _ (search rules) (search rules)
 
 pub returns : goal.returns
 returns c = ends-are c.args.stacks.now c.loop-k.k c.loop-k.items c.loop-k.invariant (omega arith)

@@ -11,7 +11,7 @@ returns-in_err-needs c = dry_step _ _ _ c.needs.ensures _ c.in_err-needs.was _ (
 
 pub returns-in_err-count-in-42-2 : goal.returns-in_err-count-in-42-2
 returns-in_err-count-in-42-2 c = let s = c.args.self.now in
-    refuses_step _ _ (search rules) _ _ _ _ (λ R i g. zk-refused R i _ g (slots_of s) s.mains s.alts (has s _ _ c.needs.ensures _ c.in_ok-needs.was) c.in-42.is c.if-self-lt3.false _ c.top_count.ensures _ c.in_err-count-in-42-2.was)
+    refuses_step c.in_err-count-in-42-2.field-0.0 _ (search rules) _ _ _ _ (λ R i g. zk-refused R i _ g (slots_of s) s.mains s.alts (has s _ _ c.needs.ensures _ c.in_ok-needs.was) c.in-42.is c.if-self-lt3.false _ c.top_count.ensures _ (search rules))
 
 pub returns-in-43 : goal.returns-in-43
 returns-in-43 c = let s = c.args.self.now in
@@ -23,7 +23,7 @@ returns-in-42 c = let s = c.args.self.now in
 
 pub returns-in_ok-count-in-42-2 : goal.returns-in_ok-count-in-42-2
 returns-in_ok-count-in-42-2 c = let s = c.args.self.now in
-    yields_step c.zk_drop-in-42-2.ensures _ _ _ (λ R i g. zk-at R i _ g (slots_of s) s.mains s.alts (has s _ _ c.needs.ensures _ c.in_ok-needs.was) c.in-42.is c.if-self-lt3.false _ c.top_count.ensures _ c.in_ok-count-in-42-2.was)
+    yields_step c.zk_drop-in-42-2.ensures _ _ _ (λ R i g. zk-at R i _ g (slots_of s) s.mains s.alts (has s _ _ c.needs.ensures _ c.in_ok-needs.was) c.in-42.is c.if-self-lt3.false _ c.top_count.ensures c.in_ok-count-in-42-2.count (search rules))
 
 pub returns-in_default : goal.returns-in_default
 returns-in_default c = let s = c.args.self.now in
