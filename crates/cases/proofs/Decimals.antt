@@ -2,52 +2,35 @@
 use mathlib.Core.Bool.{Bool, true, false, cond, not, ◌&&◌}
 use mathlib.Core.Path.{◌≡◌, refl, sym, ap, ◌∙◌, subst}
 use mathlib.Core.List.{List, [], ◌∷◌, ◌++◌, append_assoc}
-use Prim.Native.Nat.{ℕ, ◌+◌, ◌^◌, ◌<◌}
+use Prim.Native.Nat.{ℕ, ◌+◌, ◌*◌, ◌^◌, ◌<◌, ◌≤◌}
 use native.Mathlib.Omega.{arith}
-use borrow.Author.Tests.{lt-ltb, ltb-true, ltb-false, eq-eqb, eqb-true, ne_eqb}
+use borrow.Author.Tests.{lt-ltb, ltb-true, eq-eqb, ne_eqb}
 use denote.Param.Members.{Mut}
 use denote.Ref.{Bor}
 use lib.Dec.{ltb, eqb}
-use lib.ListN.{length, take, get_or, get_or-eq_default, set, length-append}
-use Rattle.std.proofs.Common.{add-one, Option, Some, None, Result, Ok, Err}
+use lib.ListN.{length, take, get_or, set, length-append}
+use Rattle.std.proofs.Common.{add-one, Option, Some, None}
 use Rattle.std.proofs.Math.Seq.{take-suc-set}
 use Rattle.std.proofs.lemmas.Grind.{common_steps}
 use Rattle.std.proofs.lemmas.List.{append-nil, take_all}
 use Rattle.std.proofs.lemmas.List.Splits.{length-slice_split, slice_split_none, slice_split_at}
-use Rattle.std.proofs.lemmas.Str.{IsUtf8-from_ascii}
-use Rattle.std.proofs.lemmas.Str.Parse.{IsNumeralModel, numerals_by_value, tells_all_ascii_digits, parse_plain, not_in_digits, digit_at}
+use Rattle.std.proofs.lemmas.Int.Digits.{digits_more, digits_value_more}
+use Rattle.std.proofs.lemmas.Str.{digit_value_digit}
+use Rattle.std.proofs.lemmas.Str.Parse.{IsNumeralModel, numerals_by_value, tells_all_ascii_digits, digit_at, digits_value-take-le}
 use Rattle.std.proofs.lemmas.Fn.{always_returns_same}
 use Rattle.std.specs.Bool.{MatchBool, then_some}
 use Rattle.std.specs.Fn.{CalledAt, ComputesKey}
 use Rattle.std.specs.Slice.Iter.{split_steps, split_rest, split_done, split_callee}
 use Rattle.std.specs.declared.slice.Split.{Split}
-use Rattle.std.specs.List.{All, starts_with, IsFirstMatchOrLen}
+use Rattle.std.specs.List.{All, IsFirstMatchOrLen}
 use Rattle.std.specs.Option.{IfSome, IfNone, is_some}
-use Rattle.std.specs.Result.{result_ok, MatchResult}
-use Rattle.std.specs.Str.{IsUtf8, all_ascii_digits}
-use Rattle.std.specs.Str.Parse.{digits_value, ParsesUnsigned}
+use Rattle.std.specs.Char.{digit_value}
+use Rattle.std.specs.Str.{all_ascii_digits}
+use Rattle.std.specs.Str.Parse.{AllDigits, digits_value}
 use Rattle.definition.specs.Basics.{pick}
 use Rattle.cases.specs.Decimals.{decimal, decimals, with_number, texts_of, numbers_in}
 
 -- Numbers
-
--- whether a text begins with a plus sign
-plus_is : (text : List ℕ) (t : Bool) → starts_with eqb text (43 ∷ []) ≡ t → cond t (get_or text 0 0 ≡ 43) (get_or text 0 0 ≡ 43 → ⊥)
-plus_is [] true e = cc
-plus_is [] false e = λ h. omega arith
-plus_is (b ∷ l) t e = by (eqb 43 b) refl t e
-  where
-    by : (u : Bool) → eqb 43 b ≡ u → (t : Bool) → (u && starts_with eqb l []) ≡ t → cond t (b ≡ 43) (b ≡ 43 → ⊥)
-    by true f true g = sym (eqb-true 43 b f)
-    by true f false g = cc
-    by false f true g = cc
-    by false f false g = λ h. let z : ◌≡◌ {A = Bool} true false = sym (eq-eqb 43 b (sym h)) ∙ f in let y : ◌≡◌ {A = ℕ} 0 1 = cc in omega arith
-
-pub plus : (text : List ℕ) → starts_with eqb text (43 ∷ []) ≡ true → get_or text 0 0 ≡ 43
-plus text e = plus_is text true e
-
-pub no-plus : (text : List ℕ) → starts_with eqb text (43 ∷ []) ≡ false → get_or text 0 0 ≡ 43 → ⊥
-no-plus text e = plus_is text false e
 
 own : IsNumeralModel (λ ds. all_ascii_digits ds ≡ true) (digits_value 10)
 own = numerals_by_value (λ ds. all_ascii_digits ds ≡ true) tells_all_ascii_digits
@@ -68,38 +51,29 @@ module _ (text : List ℕ) where
       by true e false f d g = refl
       by false e b f d g = refl
 
-  pub decimal-plus : get_or text 0 0 ≡ 43 → None ≡ decimal text
-  decimal-plus e = decimal-no (λ a b h. not_in_digits own text 43 a (λ r. omega arith) 0 b e)
+  -- where there is no character
+  pub decimal-empty : length text ≡ 0 → None ≡ decimal text
+  decimal-empty e = decimal-no (λ a b h. omega arith)
 
-  ascii : all_ascii_digits text ≡ true → (i : ℕ) → get_or text i 0 < 128
-  ascii a i = by (ltb i (length text)) refl
-    where
-      by : (t : Bool) → ltb i (length text) ≡ t → get_or text i 0 < 128
-      by true e = let k = digit_at text i (own.to text a) (ltb-true i (length text) e) in omega arith
-      by false e = rw (get_or-eq_default text 0 {n = i} (ltb-false i (length text) e)) (omega arith)
+  -- where a character is no digit
+  pub decimal-no_digit : (i : ℕ) → i < length text → (digit_value (get_or text i 0) < 10 → ⊥) → None ≡ decimal text
+  decimal-no_digit i l n = decimal-no (λ a b h. n (let k = digit_at text i (own.to text a) l in omega (arith, digit_value_digit (get_or text i 0) k)))
 
-  decimal-not_utf8 : (IsUtf8 text → ⊥) → None ≡ decimal text
-  decimal-not_utf8 n = decimal-no (λ a b h. n (IsUtf8-from_ascii text (ascii a)))
+  -- the first i characters are digits of this value
+  abbrev pub Begun : ℕ → ℕ → Type 0
+  Begun i value = AllDigits 10 (take i text) × (value ≡ digits_value 10 (take i text))
 
-  pub decimal-parsed : {E : Type 0} (r : Result ℕ E) → ParsesUnsigned 32 10 text r → (get_or text 0 0 ≡ 43 → ⊥) → result_ok r ≡ decimal text
-  decimal-parsed {E} (Ok x) h n = let k = parse_plain own {E = E} 32 text (Ok x) h n in ap Some k.1 ∙ decimal-yes k.0.0 k.0.1 k.0.2
-  decimal-parsed {E} (Err e) h n = decimal-no (λ a b d. parse_plain own {E = E} 32 text (Err e) h n (a, b, d))
+  pub begun-more : (i value byte digit : ℕ) → i < length text → Begun i value → byte ≡ get_or text i 0 → (digit_value byte < 10) × (digit ≡ digit_value byte) → Begun (i + 1) (10 * value + digit)
+  begun-more i value byte digit l h e k =
+      (digits_more 10 text i l h.0 (rw (← e) k.0), omega (arith, digits_value_more 10 text i l, h.1, k.1, ap digit_value e))
 
-  -- the text as UTF-8
-  module _ {E : Type 0} (W : E → Type 0) (r : Result (Bor (List ℕ)) E) (h : MatchResult r (λ s. (s.now ≡ text) × IsUtf8 text) (λ e. (IsUtf8 text → ⊥) × W e)) where
-    pub number-bad : None ≡ result_ok r → None ≡ decimal text
-    number-bad e = by r h e
-      where
-        by : (q : Result (Bor (List ℕ)) E) → MatchResult q (λ s. (s.now ≡ text) × IsUtf8 text) (λ e. (IsUtf8 text → ⊥) × W e) → None ≡ result_ok q → None ≡ decimal text
-        by (Ok s) k e = cc
-        by (Err x) k e = decimal-not_utf8 k.0
+  pub begun-large : (i value : ℕ) → Begun i value → 4294967295 < value → None ≡ decimal text
+  begun-large i value h m = decimal-no (λ a b d. omega (arith, h.1, digits_value-take-le 10 text i (omega arith)))
 
-    pub number-text : (s : Bor (List ℕ)) → Some s ≡ result_ok r → s.now ≡ text
-    number-text s e = by r h e
-      where
-        by : (q : Result (Bor (List ℕ)) E) → MatchResult q (λ s. (s.now ≡ text) × IsUtf8 text) (λ e. (IsUtf8 text → ⊥) × W e) → Some s ≡ result_ok q → s.now ≡ text
-        by (Ok z) k e = let d : s ≡ z = cc in ap (λ y. y.now) d ∙ k.0
-        by (Err x) k e = cc
+  pub begun-all : (i value : ℕ) → Begun i value → length text ≤ i → 0 < length text → value ≤ 4294967295 → Some value ≡ decimal text
+  begun-all i value h l s m = let e : take i text ≡ text = take_all i text l in
+      let v : value ≡ digits_value 10 text = h.1 ∙ ap (digits_value 10) e in
+      ap Some v ∙ decimal-yes (own.from text (subst (AllDigits 10) e h.0)) s (omega (arith, v))
 
 -- Lines
 

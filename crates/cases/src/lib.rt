@@ -22,15 +22,28 @@ pub struct Part<'a> {
     pub rest: &'a [u8],
 }
 
+// The number that digits write, below 2^32.
+fn value_of(digits: &[u8]) -> Option<u32>
+    ensures { 0 < length digits.now → result ≡ decimal digits.now }
+{
+    let mut value: u64 = 0;
+    for &b in digits {
+        value = 10 * value + u64::from(char::from(b).to_digit(10)?);
+        if value > u64::from(u32::MAX) {
+            return None;
+        }
+    }
+    Some(value as u32)
+}
+
 /// A decimal number: one digit or more, below 2^32, and nothing else.
 pub fn number(text: &[u8]) -> Option<u32>
     ensures { result ≡ decimal text.now }
 {
-    // a plus sign is taken by `parse`, and by no case
-    if text.starts_with(b"+") {
+    if text.is_empty() {
         return None;
     }
-    str::from_utf8(text).ok()?.parse::<u32>().ok()
+    value_of(text)
 }
 
 // What stands before the first space, and behind it.

@@ -8,9 +8,10 @@ use lib.ListN.{length, take, get_or, length-take}
 use Rattle.std.proofs.lemmas.List.{take_more}
 use Rattle.std.specs.Prelude.{Ok, Err}
 use Rattle.definition.specs.Basics.{Bytes}
-use Rattle.definition.specs.Lines.{text, labelled, name, ending, line, lines, refused_line, last_line, lines_of}
-use Rattle.definition.specs.Papers.{PaperMarked}
+use Rattle.definition.specs.Lines.{text, labelled, name, ending, line, lines, refused_line, last_line, lines_of, printed}
+use Rattle.definition.specs.Papers.{PaperMarked, entry_count, mark_paper}
 use Rattle.definition.specs.Papers as P
+use Rattle.definition.specs.Stacks.{Rules, built_in}
 use Rattle.definition.specs.Walk.{Arm, dead, live}
 use Rattle.definition.specs.Walk as W
 use Rattle.refusals.proofs.OneForm.{refused-some}
@@ -102,3 +103,9 @@ pub lines-of-marked : (entries : ℕ) (r : Marked) (t last : Bytes) → t ≡ to
     → (m : PaperMarked) (log : List ℕ) → Holds m r log → t ++ last ≡ lines_of entries m
 lines-of-marked entries r t last e f m log h =
     rw (e, f, lines-are entries 0 (items_of r.accepted) m.verdicts h.accepted) (ap (λ (p : P.PaperVerdict). lines entries 0 m.verdicts ++ last_line p) h.verdict)
+
+-- what is printed of a paper is the lines of what holds its marking
+pub printed-by : (R : Rules) (s : Bytes) (log new : List ℕ) (r : Marked) (t : Bytes) → R ≡ built_in → Holds (mark_paper R s log) r new
+    → ((m : PaperMarked) (l : List ℕ) → Holds m r l → t ≡ lines_of (entry_count s) m) → t ≡ printed built_in s log
+unfolding printed
+printed-by R s log new r t e h k = k _ _ h ∙ ap (λ (Q : Rules). lines_of (entry_count s) (mark_paper Q s log)) e

@@ -156,9 +156,10 @@ module _ (R : Rules) (p : Bytes) (k rows : ℕ) (log : List ℕ) where
             }
 
     -- the analysis of fragment k, on the log from where its rows start
-    pub marks-fragment : (f : Fragment) → f ≡ fragment_at p k → (from : ℕ) → from ≡ min (3 * rows) (length log) → (r : Verdict Heights) (rest : List ℕ)
-        → told r ≡ told_of heights_of (analysis R f.bytes f.main f.alt (take (length log - from) (drop from log))).verdict
-        → rest ≡ (analysis R f.bytes f.main f.alt (take (length log - from) (drop from log))).log
+    pub marks-fragment : (bytes : Bytes) (main alt : ℕ) → bytes ≡ (fragment_at p k).bytes → main ≡ (fragment_at p k).main → alt ≡ (fragment_at p k).alt
+        → (from : ℕ) → from ≡ min (3 * rows) (length log) → (r : Verdict Heights) (rest : List ℕ)
+        → told r ≡ told_of heights_of (analysis R bytes main alt (take (length log - from) (drop from log))).verdict
+        → rest ≡ (analysis R bytes main alt (take (length log - from) (drop from log))).log
         → FragmentMarks R p k rows log r (take from log ++ (rest ++ drop (length log - from) (drop from log)))
-    marks-fragment f e from start r rest g h =
-        in-log r _ from start f (sym e) (marks-part R f.bytes f.main f.alt from log rest r (omega (arith, start)) g h)
+    marks-fragment bytes main alt b m a from start r rest g h =
+        in-log r _ from start (record { bytes = bytes; main = main; alt = alt }) (rw (b, m, a)) (marks-part R bytes main alt from log rest r (omega (arith, start)) g h)

@@ -15,14 +15,16 @@ ghost use Rattle.tally.specs.View.{tally_of, answer_of, Gives};
 
 use arrayvec::ArrayVec;
 use cases::{bytes, height, next_part, numbers};
+use itoa::{Buffer, Integer};
 use refusals::{Answer, Refusal};
-use std::fmt;
-use std::fmt::Write;
 use std::io::Read;
 use tally::Tally;
 
 // The longest line that is understood.
 const LONGEST: usize = 20100;
+
+// A line, and of one that is too long one character too many.
+type Line = ArrayVec<u8, 20101>;
 
 // A tail of equal bytes this long is written in the repeat form.
 const LONG_TAIL: usize = 100;
@@ -47,47 +49,62 @@ impl<P: Print> Answers<'_, P> {
         let _ = self.out.write_all(&self.held);
         self.held.clear();
     }
-}
 
-impl<P: Print> Write for Answers<'_, P> {
-    fn write_str(&mut self, s: &str) -> fmt::Result {
-        for &b in s.as_bytes() {
-            if self.held.is_full() {
-                self.flush();
-            }
-            let _ = self.held.try_push(b);
+    // A character more.
+    fn push(&mut self, b: u8) {
+        if self.held.is_full() {
+            self.flush();
         }
-        Ok(())
+        let _ = self.held.try_push(b);
     }
-}
 
-// BYTES: `-` for none, or hex, a long tail of equal bytes in the repeat form.
-#[derive(Clone, Copy)]
-struct Bytes<'a>(&'a [u8]);
+    // A text more.
+    fn put(&mut self, text: &[u8]) {
+        for &b in text {
+            self.push(b);
+        }
+    }
 
-impl fmt::Display for Bytes<'_> {
-    fn fmt<W: fmt::Write>(&self, f: &mut fmt::Formatter<W>) -> fmt::Result {
-        let Some(last) = self.0.last() else {
-            return write!(f, "-");
+    // A number more.
+    fn number(&mut self, n: impl Integer) {
+        self.put(Buffer::new().format(n).as_bytes());
+    }
+
+    // A line more: a word, and numbers.
+    fn line(&mut self, word: &[u8], numbers: &[impl Integer]) {
+        self.put(word);
+        for &n in numbers {
+            self.push(b' ');
+            self.number(n);
+        }
+        self.push(b'\n');
+    }
+
+    // Bytes more in hex.
+    fn hex(&mut self, part: &[u8]) {
+        for &byte in part {
+            self.push(text::hex_digit(byte / 16));
+            self.push(text::hex_digit(byte % 16));
+        }
+    }
+
+    // BYTES more: `-` for none, or hex, a long tail of equal bytes in the repeat form.
+    fn bytes(&mut self, part: &[u8]) {
+        let Some(last) = part.last() else {
+            return self.push(b'-');
         };
-        let times = self.0.iter().rev().take_while(|&byte| byte == last).count();
+        let times = part.iter().rev().take_while(|&byte| byte == last).count();
         if times < LONG_TAIL {
-            return write_hex(f, self.0);
+            return self.hex(part);
         }
-        write_hex(f, &self.0[..self.0.len() - times + 1])?;
-        write!(f, "*{times}")
+        self.hex(&part[..part.len() - times + 1]);
+        self.push(b'*');
+        self.number(times);
     }
-}
-
-fn write_hex<W: fmt::Write>(f: &mut fmt::Formatter<W>, part: &[u8]) -> fmt::Result {
-    for byte in part {
-        write!(f, "{byte:02x}")?;
-    }
-    Ok(())
 }
 
 // `fragment MAIN ALT BYTES`, from MAIN on. Where the Rust lacks the limit, 1 and 5, the answer is `fragment outside`.
-fn fragment(answers: &mut impl Write, line: &[u8], room: &mut Room) -> Option<()> {
+fn fragment(answers: &mut Answers<'_, impl Print>, line: &[u8], room: &mut Room) -> Option<()> {
     let main = height(line)?;
     let alt = height(main.rest)?;
     let count = bytes(alt.rest, &mut room.code)?;
@@ -99,35 +116,40 @@ fn fragment(answers: &mut impl Write, line: &[u8], room: &mut Room) -> Option<()
     );
     let outcome = v.map(|_| ()).map_err(|r| r.refused);
     let answer = Answer::from(outcome);
-    let _ = match outcome.map_err(|r| r.refusal) {
-        Err(Refusal::LongFragment { .. } | Refusal::Nesting) => writeln!(
-            answers,
-            "fragment outside"
+    match outcome.map_err(|r| r.refusal) {
+        Err(Refusal::LongFragment { .. } | Refusal::Nesting) => answers.put(b"fragment outside\n"),
+        _ => answers.line(
+            b"fragment",
+            &[
+                u64::from(answer.number),
+                answer.offset as u64,
+                answer.first,
+                answer.second,
+            ],
         ),
-        _ => writeln!(
-            answers,
-            "fragment {} {} {} {}",
-            answer.number, answer.offset, answer.first, answer.second
-        ),
-    };
+    }
     Some(())
 }
 
 // `limits BYTES`, from BYTES on.
-fn limits(answers: &mut impl Write, line: &[u8], room: &mut Room) -> Option<()> {
+fn limits(answers: &mut Answers<'_, impl Print>, line: &[u8], room: &mut Room) -> Option<()> {
     let count = bytes(line, &mut room.code)?;
     let answer = Answer::from(limits::validate_txscript_bytecode_limits(&room.code[..count]));
-    let _ = writeln!(
-        answers,
-        "limits {} {} {} {}",
-        answer.number, answer.offset, answer.first, answer.second
+    answers.line(
+        b"limits",
+        &[
+            u64::from(answer.number),
+            answer.offset as u64,
+            answer.first,
+            answer.second,
+        ],
     );
     Some(())
 }
 
 // `paper BYTES`, from BYTES on. Where the Rust lacks the limit, 5, the answer is `paper outside`; no fragment of a paper is refused
 // with 1.
-fn paper(answers: &mut impl Write, line: &[u8], room: &mut Room) -> Option<()> {
+fn paper(answers: &mut Answers<'_, impl Print>, line: &[u8], room: &mut Room) -> Option<()> {
     let count = bytes(line, &mut room.code)?;
     let v = paper::mark_paper(&room.code[..count], &mut room.log);
     let entry = match v {
@@ -136,25 +158,32 @@ fn paper(answers: &mut impl Write, line: &[u8], room: &mut Room) -> Option<()> {
     };
     let outcome = v.map(|_| ()).map_err(|r| r.refused);
     let answer = Answer::from(outcome);
-    let _ = match outcome.map_err(|r| r.refusal) {
-        Err(Refusal::Nesting) => writeln!(answers, "paper outside"),
-        _ => writeln!(
-            answers,
-            "paper {} {entry} {} {} {}",
-            answer.number, answer.offset, answer.first, answer.second
+    match outcome.map_err(|r| r.refusal) {
+        Err(Refusal::Nesting) => answers.put(b"paper outside\n"),
+        _ => answers.line(
+            b"paper",
+            &[
+                u64::from(answer.number),
+                entry as u64,
+                answer.offset as u64,
+                answer.first,
+                answer.second,
+            ],
         ),
-    };
+    }
     Some(())
 }
 
 // `display BODY INIT OFFSET MARK`, from BODY on.
-fn display(answers: &mut impl Write, line: &[u8], room: &mut Room) -> Option<()> {
+fn display(answers: &mut Answers<'_, impl Print>, line: &[u8], room: &mut Room) -> Option<()> {
     let body = next_part(line, &mut room.code)?;
     let init = next_part(body.rest, &mut room.code[body.count..])?;
     let [offset, mark] = numbers::<2>(init.rest)?;
     let (code, rest) = room.code.split_at(body.count);
     let shown = display::display(code, &rest[..init.count], offset as usize, mark);
-    let _ = writeln!(answers, "display {}", Bytes(shown));
+    answers.put(b"display ");
+    answers.bytes(shown);
+    answers.push(b'\n');
     Some(())
 }
 
@@ -171,7 +200,7 @@ fn gain_once(tally: Tally, number: u32, rows: usize, peak: u32) -> (Tally, Resul
 }
 
 // `tally FRAGMENTS ACCEPTED ROWS PEAK NUMBER VROWS VPEAK`, from FRAGMENTS on.
-fn tally(answers: &mut impl Write, line: &[u8]) -> Option<()> {
+fn tally(answers: &mut Answers<'_, impl Print>, line: &[u8]) -> Option<()> {
     let [fragments, accepts, rows, peak, number, more_rows, its_peak] = numbers::<7>(line)?;
     let tally = Tally {
         fragments,
@@ -184,16 +213,12 @@ fn tally(answers: &mut impl Write, line: &[u8]) -> Option<()> {
         Ok(()) => 0,
         Err(refusal) => refusal.number(),
     };
-    let _ = writeln!(
-        answers,
-        "tally {answer} {} {} {} {}",
-        t.fragments, t.accepts, t.rows, t.peak
-    );
+    answers.line(b"tally", &[answer, t.fragments, t.accepts, t.rows, t.peak]);
     Some(())
 }
 
 // Answers a line that is understood, by its first word.
-fn understood(answers: &mut impl Write, line: &[u8], room: &mut Room) -> Option<()> {
+fn understood(answers: &mut Answers<'_, impl Print>, line: &[u8], room: &mut Room) -> Option<()> {
     if line.len() > LONGEST {
         return None;
     }
@@ -213,20 +238,42 @@ fn understood(answers: &mut impl Write, line: &[u8], room: &mut Room) -> Option<
 }
 
 // Answers the line of this number.
-fn answer(answers: &mut impl Write, line: &[u8], number: u64, room: &mut Room) {
+fn answer(answers: &mut Answers<'_, impl Print>, line: &[u8], number: u64, room: &mut Room) {
     if understood(answers, line, room).is_none() {
-        let _ = writeln!(answers, "bad line {number}");
+        answers.line(b"bad line", &[number]);
     }
 }
 
+// Holds more of a line, as far as there is room.
+fn hold(line: &mut Line, part: &[u8]) {
+    let size = part.len().min(line.remaining_capacity());
+    let _ = line.try_extend_from_slice(&part[..size]);
+}
+
+// Answers the line of this number, of which this is the end, and what is held the start.
+fn end_line(
+    answers: &mut Answers<'_, impl Print>,
+    line: &mut Line,
+    end: &[u8],
+    number: u64,
+    room: &mut Room,
+) {
+    if line.is_empty() {
+        return answer(answers, end, number, room);
+    }
+    hold(line, end);
+    answer(answers, line, number, room);
+    line.clear();
+}
+
 // Answers every line of the input, the last too where no newline ends it. Nothing says that an input ends, so the blocks are
-// counted, from a number that no run uses up. Of a line that is too long one character too many is held.
+// counted, from a number that no run uses up.
 fn replay(rt: &impl Print, source: &mut impl Read, room: &mut Room) {
     let mut answers = Answers {
         out: rt,
         held: ArrayVec::new(),
     };
-    let mut line = ArrayVec::<u8, 20101>::new();
+    let mut line = Line::new();
     let mut number: u64 = 1;
     let mut block = [0u8; 65536];
     for _ in 0..u64::MAX {
@@ -236,14 +283,13 @@ fn replay(rt: &impl Print, source: &mut impl Read, room: &mut Room) {
         if n == 0 {
             break;
         }
-        for &b in &block[..n] {
-            if b == b'\n' {
-                answer(&mut answers, &line, number, room);
-                line.clear();
-                number = number.wrapping_add(1);
-            } else {
-                let _ = line.try_push(b);
-            }
+        for part in block[..n].split_inclusive(|&b| b == b'\n') {
+            let Some(end) = part.strip_suffix(b"\n") else {
+                hold(&mut line, part);
+                continue;
+            };
+            end_line(&mut answers, &mut line, end, number, room);
+            number = number.wrapping_add(1);
         }
         answers.flush();
     }

@@ -1,8 +1,7 @@
-use Rattle.std.proofs.Common.{rules, arith, ◌≤◌, ◌<◌, ◌≡◌, Bool, true, false, length, refl}
+use Rattle.std.proofs.Common.{rules, tests, arith, ◌≡◌, ◌≤◌, ◌<◌, length}
 use Rattle.definition.specs.Papers.{fragments}
 use Rattle.definition.specs.Refusals.{bad_header}
 use Rattle.definition.specs.Walk.{refused_verdict}
-use Rattle.fragments.specs.View.{fragment_of}
 use Rattle.walk.specs.Runs.{rules_in}
 use Rattle.stack_analysis.specs.View.{told, told_of, heights_of}
 use Rattle.stack_analysis.specs.declared.Heights.{Heights}
@@ -15,7 +14,7 @@ use Rattle.paper.proofs.mark_fragment_rows.Goals.{After-into, After-analyze_heig
 none : (c : After-into) → let a = c.args in FragmentMarks (rules_in a.rules) a.paper.now a.k a.rows a.log.now (Err c.into.result) a.log.now
 none c = let a = c.args in
     let e : told {E = Heights} (Err c.into.result) ≡ told_of heights_of (refused_verdict 0 bad_header 0) = search rules in
-    no-fragment (rules_in a.rules) a.paper.now a.k a.rows a.log.now (c.in_default.ensures.past.0 refl) (Err c.into.result) e
+    no-fragment (rules_in a.rules) a.paper.now a.k a.rows a.log.now (search (rules, tests)) (Err c.into.result) e
 
 pub returns-in_default-clause-same : goal.returns-in_default-clause-same
 returns-in_default-clause-same c = (none c).same
@@ -26,23 +25,23 @@ returns-in_default-clause-logged c = (none c).logged
 -- the fragment is there
 there : (c : After-analyze_heights_rows) → c.args.k < length (fragments c.args.paper.now)
 there c =
-    let not_past : length (fragments c.args.paper.now) ≤ c.args.k → ⊥ = λ h. let e : ◌≡◌ {A = Bool} true false = c.in-Some.ensures.past.1 h in cc in
+    let not_past : length (fragments c.args.paper.now) ≤ c.args.k → ⊥ = search (rules, tests) in
     omega arith
 
 pub returns-clause-same : goal.returns-clause-same
 returns-clause-same c = let a = c.args in
-    let m = marks-fragment (rules_in a.rules) a.paper.now a.k a.rows a.log.now (there (goal.at.returns-clause-same c).After-analyze_heights_rows) (fragment_of c.in-Some.fragment) c.in-Some.ensures.found
+    let m = marks-fragment (rules_in a.rules) a.paper.now a.k a.rows a.log.now (there (goal.at.returns-clause-same c).After-analyze_heights_rows) _ _ _ (search (rules, tests)) (search (rules, tests)) (search (rules, tests))
     _ c.rows_start-from.ensures _ _ c.analyze_heights_rows.ensures.same c.analyze_heights_rows.ensures.logged in
     m.same
 
 pub returns-clause-logged : goal.returns-clause-logged
 returns-clause-logged c = let a = c.args in
-    let m = marks-fragment (rules_in a.rules) a.paper.now a.k a.rows a.log.now (there (goal.at.returns-clause-logged c).After-analyze_heights_rows) (fragment_of c.in-Some.fragment) c.in-Some.ensures.found
+    let m = marks-fragment (rules_in a.rules) a.paper.now a.k a.rows a.log.now (there (goal.at.returns-clause-logged c).After-analyze_heights_rows) _ _ _ (search (rules, tests)) (search (rules, tests)) (search (rules, tests))
     _ c.rows_start-from.ensures _ _ c.analyze_heights_rows.ensures.same c.analyze_heights_rows.ensures.logged in
     m.logged
 
 pub returns-clause-room : goal.returns-clause-room
 returns-clause-room c = let a = c.args in
-    let m = marks-fragment (rules_in a.rules) a.paper.now a.k a.rows a.log.now (there (goal.at.returns-clause-room c).After-analyze_heights_rows) (fragment_of c.in-Some.fragment) c.in-Some.ensures.found
+    let m = marks-fragment (rules_in a.rules) a.paper.now a.k a.rows a.log.now (there (goal.at.returns-clause-room c).After-analyze_heights_rows) _ _ _ (search (rules, tests)) (search (rules, tests)) (search (rules, tests))
     _ c.rows_start-from.ensures _ _ c.analyze_heights_rows.ensures.same c.analyze_heights_rows.ensures.logged in
     m.room

@@ -1,5 +1,6 @@
 use mathlib.Core.Path.{sym}
-use Rattle.stack.proofs.Joins.{join-main, join-alt, joined-sound, joined-stacks}
+use Rattle.std.proofs.Common.{rules}
+use Rattle.stack.proofs.Joins.{join-main, join-alt, joins}
 use Rattle.stack.proofs.Stacks.try_join.Goals.{then-self-other-via-then-self-other, then-self-other-via-else-self-other+then-self-other-2}
 use Rattle.stack.proofs.Stacks.try_join.Goals as goal
 
@@ -12,7 +13,7 @@ returns-then-self-other c = record {
 }
 
 pub invariant_of-self : goal.invariant_of-self
-invariant_of-self c = record { room = c.args.self.now.room; sound = joined-sound c.args.self.now c.args.other.now _ c.join_codes.ensures }
+invariant_of-self c = record { room = c.args.self.now.room; sound = search (rules, joins) }
 
 pub returns : goal.returns
-returns c = record { same = joined-stacks c.args.self.now c.args.other.now _ c.join_codes.ensures c.if-self-other.false c.if-self-other-2.false }
+returns c = record { same = search (rules, joins) }
