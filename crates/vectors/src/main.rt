@@ -103,6 +103,16 @@ impl<P: Print> Answers<'_, P> {
     }
 }
 
+// A verdict's number, offset and figures.
+fn numbers_of(answer: Answer) -> [u64; 4] {
+    [
+        u64::from(answer.number),
+        answer.offset as u64,
+        answer.first,
+        answer.second,
+    ]
+}
+
 // `fragment MAIN ALT BYTES`, from MAIN on. Where the Rust lacks the limit, 1 and 5, the answer is `fragment outside`.
 fn fragment(answers: &mut Answers<'_, impl Print>, line: &[u8], room: &mut Room) -> Option<()> {
     let main = height(line)?;
@@ -118,15 +128,7 @@ fn fragment(answers: &mut Answers<'_, impl Print>, line: &[u8], room: &mut Room)
     let answer = Answer::from(outcome);
     match outcome.map_err(|r| r.refusal) {
         Err(Refusal::LongFragment { .. } | Refusal::Nesting) => answers.put(b"fragment outside\n"),
-        _ => answers.line(
-            b"fragment",
-            &[
-                u64::from(answer.number),
-                answer.offset as u64,
-                answer.first,
-                answer.second,
-            ],
-        ),
+        _ => answers.line(b"fragment", &numbers_of(answer)),
     }
     Some(())
 }
@@ -135,15 +137,7 @@ fn fragment(answers: &mut Answers<'_, impl Print>, line: &[u8], room: &mut Room)
 fn limits(answers: &mut Answers<'_, impl Print>, line: &[u8], room: &mut Room) -> Option<()> {
     let count = bytes(line, &mut room.code)?;
     let answer = Answer::from(limits::validate_txscript_bytecode_limits(&room.code[..count]));
-    answers.line(
-        b"limits",
-        &[
-            u64::from(answer.number),
-            answer.offset as u64,
-            answer.first,
-            answer.second,
-        ],
-    );
+    answers.line(b"limits", &numbers_of(answer));
     Some(())
 }
 
@@ -160,16 +154,10 @@ fn paper(answers: &mut Answers<'_, impl Print>, line: &[u8], room: &mut Room) ->
     let answer = Answer::from(outcome);
     match outcome.map_err(|r| r.refusal) {
         Err(Refusal::Nesting) => answers.put(b"paper outside\n"),
-        _ => answers.line(
-            b"paper",
-            &[
-                u64::from(answer.number),
-                entry as u64,
-                answer.offset as u64,
-                answer.first,
-                answer.second,
-            ],
-        ),
+        _ => {
+            let [number, offset, first, second] = numbers_of(answer);
+            answers.line(b"paper", &[number, entry as u64, offset, first, second]);
+        }
     }
     Some(())
 }

@@ -1,4 +1,5 @@
-use Rattle.std.proofs.Common.{rules, tests, arith, ◌≡◌, ◌≤◌, ◌<◌, length}
+use Rattle.std.proofs.Common.{rules, tests, arith, ◌++◌, ◌-◌, ◌≤◌, ◌<◌, ◌≡◌, length}
+use lib.ListN.{take, drop}
 use Rattle.definition.specs.Papers.{fragments}
 use Rattle.definition.specs.Refusals.{bad_header}
 use Rattle.definition.specs.Walk.{refused_verdict}
@@ -28,20 +29,19 @@ there c =
     let not_past : length (fragments c.args.paper.now) ≤ c.args.k → ⊥ = search (rules, tests) in
     omega arith
 
+-- its analysis, and its rows where they have room
+marks : (c : After-analyze_heights_rows) → let a = c.args in let from = c.rows_start-from.result in
+    FragmentMarks (rules_in a.rules) a.paper.now a.k a.rows a.log.now c.analyze_heights_rows.result
+    (take from a.log.now ++ (c.analyze_heights_rows.new.log ++ drop (length a.log.now - from) (drop from a.log.now)))
+marks c = let a = c.args in
+    marks-fragment (rules_in a.rules) a.paper.now a.k a.rows a.log.now (there c) _ _ _ (search (rules, tests)) (search (rules, tests)) (search (rules, tests))
+    _ c.rows_start-from.ensures _ _ c.analyze_heights_rows.ensures.same c.analyze_heights_rows.ensures.logged
+
 pub returns-clause-same : goal.returns-clause-same
-returns-clause-same c = let a = c.args in
-    let m = marks-fragment (rules_in a.rules) a.paper.now a.k a.rows a.log.now (there (goal.at.returns-clause-same c).After-analyze_heights_rows) _ _ _ (search (rules, tests)) (search (rules, tests)) (search (rules, tests))
-    _ c.rows_start-from.ensures _ _ c.analyze_heights_rows.ensures.same c.analyze_heights_rows.ensures.logged in
-    m.same
+returns-clause-same c = (marks (goal.at.returns-clause-same c).After-analyze_heights_rows).same
 
 pub returns-clause-logged : goal.returns-clause-logged
-returns-clause-logged c = let a = c.args in
-    let m = marks-fragment (rules_in a.rules) a.paper.now a.k a.rows a.log.now (there (goal.at.returns-clause-logged c).After-analyze_heights_rows) _ _ _ (search (rules, tests)) (search (rules, tests)) (search (rules, tests))
-    _ c.rows_start-from.ensures _ _ c.analyze_heights_rows.ensures.same c.analyze_heights_rows.ensures.logged in
-    m.logged
+returns-clause-logged c = (marks (goal.at.returns-clause-logged c).After-analyze_heights_rows).logged
 
 pub returns-clause-room : goal.returns-clause-room
-returns-clause-room c = let a = c.args in
-    let m = marks-fragment (rules_in a.rules) a.paper.now a.k a.rows a.log.now (there (goal.at.returns-clause-room c).After-analyze_heights_rows) _ _ _ (search (rules, tests)) (search (rules, tests)) (search (rules, tests))
-    _ c.rows_start-from.ensures _ _ c.analyze_heights_rows.ensures.same c.analyze_heights_rows.ensures.logged in
-    m.room
+returns-clause-room c = (marks (goal.at.returns-clause-room c).After-analyze_heights_rows).room
