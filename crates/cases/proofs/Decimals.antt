@@ -16,7 +16,7 @@ use Rattle.std.proofs.lemmas.List.{append-nil, take_all}
 use Rattle.std.proofs.lemmas.List.Splits.{length-slice_split, slice_split_none, slice_split_at}
 use Rattle.std.proofs.lemmas.Int.Digits.{digits_more, digits_value_more}
 use Rattle.std.proofs.lemmas.Str.{digit_value_digit}
-use Rattle.std.proofs.lemmas.Str.Parse.{IsNumeralModel, numerals_by_value, tells_all_ascii_digits, digit_at, digits_value-take-le}
+use Rattle.std.proofs.lemmas.Str.Parse.{IsNumeralModel, numerals_by_value, tells_all_ascii_digits, not_in_digits, digit_at, digits_value-take-le}
 use Rattle.std.proofs.lemmas.Fn.{always_returns_same}
 use Rattle.std.specs.Bool.{MatchBool, then_some}
 use Rattle.std.specs.Fn.{CalledAt, ComputesKey}
@@ -54,6 +54,10 @@ module _ (text : List ℕ) where
   -- where there is no character
   pub decimal-empty : length text ≡ 0 → None ≡ decimal text
   decimal-empty e = decimal-no (λ a b h. omega arith)
+
+  -- where a plus sign comes first
+  pub decimal-plus : get_or text 0 0 ≡ 43 → None ≡ decimal text
+  decimal-plus e = decimal-no (λ a b h. not_in_digits own text 43 a (λ r. omega arith) 0 b e)
 
   -- where a character is no digit
   pub decimal-no_digit : (i : ℕ) → i < length text → (digit_value (get_or text i 0) < 10 → ⊥) → None ≡ decimal text

@@ -205,15 +205,29 @@ counted-whole f n e = by (malformed_at (decode f)) e
 
 -- The answers
 
+pub whole-fragment : (m : Option ℕ) → Ok tt ≡ whole_or_malformed m → m ≡ none
+whole-fragment none e = refl
+whole-fragment (some o) e = never (cc)
+
 -- a fragment that is whole is not refused
 pub refused-whole : (f : Bytes) {m : Malformed} {p : Type 0} → malformed_at (decode f) ≡ none → Err m ≡ whole_or_malformed (malformed_at (decode f)) → p
 refused-whole f w e = let q : Err _ ≡ whole_or_malformed none = e ∙ ap whole_or_malformed w in never (cc)
 
 module _ (f out : Bytes) where
-  pub listed-malformed : (m : Malformed) → malformed_at (decode f) ≡ some m.offset
+  pub listed-malformed-at : (m : Malformed) → malformed_at (decode f) ≡ some m.offset
       → converted_of (Err (record { offset = m.offset; refusal = Refusal.Malformed })) out ≡ listed f out
   unfolding listed
-  listed-malformed m e = sym (ap (λ (o : Option ℕ). on_decoded o (listing_of f) out) e)
+  listed-malformed-at m e = sym (ap (λ (o : Option ℕ). on_decoded o (listing_of f) out) e)
+
+  pub listed-malformed : (m : Malformed) → Err m ≡ whole_or_malformed (malformed_at (decode f))
+      → converted_of (Err (record { offset = m.offset; refusal = Refusal.Malformed })) out ≡ listed f out
+  listed-malformed m e = listed-malformed-at m (by (malformed_at (decode f)) e)
+    where
+      by : (o : Option ℕ) → Err m ≡ whole_or_malformed o → o ≡ some m.offset
+      by none e = never (cc)
+      by (some o) e =
+          let i : m ≡ record { offset = o } = cc in
+          ap (λ (x : Malformed). some x.offset) (sym i)
 
   module _ (whole : malformed_at (decode f) ≡ none) where
     is-put : listed f out ≡ put (listing_of f) out

@@ -11,7 +11,7 @@ use Rattle.slots.specs.View.{slot_item, code_of, Canon}
 use Rattle.slots.proofs.Codes.{code-slot}
 
 module _ (v : Value) (h : Held v) (len n : ℕ) (e : v ≡ Exact len n) where
-  exact-slot : (code : ℕ) → code ≡ code_of len n → Canon code n × (slot_item code n ≡ item_of v)
+  pub exact-slot : (code : ℕ) → code ≡ code_of len n → Canon code n × (slot_item code n ≡ item_of v)
   exact-slot code g = rw (e, g) (code-slot len n (rw e at h))
 
   pub exact-held : (code : ℕ) → code ≡ code_of len n → 1 ≤ code → code ≤ 8 → n < 256 ^ code

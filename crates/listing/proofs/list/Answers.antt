@@ -6,13 +6,13 @@ use Rattle.std.specs.Prelude.{Err}
 use Rattle.refusals.specs.declared.Refusal.TheVariants.{Malformed}
 use Rattle.text.proofs.Puts.{whole}
 use Rattle.listing.specs.View.{listing_of}
-use Rattle.listing.proofs.Listed.{refused-whole, listed-malformed, listed-short, listed-done}
+use Rattle.listing.proofs.Listed.{refused-whole, listed-malformed-at, listed-short, listed-done}
 use Rattle.listing.proofs.list.Goals as goal
 
 pub returns-in_err-size : goal.returns-in_err-size
 returns-in_err-size c =
     let e : c.from_residual.result ≡ Err (record { offset = c.in_err-size.field-0.0.offset; refusal = Malformed }) = search rules in
-    rw e (listed-malformed c.args.fragment.now c.args.out.now c.in_err-size.field-0.0 c.in_err-size.ensures)
+    rw e (listed-malformed-at c.args.fragment.now c.args.out.now c.in_err-size.field-0.0 c.in_err-size.ensures)
 
 pub returns-then-out-size : goal.returns-then-out-size
 returns-then-out-size c =

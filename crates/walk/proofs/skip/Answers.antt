@@ -4,7 +4,7 @@ use Rattle.decode.proofs.Bytes.{slice-bytes}
 use Rattle.decode.proofs.Codes.{InstructionAt}
 use Rattle.walk.specs.Runs.{rules_in, stand, dead_walk, running}
 use Rattle.walk.proofs.Loop.{walking-none, Met, met-if-or-notif, met-else, met-endif, met-dead, nearer, none_left, walk-runs, row_room, short_at, instruction-there, end-there, malformed-there}
-use Rattle.walk.proofs.Dead.{skips-others, dead-met}
+use Rattle.walk.proofs.Dead.{skips-others, dead-met-at}
 use Rattle.walk.proofs.skip.Goals as goal
 use Rattle.walk.proofs.skip.Goals.{In-Ok-Some, After-of}
 
@@ -15,7 +15,7 @@ at c = instruction-there (c.loop-instruction.invariant 0).bytes c.decode_at.ensu
 -- what is known once its row is written and its class is read
 met : (c : After-of) (peak : ℕ)
     → Met (rules_in c.args.rules) c.args.code.now c.args.log.now (stand (dead_walk c.args.place.now peak) running) c.loop-instruction.log (stand (dead_walk c.loop-instruction.place peak) running) c.log_row.new.log c.in-Ok-Some.instruction peak c.of.result
-met c peak = dead-met (c.loop-instruction.invariant peak) (instruction-there (c.loop-instruction.invariant 0).bytes c.decode_at.ensures.same c.in-Ok-Some.is c.in-Ok-Some.field-0-is)
+met c peak = dead-met-at (c.loop-instruction.invariant peak) (instruction-there (c.loop-instruction.invariant 0).bytes c.decode_at.ensures.same c.in-Ok-Some.is c.in-Ok-Some.field-0-is)
     c.log_row.auto.log c.log_row.ensures (ap class_at (sym c.of.ensures))
 
 pub loop-instruction-init : goal.loop-instruction-init
